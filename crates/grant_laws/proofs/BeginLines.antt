@@ -25,7 +25,6 @@ use Rattle.machine.specs.declared.event.Event.{Event}
 use Rattle.machine.specs.declared.event.Event.TheVariants as event
 use Rattle.machine.specs.Events.AskBegin.{ask_begin_on}
 use Rattle.script_data.specs.declared.line.Line.{Line}
-use Rattle.script_data.specs.declared.line.Target.TheVariants as target
 use Rattle.script_data.specs.declared.line.Verb.{Verb}
 use Rattle.script_data.specs.declared.line.Verb.TheVariants as verb
 use Rattle.script_data.specs.Data.{ScriptData}
@@ -33,7 +32,7 @@ use Rattle.line_steps.specs.declared.point.Point.TheVariants.{Opens, Drives}
 use Rattle.line_steps.specs.Halts.{halt_of, follows}
 use Rattle.line_steps.specs.Laws.{EventsLowerWhatIsLeft}
 use Rattle.line_steps.specs.Runs.{Played, step_of, played, opened, Run, run_after}
-use Rattle.grant_laws.specs.Granted.{line_of, IsBefore, reading_of, Appends, Grants}
+use Rattle.grant_laws.specs.Granted.{line_of, IsBefore, reading_of, node_asked, Appends, Grants}
 use Rattle.grant_laws.specs.Laws.{BeginsAreGranted}
 use Rattle.grant_laws.proofs.LongerRuns.{Longer, longer_still, in_one, appended_before, Leads, leads_on, leads_one, leads_to, line_appends, run_at}
 use Rattle.grant_laws.proofs.Before.{Known, known_before, granted}
@@ -64,8 +63,9 @@ by_least script line p s start None before appends = granted script line p (item
 by_least script line p s start (Some commit) before appends = granted script line p (item.Refused (Session s) (cause.NotYet commit)) before (appends (item.Refused (Session s) (cause.NotYet commit)) refl)
 
 pub begins_are_granted : EventsLowerWhatIsLeft → BeginsAreGranted
-begins_are_granted lowers script p number s node before can =
-    let v : Verb = verb.Begin (target.Node node) in
+begins_are_granted lowers script p number s to before can =
+    let node : ℕ = node_asked script p to in
+    let v : Verb = verb.Begin to in
     let line : Line = line_of number (Session s) v in
     let i : InstanceEntry = can.serving.oracle in
     let c : Client = can.client in

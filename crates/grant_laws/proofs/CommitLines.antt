@@ -25,14 +25,13 @@ use Rattle.machine.specs.declared.event.Event.{Event}
 use Rattle.machine.specs.declared.event.Event.TheVariants as event
 use Rattle.machine.specs.Events.AskCommit.{ask_commit_on}
 use Rattle.script_data.specs.declared.line.Line.{Line}
-use Rattle.script_data.specs.declared.line.Target.TheVariants as target
 use Rattle.script_data.specs.declared.line.Verb.{Verb}
 use Rattle.script_data.specs.declared.line.Verb.TheVariants as verb
 use Rattle.line_steps.specs.declared.point.Point.TheVariants.{Opens, Drives}
 use Rattle.line_steps.specs.Halts.{halt_of, follows}
 use Rattle.line_steps.specs.Laws.{EventsLowerWhatIsLeft}
 use Rattle.line_steps.specs.Runs.{Played, fate_by, step_of, played, opened}
-use Rattle.grant_laws.specs.Granted.{line_of, reading_of}
+use Rattle.grant_laws.specs.Granted.{line_of, reading_of, node_asked}
 use Rattle.grant_laws.specs.Laws.{CommitsAreGranted}
 use Rattle.grant_laws.proofs.LongerRuns.{Longer, longer_still, appended_before, Leads, leads_on, leads_to, line_appends, run_at}
 use Rattle.grant_laws.proofs.Before.{Known, known_before, granted}
@@ -51,8 +50,9 @@ commit_accepted i reading s start keys leased in_epoch =
     ∙ ap (λ (old : Bool). cond old (Some (cause.OldEpoch start i.epoch)) None) (lt-leb start i.epoch in_epoch)
 
 pub commits_are_granted : EventsLowerWhatIsLeft → CommitsAreGranted
-commits_are_granted lowers script p number s node before can =
-    let v : Verb = verb.Commit (target.Node node) in
+commits_are_granted lowers script p number s to before can =
+    let node : ℕ = node_asked script p to in
+    let v : Verb = verb.Commit to in
     let line : Line = line_of number (Session s) v in
     let i : InstanceEntry = can.serving.oracle in
     let c : Client = can.work.client in
@@ -80,7 +80,7 @@ commits_are_granted lowers script p number s node before can =
     let works : fate_by script drew.spot.calls (Some Table) ≡ Works = ap (λ (n : ℕ). planned_fate script.faults Table (n + 1)) drew.table ∙ can.placing in
     let waits : drew.spot.client.entry.state ≡ phase.Committing = ap (λ (d : Client). d.entry.state) drew.client ∙ ap asked_state can.work.in_work in
     let begun : drew.spot.client.entry.start ≡ Some start = ap (λ (d : Client). d.entry.start) drew.client ∙ can.work.begun in
-    let told : Told script line drew.next (item.Committed s start (i.last + 1)) = draw_is_told script number node s start (i.last + 1) keys i.direct drew.told drew.next drew.spot drew.at (drawn_within script line node s 4 q y request drew within_now) (holds_stamp script line node s 4 q y request drew within_now) waits begun none works in
+    let told : Told script line drew.next (item.Committed s start (i.last + 1)) = draw_is_told script to number node s start (i.last + 1) keys i.direct drew.told drew.next drew.spot drew.at (drawn_within script line node s 4 q y request drew within_now) (holds_stamp script line node s 4 q y request drew within_now) waits begun none works in
     let to_draw : Leads script line (1 + drew.steps) (opened p) (run_at Drives drew.next) = leads_on script line 1 drew.steps (1 + drew.steps) (opened p) (run_at Drives q) (run_at Drives drew.next) refl first drew.leads in
     let all : Leads script line (3 + drew.steps) (opened p) told.next = leads_on script line (1 + drew.steps) 2 (3 + drew.steps) (opened p) (run_at Drives drew.next) told.next (omega arith) to_draw told.leads in
     let so_far : Longer p.items drew.spot.items = longer_still p.items y.items drew.spot.items (record { added = items; is = refl }) drew.longer in

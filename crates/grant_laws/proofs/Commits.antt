@@ -27,7 +27,7 @@ use Rattle.machine.specs.Machine.{Step, step_by, with_post, at_post, asks, asks_
 use Rattle.machine.specs.Events.Put.{to_place, put_on, put_asks, commit_asks}
 use Rattle.machine.specs.Events.Answer.{answer_on}
 use Rattle.script_data.specs.declared.line.Line.{Line}
-use Rattle.script_data.specs.declared.line.Target.TheVariants as target
+use Rattle.script_data.specs.declared.line.Target.{Target}
 use Rattle.script_data.specs.declared.line.Verb.{Verb}
 use Rattle.script_data.specs.declared.line.Verb.TheVariants as verb
 use Rattle.script_data.specs.Data.{ScriptData}
@@ -92,9 +92,9 @@ pub record Told (script : ScriptData) (line : Line) (p : Played) (x : Item) : Ty
   pub leads : Leads script line 2 (run_at Drives p) next
   pub appends : Appends p.items next.played.items x
 
-put_is_told : (script : ScriptData) (number node s start commit : ℕ) (keys : List ℕ) (told : Bool) (p : Played) (x : Spot) → IsAt script node s p x → s < length x.oracle.requests → held_of x.oracle s ≡ Some (with_stamp false (Commit s start keys) told commit) → mark_of x.pairs start ≡ None → fate_by script x.calls (Some Table) ≡ Works → Told script (line_of number (Session s) (verb.Commit (target.Node node))) p (item.Committed s start commit)
-put_is_told script number node s start commit keys told p x k within has absent works =
-    let v : Verb = verb.Commit (target.Node node) in
+put_is_told : (script : ScriptData) (to : Target) (number node s start commit : ℕ) (keys : List ℕ) (told : Bool) (p : Played) (x : Spot) → IsAt script node s p x → s < length x.oracle.requests → held_of x.oracle s ≡ Some (with_stamp false (Commit s start keys) told commit) → mark_of x.pairs start ≡ None → fate_by script x.calls (Some Table) ≡ Works → Told script (line_of number (Session s) (verb.Commit to)) p (item.Committed s start commit)
+put_is_told script to number node s start commit keys told p x k within has absent works =
+    let v : Verb = verb.Commit to in
     let line : Line = line_of number (Session s) v in
     let y : Spot = placed_at x s start commit keys told in
     let made : Makes script node s p (event.Put node s) y None = put_made script node s start commit keys told p x k has absent works in
@@ -119,17 +119,17 @@ hand_made : (script : ScriptData) (node s start commit : ℕ) (keys : List ℕ) 
 hand_made script node s start commit keys told p x k has waits = on_request_made script node s p.state.seen p x (event.Answer node s) (answer_on node s) (without_request x.oracle s) (client_handed x.client commit) (item.Step (Session s) (Handed start commit) ∷ []) None k refl (commit_handed node s start commit keys x.oracle x.client (with_stamp true (Commit s start keys) told commit) has refl refl waits) refl refl
 
 -- the line goes on with the placing
-places_next : (script : ScriptData) (number node s start commit : ℕ) (q : Played) (client : Client) → ClientAt q.state.clients s client → client.entry.state ≡ phase.Placing → holder_of q.state s ≡ None → next_in script (line_of number (Session s) (verb.Commit (target.Node node))) (run_at Drives q) ≡ Some (event.Step s)
-places_next script number node s start commit q client at placing none =
+places_next : (script : ScriptData) (to : Target) (number node s start commit : ℕ) (q : Played) (client : Client) → ClientAt q.state.clients s client → client.entry.state ≡ phase.Placing → holder_of q.state s ≡ None → next_in script (line_of number (Session s) (verb.Commit to)) (run_at Drives q) ≡ Some (event.Step s)
+places_next script to number node s start commit q client at placing none =
     let clocks : Clocks = clocks_of script q in
-    let next : Option (ℕ × Held) → Option Event = λ (found : Option (ℕ × Held)). drive_next clocks s (verb.Commit (target.Node node)) (record { doing = doing_of q.state s; request = place_held found; commit = commit_held found; sweeping = sweeping q.state }) (place_held found) in
+    let next : Option (ℕ × Held) → Option Event = λ (found : Option (ℕ × Held)). drive_next clocks s (verb.Commit to) (record { doing = doing_of q.state s; request = place_held found; commit = commit_held found; sweeping = sweeping q.state }) (place_held found) in
     ap next none
     ∙ ap (λ (found : Option Client). placing_next s (doing_at found) true) at
     ∙ ap (λ (state : SessionState). placing_next s (doing_by state (is_reading client)) true) placing
 
-hand_is_told : (script : ScriptData) (number node s start commit : ℕ) (keys : List ℕ) (told : Bool) (p : Played) (x : Spot) → IsAt script node s p x → s < length x.oracle.requests → held_of x.oracle s ≡ Some (with_stamp true (Commit s start keys) told commit) → x.client.entry.state ≡ phase.Committing → x.client.entry.start ≡ Some start → mark_of x.pairs start ≡ None → fate_by script x.calls (Some Table) ≡ Works → Told script (line_of number (Session s) (verb.Commit (target.Node node))) p (item.Committed s start commit)
-hand_is_told script number node s start commit keys told p x k within has waits begun absent works =
-    let v : Verb = verb.Commit (target.Node node) in
+hand_is_told : (script : ScriptData) (to : Target) (number node s start commit : ℕ) (keys : List ℕ) (told : Bool) (p : Played) (x : Spot) → IsAt script node s p x → s < length x.oracle.requests → held_of x.oracle s ≡ Some (with_stamp true (Commit s start keys) told commit) → x.client.entry.state ≡ phase.Committing → x.client.entry.start ≡ Some start → mark_of x.pairs start ≡ None → fate_by script x.calls (Some Table) ≡ Works → Told script (line_of number (Session s) (verb.Commit to)) p (item.Committed s start commit)
+hand_is_told script to number node s start commit keys told p x k within has waits begun absent works =
+    let v : Verb = verb.Commit to in
     let line : Line = line_of number (Session s) v in
     let e : Event = event.Answer node s in
     let y : Spot = handed_at x s start commit in
@@ -143,7 +143,7 @@ hand_is_told script number node s start commit keys told p x k within has waits 
     let works_now : fate_by script q.calls (Some Table) ≡ Works = ap (λ (calls : Calls). fate_by script calls (Some Table)) there.calls ∙ works in
     let tells : (step_of script q (event.Step s)).items ≡ item.Placed start commit ∷ item.Committed s start commit ∷ [] = place_tells script q s start commit placing absent_now works_now in
     let last : Run = run_after script line (run_at Drives q) (event.Step s) in
-    let second : Leads script line 1 (run_at Drives q) last = leads_one script line (run_at Drives q) (event.Step s) (places_next script number node s start commit q y.client there.session_is refl none) in
+    let second : Leads script line 1 (run_at Drives q) last = leads_one script line (run_at Drives q) (event.Step s) (places_next script to number node s start commit q y.client there.session_is refl none) in
     record {
       next = last;
       leads = leads_on script line 1 1 2 (run_at Drives p) (run_at Drives q) last refl first second;
@@ -151,6 +151,6 @@ hand_is_told script number node s start commit keys told p x k within has waits 
     }
 
 -- ---- in either form
-pub draw_is_told : (script : ScriptData) (number node s start commit : ℕ) (keys : List ℕ) (direct told : Bool) (p : Played) (x : Spot) → IsAt script node s p x → s < length x.oracle.requests → held_of x.oracle s ≡ Some (with_stamp direct (Commit s start keys) told commit) → x.client.entry.state ≡ phase.Committing → x.client.entry.start ≡ Some start → mark_of x.pairs start ≡ None → fate_by script x.calls (Some Table) ≡ Works → Told script (line_of number (Session s) (verb.Commit (target.Node node))) p (item.Committed s start commit)
-draw_is_told script number node s start commit keys false told p x k within has waits begun absent works = put_is_told script number node s start commit keys told p x k within has absent works
-draw_is_told script number node s start commit keys true told p x k within has waits begun absent works = hand_is_told script number node s start commit keys told p x k within has waits begun absent works
+pub draw_is_told : (script : ScriptData) (to : Target) (number node s start commit : ℕ) (keys : List ℕ) (direct told : Bool) (p : Played) (x : Spot) → IsAt script node s p x → s < length x.oracle.requests → held_of x.oracle s ≡ Some (with_stamp direct (Commit s start keys) told commit) → x.client.entry.state ≡ phase.Committing → x.client.entry.start ≡ Some start → mark_of x.pairs start ≡ None → fate_by script x.calls (Some Table) ≡ Works → Told script (line_of number (Session s) (verb.Commit to)) p (item.Committed s start commit)
+draw_is_told script to number node s start commit keys false told p x k within has waits begun absent works = put_is_told script to number node s start commit keys told p x k within has absent works
+draw_is_told script to number node s start commit keys true told p x k within has waits begun absent works = hand_is_told script to number node s start commit keys told p x k within has waits begun absent works

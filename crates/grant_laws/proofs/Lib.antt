@@ -22,6 +22,7 @@ mod WorkedCrossing
 mod WorkedPremises
 mod WorkedTurns
 mod WorkedDirect
+mod WorkedMaster
 mod WorkedWaits
 mod WorkedHolds
 mod StoppedSeats

@@ -18,16 +18,12 @@ use Rattle.oracle_parts.specs.Instance.{InstanceEntry, least_unsettled}
 use Rattle.oracle_parts.specs.InstanceSteps.{drawn_as, epoch_refusal}
 use Rattle.machine.specs.declared.event.Event.TheVariants as event
 use Rattle.machine.specs.Events.Decide.{draw_item, both_verdict}
-use Rattle.script_data.specs.declared.line.Target.{Target}
-use Rattle.script_data.specs.declared.line.Target.TheVariants as target
 use Rattle.script_data.specs.declared.line.Verb.{Verb}
 use Rattle.script_data.specs.declared.line.Verb.TheVariants as verb
 use Rattle.script_data.specs.Data.{ScriptData}
 use Rattle.machine.proofs.Lookups.{one_instance, one_client}
 use Rattle.line_steps.specs.declared.point.Point.TheVariants.{Opens}
-use Rattle.line_steps.specs.declared.point.View.{View}
 use Rattle.line_steps.specs.Laws.{IsPlayable}
-use Rattle.line_steps.specs.Next.{Clocks, target_node}
 use Rattle.line_steps.specs.Views.{view_of}
 use Rattle.turn_rules.specs.declared.ahead.Ahead.TheVariants.{Makes}
 use Rattle.turn_rules.specs.declared.turn.Turn.{Turn}
@@ -96,12 +92,12 @@ turns_to_draw script s node u rest =
 
 -- ---- a begin
 pub runs_grant_begins : RunsGrantBegins
-runs_grant_begins script s node u drawn later in_range playable ahead can =
+runs_grant_begins script s node to u drawn later in_range playable ahead asks can =
     let c : Carried = at_ask script u in
     let request : Request = Begin s in
     let start : ℕ = stamp_drawn can.serving in
     let known : KnownTurns script c = known_carried script u.before in_range playable in
-    let makes : own_ahead script c (Session s) u.aim ≡ Makes (event.AskBegin s node) = line_makes script c u.aim (Session s) (verb.Begin (target.Node node)) ahead in
+    let makes : own_ahead script c (Session s) u.aim ≡ Makes (event.AskBegin s node) = line_makes script c u.aim (Session s) (verb.Begin to) ahead ∙ ap (λ (at : ℕ). Makes (event.AskBegin s at)) asks in
     let asked : Serves script c (turn.Own (Session s) u.aim) (item.AskBegin s node) node s request progress.Asked = begin_asks script c u.aim s node can.client known makes can.session_is can.is_free can.serving.slot in
     let above : AtNode (at_accept script s u).played node (λ i. epoch_refusal i request ≡ None) = record { oracle = can.serving.leased.oracle; node_has = can.serving.leased.node_has; so = refl } in
     let clear : (client : Client) → ClientAt (at_draw script s node u).played.state.clients s client → AtNode (at_draw script s node u).played node (λ i. both_verdict i.buckets client.reads request ≡ Free) =
@@ -124,10 +120,10 @@ runs_grant_begins script s node u drawn later in_range playable ahead can =
 above_epoch : (i : InstanceEntry) (s start : ℕ) (keys : List ℕ) → i.epoch < start → epoch_refusal i (Commit s start keys) ≡ None
 above_epoch i s start keys in_epoch = ap (λ (old : Bool). cond old (Some (cause.OldEpoch start i.epoch)) None) (lt-leb start i.epoch in_epoch)
 
-asks_commit : (clocks : Clocks) (posted unawaited : Bool) (view : View) (s node : ℕ) (line : Verb) → AsksCommit node line → own_next clocks posted (Session s) line Opens view unawaited ≡ Makes (event.AskCommit s node)
-asks_commit clocks posted unawaited view s node (verb.Commit to) asks = ap (λ (at : Target). Makes (event.AskCommit s (target_node clocks at))) asks
-asks_commit clocks posted unawaited view s node (verb.Submit to) asks = ap (λ (at : Target). Makes (event.AskCommit s (target_node clocks at))) asks
-asks_commit clocks posted unawaited view s node _ asks = absurd asks
+asks_commit : (script : ScriptData) (c : Carried) (aim s node : ℕ) (line : Verb) (unawaited : Bool) → AsksCommit script c aim node line → own_next (aimed_clocks script c aim) (name_posted c.names line) (Session s) line Opens (view_of c.played.state (Session s)) unawaited ≡ Makes (event.AskCommit s node)
+asks_commit script c aim s node (verb.Commit to) unawaited asks = ap (λ (at : ℕ). Makes (event.AskCommit s at)) asks
+asks_commit script c aim s node (verb.Submit to) unawaited asks = ap (λ (at : ℕ). Makes (event.AskCommit s at)) asks
+asks_commit script c aim s node _ unawaited asks = absurd asks
 
 -- the node places it, and answers
 placed_by_node : (script : ScriptData) → IsPlayable script 0 script.lines → (s node start commit : ℕ) (keys : List ℕ) (f : Carried) (placed : List Turn) → KnownTurns script f → IsServed f.played node s (Commit s start keys) (progress.Drawn commit) → PlacesAtNode script s node start f placed → item.Committed s start commit ∈ (turned script (with_others script f (turn.Put node s) placed) (turn.Answer node s)).played.items
@@ -165,7 +161,7 @@ runs_grant_commits script aim s node line u drawn between later in_range playabl
     let request : Request = Commit s start keys in
     let commit : ℕ = stamp_drawn can.serving in
     let known : KnownTurns script c = known_carried script u.before in_range playable in
-    let makes : own_ahead script c (Session s) u.aim ≡ Makes (event.AskCommit s node) = line_makes script c u.aim (Session s) line ahead ∙ asks_commit (aimed_clocks script c u.aim) (name_posted c.names line) ahead.seat.unawaited (view_of c.played.state (Session s)) s node line asks in
+    let makes : own_ahead script c (Session s) u.aim ≡ Makes (event.AskCommit s node) = line_makes script c u.aim (Session s) line ahead ∙ asks_commit script c u.aim s node line ahead.seat.unawaited asks in
     let asked : Serves script c (turn.Own (Session s) u.aim) (item.AskCommit s node start) node s request progress.Asked = commit_asks script c u.aim s node known makes can.work can.wrote can.serving.slot in
     let above : AtNode (at_accept script s u).played node (λ i. epoch_refusal i request ≡ None) = record { oracle = can.in_epoch.oracle; node_has = can.in_epoch.node_has; so = above_epoch can.in_epoch.oracle s start keys can.in_epoch.so } in
     let clear : (client : Client) → ClientAt (at_draw script s node u).played.state.clients s client → AtNode (at_draw script s node u).played node (λ i. both_verdict i.buckets client.reads request ≡ Free) =

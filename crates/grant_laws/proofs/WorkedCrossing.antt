@@ -20,6 +20,7 @@ use Rattle.oracle_parts.specs.Buckets.{contents, record_pairs, added, kept_commi
 use Rattle.oracle_parts.specs.Instance.{InstanceEntry, instance_new, in_flight, least_unsettled}
 use Rattle.machine.specs.State.{Client, Nothing}
 use Rattle.machine.specs.Readers.{holder_from}
+use Rattle.script_data.specs.declared.line.Target.TheVariants as target
 use Rattle.script_data.specs.Ticks.{ticks_of}
 use Rattle.isolation_laws.specs.Words.{InstanceAt, ClientAt, Marked}
 use Rattle.line_steps.specs.Runs.{run_for, lines_played, replayed}
@@ -100,4 +101,4 @@ is_before = record {
 
 pub crossing_granted : CommitsAreGranted → Grants worked.crossing worked.commit worked.before_crossing (item.Committed 0 1 4)
 unfolding crossing_can
-crossing_granted law = law worked.crossing worked.before_crossing 0 0 0 is_before crossing_can
+crossing_granted law = law worked.crossing worked.before_crossing 0 0 (target.Node 0) is_before crossing_can

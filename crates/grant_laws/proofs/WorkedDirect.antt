@@ -16,6 +16,7 @@ use Rattle.oracle_parts.specs.Buckets.{record_pairs, kept_commit, verdict}
 use Rattle.oracle_parts.specs.Instance.{InstanceEntry, in_flight, least_unsettled}
 use Rattle.machine.specs.State.{Client}
 use Rattle.machine.specs.Readers.{holder_from}
+use Rattle.script_data.specs.declared.line.Target.TheVariants as target
 use Rattle.script_data.specs.Data.{ScriptData}
 use Rattle.script_data.specs.Ticks.{ticks_of}
 use Rattle.line_steps.specs.Laws.{IsPlayable}
@@ -91,7 +92,7 @@ pub direct_granted : CommitsAreGranted → Grants (worked.directly worked.commit
 direct_granted law =
     let script : ScriptData = worked.directly worked.committing in
     let can : CanCommit script worked.before_direct 0 0 = direct_can in
-    let granted : Grants script worked.commit worked.before_direct (item.Committed 0 can.work.start (can.serving.oracle.last + 1)) = law script worked.before_direct 0 0 0 is_before can in
+    let granted : Grants script worked.commit worked.before_direct (item.Committed 0 can.work.start (can.serving.oracle.last + 1)) = law script worked.before_direct 0 0 (target.Node 0) is_before can in
     subst (λ (x : Item). Grants script worked.commit worked.before_direct x) direct_item granted
 
 pub direct_refused : replayed (worked.failing Table (worked.directly worked.committing)) ≡ worked.failed_direct_items

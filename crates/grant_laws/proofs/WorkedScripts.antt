@@ -18,6 +18,7 @@ use Rattle.store_parts.proofs.PairLaws.{mark_of-empty}
 use Rattle.stamp_base.specs.SetupNumbers.{AreInRange, default_numbers}
 use Rattle.history_book.specs.declared.item.Item.{Item}
 use Rattle.history_book.specs.declared.item.Item.TheVariants as item
+use Rattle.script_data.specs.declared.line.Target.TheVariants as target
 use Rattle.script_data.specs.Ticks.{ticks_of}
 use Rattle.grant_laws.specs.Granted.{reading_of, IsBefore, Grants}
 use Rattle.grant_laws.specs.Laws.{CommitsAreGranted}
@@ -76,7 +77,7 @@ commit_refused = refl
 abbrev none_here : InstanceEntry
 none_here = instance_new (record { term = 0; epoch = 0; until = 0; ceiling = 0 }) 0 0 0 0 false
 
-abbrev oracle_in : Option InstanceEntry → InstanceEntry
+abbrev pub oracle_in : Option InstanceEntry → InstanceEntry
 oracle_in None = none_here
 oracle_in (Some i) = i
 
@@ -201,5 +202,5 @@ commit_item = refl
 pub commit_granted : CommitsAreGranted → Grants worked.committing worked.commit worked.before_committing (item.Committed 0 1 2)
 commit_granted law =
     let can : CanCommit worked.committing worked.before_committing 0 0 = commit_can in
-    let granted : Grants worked.committing worked.commit worked.before_committing (item.Committed 0 can.work.start (can.serving.oracle.last + 1)) = law worked.committing worked.before_committing 0 0 0 is_before can in
+    let granted : Grants worked.committing worked.commit worked.before_committing (item.Committed 0 can.work.start (can.serving.oracle.last + 1)) = law worked.committing worked.before_committing 0 0 (target.Node 0) is_before can in
     subst (λ (x : Item). Grants worked.committing worked.commit worked.before_committing x) commit_item granted

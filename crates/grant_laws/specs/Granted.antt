@@ -10,9 +10,10 @@ use Rattle.history_book.specs.declared.item.Actor.{Actor}
 use Rattle.history_book.specs.declared.item.Item.{Item}
 use Rattle.oracle_parts.specs.Instance.{InstanceEntry}
 use Rattle.script_data.specs.declared.line.Line.{Line}
+use Rattle.script_data.specs.declared.line.Target.{Target}
 use Rattle.script_data.specs.declared.line.Verb.{Verb}
 use Rattle.script_data.specs.Data.{ScriptData}
-use Rattle.line_steps.specs.Next.{reading_at}
+use Rattle.line_steps.specs.Next.{reading_at, target_node}
 use Rattle.line_steps.specs.Runs.{Played, fate_by, clocks_of, run_for, opened, line_run, lines_played, opening_played, replayed}
 use Rattle.line_steps.specs.Laws.{IsPlayable}
 
@@ -32,6 +33,10 @@ pub record IsBefore (script : ScriptData) (line : Line) (p : Played) : Type 0 wh
 -- what the node's clock shows there
 abbrev pub reading_of : ScriptData → Played → ℕ → ℕ
 reading_of script p node = reading_at (clocks_of script p) node
+
+-- the node that a line asks there: the one that it names, or, where it names the master, the one that took the record last
+abbrev pub node_asked : ScriptData → Played → Target → ℕ
+node_asked script p to = target_node (clocks_of script p) to
 
 -- the fate that is planned for the next call on the store
 abbrev pub next_fate : ScriptData → Played → Store → Fate

@@ -8,7 +8,7 @@ use Rattle.history_book.specs.declared.item.Item.TheVariants as item
 use Rattle.oracle_parts.specs.Instance.{InstanceEntry, least_unsettled}
 use Rattle.script_data.specs.declared.limits.TheConstants.{FAULT_LIMIT}
 use Rattle.script_data.specs.declared.line.Line.{Line}
-use Rattle.script_data.specs.declared.line.Target.TheVariants as target
+use Rattle.script_data.specs.declared.line.Target.{Target}
 use Rattle.script_data.specs.declared.line.Verb.TheVariants as verb
 use Rattle.script_data.specs.Data.{ScriptData}
 use Rattle.isolation_laws.specs.Words.{InstanceAt}
@@ -16,7 +16,7 @@ use Rattle.line_steps.specs.Laws.{IsPlayable}
 use Rattle.line_steps.specs.Runs.{Played}
 use Rattle.turn_rules.specs.declared.turn.Turn.{Turn}
 use Rattle.turn_rules.specs.Carried.{carried}
-use Rattle.grant_laws.specs.Granted.{line_of, IsBefore, reading_of, AppendsWithin, Grants}
+use Rattle.grant_laws.specs.Granted.{line_of, IsBefore, reading_of, node_asked, AppendsWithin, Grants}
 use Rattle.grant_laws.specs.Premises.{CanWrite, CanTake, CanBegin, CanCommit, CanRead, cells_to_read}
 
 -- a write line appends the write
@@ -32,11 +32,11 @@ TakesAreGranted =
     (script : ScriptData) (p : Played) (number node : ℕ) → let line = line_of number (Node node) verb.Take in IsBefore script line p → CanTake script p node →
     Grants script line p (item.Take node (reading_of script p node) (p.state.master.term + 1) p.state.master.ceiling (reading_of script p node + script.setup.lease) (p.state.master.ceiling + script.setup.range))
 
--- a begin line appends the begin, by the next stamp; where the instance has drawn a commit that is not settled, it is told to
--- wait, by the least of these
+-- a begin line appends the begin, by the next stamp of the node that it asks, which it names or which is the master; where the
+-- instance has drawn a commit that is not settled, it is told to wait, by the least of these
 abbrev pub BeginsAreGranted : Type 0
 BeginsAreGranted =
-    (script : ScriptData) (p : Played) (number session node : ℕ) → let line = line_of number (Session session) (verb.Begin (target.Node node)) in IsBefore script line p → (can : CanBegin script p session node) →
+    (script : ScriptData) (p : Played) (number session : ℕ) (to : Target) → let line = line_of number (Session session) (verb.Begin to) in IsBefore script line p → (can : CanBegin script p session (node_asked script p to)) →
     MatchOption (least_unsettled can.serving.oracle.requests (can.serving.oracle.last + 1)) (Grants script line p (item.Begin session (can.serving.oracle.last + 1))) (λ commit. Grants script line p (item.Refused (Session session) (cause.NotYet commit)))
 
 -- where sessions place their commits no instance has one in the way of a begin, in file order and by turns: so a begin waits for
@@ -45,10 +45,10 @@ pub record DirectBeginsNeverWait : Type 0 where
   pub in_file_order : (script : ScriptData) (line : Line) (p : Played) (node start : ℕ) (oracle : InstanceEntry) → script.setup.direct ≡ true → IsBefore script line p → InstanceAt p.state.nodes node oracle → least_unsettled oracle.requests start ≡ None
   pub by_turns : (script : ScriptData) (turns : List Turn) (node start : ℕ) (oracle : InstanceEntry) → script.setup.direct ≡ true → AreInRange script.setup → IsPlayable script 0 script.lines → InstanceAt (carried script turns).played.state.nodes node oracle → least_unsettled oracle.requests start ≡ None
 
--- a commit line appends the commit, by the next stamp
+-- a commit line appends the commit, by the next stamp of the node that it asks
 abbrev pub CommitsAreGranted : Type 0
 CommitsAreGranted =
-    (script : ScriptData) (p : Played) (number session node : ℕ) → let line = line_of number (Session session) (verb.Commit (target.Node node)) in IsBefore script line p → (can : CanCommit script p session node) →
+    (script : ScriptData) (p : Played) (number session : ℕ) (to : Target) → let line = line_of number (Session session) (verb.Commit to) in IsBefore script line p → (can : CanCommit script p session (node_asked script p to)) →
     Grants script line p (item.Committed session can.work.start (can.serving.oracle.last + 1))
 
 -- a read line appends its answer; which one, the isolation of the history tells. Where the script plans no more faults than one that

@@ -19,7 +19,6 @@ use Rattle.machine.specs.StoreSteps.{store_of}
 use Rattle.machine.specs.declared.event.Event.TheVariants as event
 use Rattle.script_data.specs.declared.line.Line.{Line}
 use Rattle.script_data.specs.declared.line.Target.{Target}
-use Rattle.script_data.specs.declared.line.Target.TheVariants as target
 use Rattle.script_data.specs.declared.line.Verb.{Verb}
 use Rattle.script_data.specs.declared.line.Verb.TheVariants as verb
 use Rattle.script_data.specs.Data.{ScriptData}
@@ -27,13 +26,14 @@ use Rattle.isolation_laws.specs.Words.{InstanceAt, ClientAt, Marked}
 use Rattle.line_steps.specs.declared.point.Point.TheVariants.{Opens, Drives}
 use Rattle.line_steps.specs.Answers.{same_actor}
 use Rattle.line_steps.specs.Laws.{IsPlayable}
+use Rattle.line_steps.specs.Next.{target_node}
 use Rattle.line_steps.specs.Runs.{Played}
 use Rattle.turn_rules.specs.declared.seat.Seat.{Seat}
 use Rattle.turn_rules.specs.declared.turn.Turn.{Turn}
 use Rattle.turn_rules.specs.declared.turn.Turn.TheVariants as turn
 use Rattle.turn_rules.specs.Seats.{present_line}
 use Rattle.turn_rules.specs.declared.ahead.Ahead.TheVariants.{Makes}
-use Rattle.turn_rules.specs.Carried.{Carried, seat_of, own_ahead, event_of, turned, carried, carried_items}
+use Rattle.turn_rules.specs.Carried.{Carried, aimed_clocks, seat_of, own_ahead, event_of, turned, carried, carried_items}
 use Rattle.grant_laws.specs.Granted.{reading_of, next_fate}
 use Rattle.grant_laws.specs.Premises.{IsAtWork, CanWrite, CanTake, CanFetch, cells_to_read}
 use Rattle.grant_laws.specs.Turns.{touches, IsPlacing, ReadsKey}
@@ -56,6 +56,11 @@ pub record HasAsked (script : ScriptData) (c : Carried) (actor : Actor) (verb : 
   pub present : present_line script seat ≡ Some line
   pub verb_is : line.verb ≡ verb
   pub asked : seat.point ≡ Drives
+
+-- the node that a line asks where its session's share is aimed at this one: the one that it names, or, where it names the master,
+-- that at which the share is aimed, once that node has taken the record
+abbrev pub node_aimed : ScriptData → Carried → ℕ → Target → ℕ
+node_aimed script c aim to = target_node (aimed_clocks script c aim) to
 
 -- the node has an instance, of which this holds
 pub record AtNode (p : Played) (node : ℕ) (P : InstanceEntry → Type 0) : Type 0 where
@@ -161,7 +166,7 @@ pub record CanBeginBy (script : ScriptData) (session node : ℕ) (u : UpToDraw) 
 
 abbrev pub RunsGrantBegins : Type 0
 RunsGrantBegins =
-    (script : ScriptData) (session node : ℕ) (u : UpToDraw) (drawn later : List Turn) → AreInRange script.setup → IsPlayable script 0 script.lines → IsAhead script (at_ask script u) (Session session) (verb.Begin (target.Node node)) → (can : CanBeginBy script session node u drawn) →
+    (script : ScriptData) (session node : ℕ) (to : Target) (u : UpToDraw) (drawn later : List Turn) → AreInRange script.setup → IsPlayable script 0 script.lines → IsAhead script (at_ask script u) (Session session) (verb.Begin to) → node_aimed script (at_ask script u) u.aim to ≡ node → (can : CanBeginBy script session node u drawn) →
     item.Begin session (stamp_drawn can.serving) ∈ carried_items script (all_up_to_draw session node u (drawn ++ turn.Answer node session ∷ later))
 
 -- ---- a commit
@@ -233,15 +238,15 @@ pub record CanCommitBy (script : ScriptData) (aim session node : ℕ) (u : UpToD
   -- the node places it, or the session does
   pub settles : Settles script.setup.direct script aim session node work.start (at_settle script session node u drawn) between
 
--- the line asks the node for a commit: it waits for the answer, or leaves that to a later line
-abbrev pub AsksCommit : ℕ → Verb → Type 0
-AsksCommit node (verb.Commit to) = to ≡ target.Node node
-AsksCommit node (verb.Submit to) = to ≡ target.Node node
-AsksCommit node _ = ⊥
+-- the line asks the node for a commit, its share being aimed so: it waits for the answer, or leaves that to a later line
+abbrev pub AsksCommit : ScriptData → Carried → ℕ → ℕ → Verb → Type 0
+AsksCommit script c aim node (verb.Commit to) = node_aimed script c aim to ≡ node
+AsksCommit script c aim node (verb.Submit to) = node_aimed script c aim to ≡ node
+AsksCommit script c aim node _ = ⊥
 
 abbrev pub RunsGrantCommits : Type 0
 RunsGrantCommits =
-    (script : ScriptData) (aim session node : ℕ) (line : Verb) (u : UpToDraw) (drawn between later : List Turn) → let settling = settling_turns script.setup.direct aim session node in AreInRange script.setup → IsPlayable script 0 script.lines → IsAhead script (at_ask script u) (Session session) line → AsksCommit node line → (can : CanCommitBy script aim session node u drawn between) →
+    (script : ScriptData) (aim session node : ℕ) (line : Verb) (u : UpToDraw) (drawn between later : List Turn) → let settling = settling_turns script.setup.direct aim session node in AreInRange script.setup → IsPlayable script 0 script.lines → IsAhead script (at_ask script u) (Session session) line → AsksCommit script (at_ask script u) u.aim node line → (can : CanCommitBy script aim session node u drawn between) →
     item.Committed session can.work.start (stamp_drawn can.serving) ∈ carried_items script (all_up_to_draw session node u (drawn ++ settling.0 ∷ (between ++ settling.1 ∷ later)))
 
 -- ---- a read

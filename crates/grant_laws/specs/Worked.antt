@@ -25,7 +25,7 @@ v = 118 ∷ []
 abbrev pub take : ℕ → Line
 take node = line_of 0 (Node node) verb.Take
 
-abbrev tick : ℕ → Line
+abbrev pub tick : ℕ → Line
 tick by = line_of 0 Clock (verb.Tick by)
 
 abbrev pub begin : Line
@@ -180,6 +180,32 @@ refused_crossing_items =
     ∷ item.AskCommit 1 0 2 ∷ item.Accept 1 0 1 0 ∷ item.Draw 1 0 1 2 (Some 3)
     ∷ item.AskCommit 0 0 1 ∷ item.Accept 0 0 1 0 ∷ item.Refused (Session 0) (cause.Conflict 0 3)
     ∷ item.Step (Session 0) (step.Erase 1 1) ∷ []
+
+-- ---- lines that name the master, once its second holder has taken the record
+abbrev pub master_begin : Line
+master_begin = line_of 0 (Session 0) (verb.Begin target.Master)
+
+abbrev pub master_commit : Line
+master_commit = line_of 0 (Session 0) (verb.Commit target.Master)
+
+abbrev pub after_two : List Line
+after_two = take 0 ∷ tick 12 ∷ take 1 ∷ []
+
+abbrev pub asking_master : ScriptData
+asking_master = of_lines (after_two ++ master_begin ∷ write ∷ master_commit ∷ [])
+
+abbrev pub before_master_begin : Played
+before_master_begin = after asking_master after_two
+
+abbrev pub before_master_commit : Played
+before_master_commit = after asking_master (after_two ++ master_begin ∷ write ∷ [])
+
+-- the second node has not taken it: the first is still the one that took it last
+abbrev pub asking_first : ScriptData
+asking_first = of_lines (take 0 ∷ tick 12 ∷ master_begin ∷ [])
+
+abbrev pub asking_first_items : List Item
+asking_first_items = taking_items ++ item.Tick 12 ∷ item.AskBegin 0 0 ∷ item.Refused (Session 0) (cause.Expired 12 10) ∷ []
 
 -- ---- a commit that its session places
 abbrev pub directly : ScriptData → ScriptData

@@ -50,6 +50,24 @@ late_turns = turn.Own (Node 0) 0 ∷ turn.Own (Session 0) 0 ∷ turn.Own Clock 0
 abbrev pub late_items : List Item
 late_items = taking_items ++ item.AskBegin 0 0 ∷ item.Tick 10 ∷ item.Refused (Session 0) (cause.Expired 10 10) ∷ []
 
+-- ---- a begin that names the master, its share aimed at the second node, which has taken the record after the first
+abbrev pub to_master : UpToDraw
+to_master = record { before = turn.Own (Node 0) 0 ∷ turn.Own Clock 0 ∷ turn.Own (Node 1) 0 ∷ []; aim = 1; asked = []; accepted = [] }
+
+abbrev pub master_turns : List Turn
+master_turns = all_up_to_draw 0 1 to_master (turn.Answer 1 0 ∷ [])
+
+-- where the session stands that asks for it
+abbrev pub master_seat : Seat
+master_seat = record { actor = Session 0; place = 0; point = Opens; unawaited = false }
+
+-- its share aimed at the first node
+abbrev pub first_turns : List Turn
+first_turns = to_master.before ++ turn.Own (Session 0) 0 ∷ turn.Accept 0 0 ∷ []
+
+abbrev pub first_items : List Item
+first_items = taking_items ++ item.Tick 12 ∷ item.Take 1 12 2 100 22 200 ∷ item.AskBegin 0 0 ∷ item.Refused (Session 0) (cause.Expired 12 10) ∷ []
+
 -- ---- a commit, between the turns of another that begins
 abbrev pub begun : List Turn
 begun = turn.Own (Node 0) 0 ∷ turn.Own (Session 0) 0 ∷ turn.Accept 0 0 ∷ turn.Decide 0 0 ∷ turn.Answer 0 0 ∷ []

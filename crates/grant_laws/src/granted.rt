@@ -20,9 +20,10 @@ pub fn takes_are_granted()
     events_lower_what_is_left();
 }
 
-/// A begin line of a free session appends its begin, by the next stamp of the node's instance, where that is the one of the
-/// record's term with a slot free and its lease standing, has a stamp at hand or can get a further range, and keeps no refusal
-/// of the record. Where the instance has drawn a commit that is not settled the session is told to wait, by the least of these.
+/// A begin line of a free session appends its begin, by the next stamp of the instance of the node that it asks, which it names or
+/// which took the record last where it names the master: where that instance is the one of the record's term with a slot free and
+/// its lease standing, it has a stamp at hand or can get a further range, and it keeps no refusal of the record. Where the instance has
+/// drawn a commit that is not settled the session is told to wait, by the least of these.
 pub fn begins_are_granted()
     ensures { BeginsAreGranted }
 {
@@ -37,11 +38,11 @@ pub fn direct_begins_never_wait()
     events_lower_what_is_left();
 }
 
-/// A commit line of an open transaction that has written appends its commit, by the next stamp of the node's instance, whatever
-/// came before, faults and takeovers included: where no read is under way, the instance is the one of the record's term with a
-/// slot free and its lease standing, the transaction began above its epoch, the conflict memory is free of its keys, the
-/// instance has a stamp at hand or can get a further range and keeps no refusal, nobody has marked the transaction, and the
-/// commit table's next call works. What the completion meets then takes nothing back.
+/// A commit line of an open transaction that has written appends its commit, by the next stamp of the instance of the node that it
+/// asks, named or the master, whatever came before, faults and takeovers included: where no read is under way, the instance is the
+/// one of the record's term with a slot free and its lease standing, the transaction began above its epoch, the conflict memory is
+/// free of its keys, the instance has a stamp at hand or can get a further range and keeps no refusal, nobody has marked the
+/// transaction, and the commit table's next call works. What the completion meets then takes nothing back.
 pub fn commits_are_granted()
     ensures { CommitsAreGranted }
 {

@@ -23,9 +23,12 @@ pub use runs::{
     runs_grant_writes,
 };
 pub use waiting::stuck_runs_wait;
-pub use worked::{a_begin, a_commit, a_direct_commit, a_left_cell, a_read, a_take, a_write};
+pub use worked::{
+    a_begin, a_commit, a_direct_commit, a_left_cell, a_master_begin, a_master_commit, a_read,
+    a_take, a_write,
+};
 pub use worked_runs::{
     a_begin_on_threads, a_commit_on_threads, a_direct_commit_on_threads, a_hold_on_threads,
-    a_name_on_threads, a_read_on_threads, a_take_on_threads, a_write_on_threads,
-    an_early_answer_on_threads,
+    a_master_begin_on_threads, a_name_on_threads, a_read_on_threads, a_take_on_threads,
+    a_write_on_threads, an_early_answer_on_threads,
 };

@@ -16,19 +16,20 @@ pub fn runs_grant_takes()
     ensures { RunsGrantTakes }
 {}
 
-/// A begin line whose request is asked, accepted, drawn and answered appends its begin: with the session free and a slot free at
-/// the ask, the lease standing at the acceptance, a stamp left at the draw, and each commit drawn below it settled at the
-/// answer. An answer before that leaves it waiting.
+/// A begin line whose request is asked, accepted, drawn and answered appends its begin, by the node that it names or, where it
+/// names the master, the one at which its share is aimed: with the session free and a slot free at the ask, the lease standing at
+/// the acceptance, a stamp left at the draw, and each commit drawn below it settled at the answer. An answer before that leaves it
+/// waiting.
 pub fn runs_grant_begins()
     ensures { RunsGrantBegins }
 {}
 
-/// A commit or submit line whose request is asked, accepted and drawn appends its commit once it is placed and answered, or, where
-/// sessions place their commits, handed over and placed: with the transaction open, written and not reading and a slot free at the
-/// ask, the lease standing and the epoch below its start at the acceptance, the conflict memory free of its keys and a stamp left
-/// at the draw, and the transaction unmarked and the table's next call working at the placing. A session that is to place it must
-/// still wait when it is handed the commit, and its line must make the placing. What the completion meets then takes nothing
-/// back.
+/// A commit or submit line, to a node or to the master, whose request is asked, accepted and drawn appends its commit once it is
+/// placed and answered, or, where sessions place their commits, handed over and placed: with the transaction open, written and not
+/// reading and a slot free at the ask, the lease standing and the epoch below its start at the acceptance, the conflict memory free
+/// of its keys and a stamp left at the draw, and the transaction unmarked and the table's next call working at the placing. A
+/// session that is to place it must still wait when it is handed the commit, and its line must make the placing. What the
+/// completion meets then takes nothing back.
 pub fn runs_grant_commits()
     ensures { RunsGrantCommits }
 {}

@@ -2,13 +2,14 @@
 // and it is refused.
 ghost use Rattle.std.specs.Prelude.{◌≡◌, []};
 ghost use Rattle.stamp_base.specs.declared.stores.Store.TheVariants.{Cells, Table};
-ghost use Rattle.history_book.specs.declared.item.Item.TheVariants.{Committed};
+ghost use Rattle.history_book.specs.declared.item.Item.TheVariants.{Begin, Committed};
+ghost use Rattle.script_data.specs.declared.line.Target.TheVariants.{Master};
 ghost use Rattle.line_steps.specs.Runs.{replayed};
-ghost use Rattle.grant_laws.specs.Granted.{Grants};
+ghost use Rattle.grant_laws.specs.Granted.{node_asked, Grants};
 ghost use Rattle.grant_laws.specs.Premises.{CanTake, CanBegin, CanWrite, CanRead, CanCommit, cells_to_read};
 ghost use Rattle.grant_laws.specs.Worked as worked;
 
-use crate::granted::commits_are_granted;
+use crate::granted::{begins_are_granted, commits_are_granted};
 
 /// A free record is taken. By another node at the same time it is not: two ticks after the end of the lease it could be.
 pub fn a_take()
@@ -73,6 +74,26 @@ pub fn a_direct_commit()
     ensures granted { Grants (worked.directly worked.committing) worked.commit worked.before_direct (Committed 0 1 2) }
     ensures refused { replayed (worked.failing Table (worked.directly worked.committing)) ≡ worked.failed_direct_items }
     ensures begins { replayed worked.direct_begin ≡ worked.direct_begin_items }
+{
+    commits_are_granted();
+}
+
+/// A begin that names the master is granted, by the law, by the node that took the record last. Where that node has not taken it
+/// the begin asks the first, whose lease has ended, and is refused.
+pub fn a_master_begin()
+    ensures asks { node_asked worked.asking_master worked.before_master_begin Master ≡ 1 }
+    ensures can { CanBegin worked.asking_master worked.before_master_begin 0 (node_asked worked.asking_master worked.before_master_begin Master) }
+    ensures granted { Grants worked.asking_master worked.master_begin worked.before_master_begin (Begin 0 101) }
+    ensures refused { replayed worked.asking_first ≡ worked.asking_first_items }
+{
+    begins_are_granted();
+}
+
+/// So is a commit that names the master.
+pub fn a_master_commit()
+    ensures asks { node_asked worked.asking_master worked.before_master_commit Master ≡ 1 }
+    ensures can { CanCommit worked.asking_master worked.before_master_commit 0 (node_asked worked.asking_master worked.before_master_commit Master) }
+    ensures granted { Grants worked.asking_master worked.master_commit worked.before_master_commit (Committed 0 101 102) }
 {
     commits_are_granted();
 }

@@ -4,17 +4,18 @@ ghost use Rattle.std.specs.Prelude.{◌≡◌, ◌∷◌, []};
 ghost use Rattle.stamp_base.specs.declared.stores.Store.TheVariants.{Cells, Table};
 ghost use Rattle.history_book.specs.Members.{◌∈◌};
 ghost use Rattle.history_book.specs.declared.item.Actor.TheVariants.{Session};
-ghost use Rattle.history_book.specs.declared.item.Item.TheVariants.{Committed};
+ghost use Rattle.history_book.specs.declared.item.Item.TheVariants.{Begin, Committed};
+ghost use Rattle.script_data.specs.declared.line.Target.TheVariants.{Master};
 ghost use Rattle.turn_rules.specs.Carried.{carried, carried_items};
 ghost use Rattle.turn_rules.specs.Lawful.{IsLawful};
 ghost use Rattle.turn_rules.specs.declared.turn.Turn.TheVariants.{Own, Accept, Decide, Put};
 ghost use Rattle.grant_laws.specs.Premises.{CanWrite, CanTake, CanFetch};
-ghost use Rattle.grant_laws.specs.Lines.{CanBeginBy, CanCommitBy};
+ghost use Rattle.grant_laws.specs.Lines.{at_ask, node_aimed, CanBeginBy, CanCommitBy};
 ghost use Rattle.grant_laws.specs.Stuck.{IsStuck, AwaitsName, StandsBefore};
 ghost use Rattle.grant_laws.specs.Worked as worked;
 ghost use Rattle.grant_laws.specs.WorkedRuns as runs;
 
-use crate::runs::runs_grant_commits;
+use crate::runs::{runs_grant_begins, runs_grant_commits};
 
 /// A free record is taken. By another node at the same time it is not.
 pub fn a_take_on_threads()
@@ -36,6 +37,17 @@ pub fn a_begin_on_threads()
     ensures granted { carried_items runs.beginning runs.begin_turns ≡ runs.beginning_items }
     ensures refused { carried_items runs.beginning_late runs.late_turns ≡ runs.late_items }
 {}
+
+/// A begin that names the master is granted, by the law, by the node at which its session's share is aimed, once that has taken the
+/// record. Aimed at the first node, whose lease has ended, it is refused.
+pub fn a_master_begin_on_threads()
+    ensures asks { node_aimed worked.asking_master (at_ask worked.asking_master runs.to_master) 1 Master ≡ 1 }
+    ensures can { CanBeginBy worked.asking_master 0 1 runs.to_master [] }
+    ensures granted { Begin 0 101 ∈ carried_items worked.asking_master runs.master_turns }
+    ensures refused { carried_items worked.asking_master runs.first_turns ≡ runs.first_items }
+{
+    runs_grant_begins();
+}
 
 /// A begin that is answered while a commit drawn below it is not settled is told to wait, once, and has its start when the commit is
 /// settled, here by a put that failed.
