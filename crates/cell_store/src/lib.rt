@@ -2,7 +2,7 @@
 //! version to its keys.
 #![tactic(auto)]
 
-ghost use Rattle.std.specs.Prelude.{◌≡◌, ◌↔◌, [], length, None, IfOk, IsOk, IsSome, OnErr, OnOk};
+ghost use Rattle.std.specs.Prelude.{◌≡◌, [], length, None, IfOk, IsSome, OnErr, OnOk};
 ghost use Rattle.std.specs.List.Sorted.{IsStrictlyIncreasing};
 ghost use Rattle.cell_store.specs.Calls.{put_row, fetched, front_of, looked, with_shadow, without_bare, keys_of_version, AreFalling, AreOrdered, AreUpto, HasOnly, IsBare, IsOneCall, UnlessNoMemory, OnNoMemory, fated};
 ghost use Rattle.cell_store.specs.Shadow.{shadow_at};
@@ -20,6 +20,7 @@ use std::alloc::Global;
 use std::cmp::Reverse;
 use std::collections::BTreeSet;
 use std::marker::Model;
+use store_parts::answered_under;
 pub use store_parts::{Cell, StoreError, StoreFault};
 
 /// The cells of a store, seen as their rows in ascending order of key and version.
@@ -276,17 +277,5 @@ impl Cells {
             self.rows.remove_bare(key, version);
             self.index.remove(&(Reverse(version), key));
         }
-    }
-}
-
-/// The answer where the call works, and otherwise a fault.
-fn answered_under<T: Drop>(fate: Fate, answer: T) -> Result<T, StoreFault>
-    ensures answer { IsOk result ↔ (fate ≡ Fate.Works) }
-    ensures value { IfOk result (λ given. given ≡ answer) }
-{
-    if fate.works() {
-        Ok(answer)
-    } else {
-        Err(StoreFault)
     }
 }
