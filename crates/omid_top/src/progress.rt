@@ -27,7 +27,7 @@ impl<'a, C: Clock + Sync> ShowingGate<'a, C> {
     pub fn new(clock: &'a C, errors: Stderr) -> ShowingGate<'a, C> {
         ShowingGate {
             clock,
-            yields: Yields::new(),
+            yields: Yields::new(clock),
             terminal: if errors.is_terminal() {
                 Some(errors)
             } else {
@@ -60,6 +60,10 @@ impl<C: Clock + Sync> Gate for ShowingGate<'_, C> {
 
     fn give_way(&self) {
         self.yields.give_way(self.clock);
+    }
+
+    fn yields(&self) -> bool {
+        self.yields.may(self.clock)
     }
 }
 

@@ -151,6 +151,7 @@ impl<B: Steps, G: Gate> Desk<'_, B, G> {
         let way = GateWay { gate: self.gate };
         self.queues
             .wait_giving_way(rt, &way, Waiter::Stage(self.node, stage, worker));
+        self.board.let_yield(self.gate.yields());
     }
 
     /// For a stage that found the queue of the next one full: asks for room, and where it has asked since it last waited, waits until

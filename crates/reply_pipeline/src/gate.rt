@@ -42,6 +42,11 @@ pub trait Gate: Sync {
         spin_loop();
     }
 
+    /// Whether threads may give their processors away now. By default, never.
+    fn yields(&self) -> bool {
+        false
+    }
+
     /// Whether one more thread may be started. False is as if the system refused it. By default, always.
     fn may_start_thread(&self) -> bool {
         true

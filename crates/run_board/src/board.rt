@@ -19,20 +19,27 @@ use session_script::Script;
 use stamp_base::{NoMemory, NodeNo, SessionNo, Stage, Term};
 use std::alloc::Global;
 use std::hint::spin_loop;
+use std::sync::atomic::{AtomicBool, Ordering};
 use std::sync::ledger::{Blank, Ledger};
 use std::sync::{Mutex, MutexGuard, Wait};
+use std::thread::yield_now;
 use thread_scripts::{actors_with_lines, copied};
 use thread_steps::{ActorStep, ActorSteps, Steps};
 use turn_engine::{Advance, StageStep, Turn};
 
-/// How often a thread tries for the lock before it sleeps: for some tens of microseconds, which is many events.
-const TRIES: u64 = 1_000;
+/// How often a thread tries for the lock before it sleeps.
+const TRIES: u64 = 100;
+
+/// How many pauses lie between two tries of a thread that keeps its processor. They take about as long as a yield that comes back at once.
+const PAUSES: u64 = 10;
 
 /// A play behind a lock, and its script once more.
 #[derive(Drop)]
 pub struct Board<L: Ledger> {
     play: Mutex<Play<L>>,
     script: Script,
+    // Whether who finds the lock taken may give its processor away.
+    yields: AtomicBool,
 }
 
 impl<L: Ledger> Board<L> {
@@ -55,11 +62,17 @@ impl<L: Ledger> Board<L> {
         let copy = copied(alloc, &script)?;
         let (cursors, shares) = Cursors::open(alloc, actors.as_slice(), blank)?;
         let play = Play::open(alloc, copy, cursors)?;
-        let board = Board {
+        Ok((Board::of(play, script), shares))
+    }
+
+    fn of(play: Play<L>, script: Script) -> Board<L>
+        ensures { data_of result.script ≡ data_of script }
+    {
+        Board {
             play: Mutex::new(play),
             script,
-        };
-        Ok((board, shares))
+            yields: AtomicBool::new(false),
+        }
     }
 
     /// The script that is carried out.
@@ -70,16 +83,26 @@ impl<L: Ledger> Board<L> {
     }
 
     // The play, once nobody else has it. An event takes about a microsecond, and to sleep and be woken several; so who finds the lock
-    // taken tries again some times before it sleeps. It keeps its processor meanwhile, since beside other processes it might get it
-    // back only after milliseconds.
+    // taken tries again some times before it sleeps.
     fn taken<R: Wait>(&self, rt: &R) -> MutexGuard<'_, Play<L>> {
         for _try in 0..TRIES {
             if let Some(play) = self.play.try_lock() {
                 return play;
             }
-            spin_loop();
+            self.give_way();
         }
         self.play.lock(rt)
+    }
+
+    // Beside busy processes a thread that gives its processor away may get it back only after milliseconds.
+    fn give_way(&self) {
+        if self.yields.load(Ordering::SeqCst) {
+            yield_now();
+            return;
+        }
+        for _pause in 0..PAUSES {
+            spin_loop();
+        }
     }
 
     /// Makes the next event of the present line of the share's actor, as `Play::advance` does.
@@ -101,16 +124,10 @@ impl<L: Ledger> Board<L> {
         ensures planned { IfOk result (λ r. Planned (data_of self.script) r.0.history) }
         ensures back { IfErr result (λ r. (data_of r.0.script ≡ data_of self.script) × (r.1.items ≡ shares.items)) }
     {
-        let Board { play, script } = self;
+        let Board { play, script, .. } = self;
         match play.into_inner().finish(&script, shares) {
             Ok(made) => Ok(made),
-            Err((play, shares)) => {
-                let board = Board {
-                    play: Mutex::new(play),
-                    script,
-                };
-                Err((board, shares))
-            }
+            Err((play, shares)) => Err((Board::of(play, script), shares)),
         }
     }
 }
@@ -156,5 +173,11 @@ impl<L: Ledger> Steps for Board<L> {
     /// How many turns were made so far, as `Play::turns_made` tells it.
     fn turns_made<R: Wait>(&self, rt: &R) -> usize {
         self.taken(rt).turns_made()
+    }
+
+    fn let_yield(&self, may: bool) {
+        if self.yields.load(Ordering::SeqCst) != may {
+            self.yields.store(may, Ordering::SeqCst);
+        }
     }
 }

@@ -1,6 +1,7 @@
 // Waiting, and telling what a line waits for while nobody makes an event.
 use crate::lines::LinesLeft;
 use crate::shared::Shared;
+use history_book::Actor;
 use reply_pipeline::{Gate, GateWay, WaitsFor};
 use script_data::Verb;
 use stage_queues::Waiter;
@@ -74,19 +75,24 @@ pub fn wait_quietly<R: Wait, B: Steps + Sync, G: Gate>(
     left: &LinesLeft<'_>,
     quiet: &mut Quiet,
 ) {
+    rest(rt, shared, left.actor);
+    shared.board.let_yield(shared.gate.yields());
+    if shared.gate.hears_waits() && quiet.goes_on(shared.board.turns_made(rt)) {
+        tell(rt, shared, left, quiet.asked);
+    }
+}
+
+fn rest<R: Wait, B: Steps + Sync, G: Gate>(rt: &R, shared: &Shared<'_, B, G>, actor: Actor) {
     let way = GateWay { gate: shared.gate };
     if !shared.gate.hears_waits() {
         shared
             .queues
-            .wait_giving_way(rt, &way, Waiter::Actor(left.actor));
+            .wait_giving_way(rt, &way, Waiter::Actor(actor));
         return;
     }
     shared
         .queues
-        .wait_a_while(rt, &way, left.actor, Duration::from_millis(SLICE));
-    if quiet.goes_on(shared.board.turns_made(rt)) {
-        tell(rt, shared, left, quiet.asked);
-    }
+        .wait_a_while(rt, &way, actor, Duration::from_millis(SLICE));
 }
 
 fn tell<R: Wait, B: Steps + Sync, G: Gate>(

@@ -4,6 +4,8 @@
 #[cfg(test)]
 mod crowd;
 #[cfg(test)]
+mod refused;
+#[cfg(test)]
 mod splits;
 #[cfg(test)]
 mod stuck;
