@@ -90,7 +90,7 @@ fn carry_out<R: Threads + Wait + Sync, G: PartGate>(
     }
     let (split, seats) = Split::open(alloc, script, actors.len())?;
     let jobs = jobs_of(alloc, &split, actors, seats)?;
-    let played = play_all(rt, alloc, &split, &script.lines, jobs, gate)?;
+    let played = play_all(rt, alloc, &split, script, jobs, gate)?;
     finish(rt, alloc, script, split, played)
 }
 

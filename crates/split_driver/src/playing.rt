@@ -1,5 +1,5 @@
 // The actors of a script, each on a thread of its own.
-ghost use Rattle.std.specs.Prelude.{◌≡◌, ◌≤◌, ◌×◌, All, IfOk, length, vec_len};
+ghost use Rattle.std.specs.Prelude.{◌≡◌, ◌≤◌, All, IfOk, vec_len};
 ghost use Rattle.std.specs.List.{AllZip};
 ghost use Rattle.std.specs.Vec.{vec_capacity};
 ghost use Rattle.stamp_base.specs.declared.limits.TheConstants.{LINE_LIMIT};
@@ -10,7 +10,7 @@ ghost use Rattle.split_driver.specs.Actors.{IsJobOf, IsPlayedBy};
 
 use crate::threads::{Shared, join_all, start_all};
 use history_book::Actor;
-use script_data::Line;
+use session_script::Script;
 use split_runs::{PlayStop, Posting};
 use split_stores::{ActorSeat, PartGate, Split};
 use stamp_base::NoMemory;
@@ -59,15 +59,15 @@ pub(crate) fn play_all<R: Threads + Wait + Sync, G: PartGate>(
     rt: &R,
     alloc: Global,
     split: &Split,
-    lines: &[Line],
+    script: &Script,
     jobs: Vec<Job>,
     gate: &G,
 ) -> Result<Vec<Job>, NoMemory>
     requires jobs { All (λ job. IsNew split.now.id job.seat) jobs.items }
-    requires few { length lines.now ≤ LINE_LIMIT }
-    requires ticks { RiseInBounds lines.now }
-    requires masters { NameNoMaster lines.now }
-    ensures { IfOk result (λ played. AllZip (IsPlayedBy lines.now) jobs.items played.items) }
+    requires few { vec_len script.now.lines ≤ LINE_LIMIT }
+    requires ticks { RiseInBounds script.now.lines.items }
+    requires masters { NameNoMaster script.now.lines.items }
+    ensures { IfOk result (λ played. AllZip (IsPlayedBy script.now.lines.items) jobs.items played.items) }
 {
     let posting = Posting::new();
     let shared = Shared {
@@ -75,7 +75,7 @@ pub(crate) fn play_all<R: Threads + Wait + Sync, G: PartGate>(
         alloc,
         split,
         posting: &posting,
-        lines,
+        script,
         gate,
     };
     run_all(rt, alloc, &shared, jobs)
@@ -89,10 +89,10 @@ fn run_all<R: Threads + Wait + Sync, G: PartGate>(
     jobs: Vec<Job>,
 ) -> Result<Vec<Job>, NoMemory>
     requires jobs { All (λ job. IsNew shared.now.split.now.id job.seat) jobs.items }
-    requires few { length shared.now.lines.now ≤ LINE_LIMIT }
-    requires ticks { RiseInBounds shared.now.lines.now }
-    requires masters { NameNoMaster shared.now.lines.now }
-    ensures { IfOk result (λ played. AllZip (IsPlayedBy shared.now.lines.now) jobs.items played.items) }
+    requires few { vec_len shared.now.script.now.lines ≤ LINE_LIMIT }
+    requires ticks { RiseInBounds shared.now.script.now.lines.items }
+    requires masters { NameNoMaster shared.now.script.now.lines.items }
+    ensures { IfOk result (λ played. AllZip (IsPlayedBy shared.now.script.now.lines.items) jobs.items played.items) }
 {
     let threads = Vec::with_capacity(alloc, jobs.len())?;
     let played = Vec::with_capacity(alloc, jobs.len())?;
@@ -100,9 +100,9 @@ fn run_all<R: Threads + Wait + Sync, G: PartGate>(
         thread::scope_env(),
         rt,
         move |scope| -> Result<Vec<Job>, NoMemory>
-            requires { All (λ job. IsNew shared.now.split.now.id job.seat) jobs.items × (length shared.now.lines.now ≤ LINE_LIMIT) × RiseInBounds shared.now.lines.now × NameNoMaster shared.now.lines.now
+            requires { All (λ job. IsNew shared.now.split.now.id job.seat) jobs.items × (vec_len shared.now.script.now.lines ≤ LINE_LIMIT) × RiseInBounds shared.now.script.now.lines.items × NameNoMaster shared.now.script.now.lines.items
                 × (vec_len threads ≡ 0) × (vec_len jobs ≤ vec_capacity threads) × (vec_len played ≡ 0) × (vec_len jobs ≤ vec_capacity played) }
-            ensures { IfOk result (λ played. AllZip (IsPlayedBy shared.now.lines.now) jobs.items played.items) }
+            ensures { IfOk result (λ played. AllZip (IsPlayedBy shared.now.script.now.lines.items) jobs.items played.items) }
         {
             let started = start_all(scope, shared, jobs, threads);
             let played = join_all(rt, started.threads, played);

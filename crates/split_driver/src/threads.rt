@@ -1,5 +1,5 @@
 // The threads of actors: each gets the job of its actor, and gives it back when it ends.
-ghost use Rattle.std.specs.Prelude.{◌≡◌, ◌≤◌, ◌×◌, All, IfOk, IsTrue, length, map, vec_len};
+ghost use Rattle.std.specs.Prelude.{◌≡◌, ◌≤◌, All, IfOk, IsTrue, map, vec_len};
 ghost use Rattle.std.specs.List.{AllZip};
 ghost use Rattle.std.specs.Vec.{vec_capacity};
 ghost use Rattle.stamp_base.specs.declared.limits.TheConstants.{LINE_LIMIT};
@@ -9,7 +9,7 @@ ghost use Rattle.split_runs.specs.Runs.{RiseInBounds};
 ghost use Rattle.split_driver.specs.Actors.{GivesBack, IsPlayedBy, task};
 
 use crate::playing::Job;
-use script_data::Line;
+use session_script::Script;
 use split_runs::{Posting, play_lines};
 use split_stores::{PartGate, Split};
 use stamp_base::NoMemory;
@@ -26,40 +26,40 @@ pub(crate) struct Shared<'a, R: Wait + Sync, G: PartGate> {
     pub(crate) alloc: Global,
     pub(crate) split: &'a Split,
     pub(crate) posting: &'a Posting,
-    pub(crate) lines: &'a [Line],
+    pub(crate) script: &'a Script,
     pub(crate) gate: &'a G,
 }
 
-/// The promise of an actor's thread: it gives back the job that it was given, with what these lines made of it.
+/// The promise of an actor's thread: it gives back the job that it was given, with what the script's lines made of it.
 #[derive(Drop)]
-pub(crate) struct Plays<'a> {
+pub(crate) struct Plays {
     job: Snapshot<Job>,
-    lines: &'a [Line],
+    script: Snapshot<Script>,
 }
 
-impl<'a> Promise<Job> for Plays<'a> {
+impl Promise<Job> for Plays {
     ghost use Rattle.split_driver.specs.Actors.{IsPlayedBy};
 
-    ghost kept_by = { λ p played. IsPlayedBy p.lines.now p.job.value played };
+    ghost kept_by = { λ p played. IsPlayedBy p.script.value.lines.items p.job.value played };
 }
 
-/// The thread of an actor. Contracts see the job that it was given, and the lines.
+/// The thread of an actor. Contracts see the job that it was given, and the script's lines.
 #[derive(Drop)]
-pub(crate) struct ActorThread<'a> {
-    handle: PromisedHandle<Job, Plays<'a>>,
+pub(crate) struct ActorThread {
+    handle: PromisedHandle<Job, Plays>,
 }
 
-impl<'a> Model for ActorThread<'a> {
+impl Model for ActorThread {
     ghost use Rattle.split_driver.specs.Actors.{Task};
 
     ghost Value = { Task };
 
-    ghost view = { λ t. record { job = t.handle.promise.job.value; lines = t.handle.promise.lines.now } };
+    ghost view = { λ t. record { job = t.handle.promise.job.value; lines = t.handle.promise.script.value.lines.items } };
 }
 
-impl<'a> ActorThread<'a> {
-    fn of(handle: PromisedHandle<Job, Plays<'a>>) -> ActorThread<'a>
-        ensures { result ≡ task handle.promise.lines.now handle.promise.job.value }
+impl ActorThread {
+    fn of(handle: PromisedHandle<Job, Plays>) -> ActorThread
+        ensures { result ≡ task handle.promise.script.value.lines.items handle.promise.job.value }
     {
         ActorThread { handle }
     }
@@ -74,8 +74,8 @@ impl<'a> ActorThread<'a> {
 
 /// The threads that were started, and whether that is all of them.
 #[derive(Drop)]
-pub(crate) struct Started<'a> {
-    pub(crate) threads: Vec<ActorThread<'a>>,
+pub(crate) struct Started {
+    pub(crate) threads: Vec<ActorThread>,
     pub(crate) all: bool,
 }
 
@@ -84,15 +84,15 @@ pub(crate) fn start_all<'s, 'a: 's, E: 's, R: Wait + Sync + 's, G: PartGate + 's
     scope: &Scope<'s, E>,
     shared: &'s Shared<'a, R, G>,
     jobs: Vec<Job>,
-    threads: Vec<ActorThread<'s>>,
-) -> Started<'s>
+    threads: Vec<ActorThread>,
+) -> Started
     requires jobs { All (λ job. IsNew shared.now.split.now.id job.seat) jobs.items }
-    requires few { length shared.now.lines.now ≤ LINE_LIMIT }
-    requires ticks { RiseInBounds shared.now.lines.now }
-    requires masters { NameNoMaster shared.now.lines.now }
+    requires few { vec_len shared.now.script.now.lines ≤ LINE_LIMIT }
+    requires ticks { RiseInBounds shared.now.script.now.lines.items }
+    requires masters { NameNoMaster shared.now.script.now.lines.items }
     requires none { vec_len threads ≡ 0 }
     requires room { vec_len jobs ≤ vec_capacity threads }
-    ensures all { IsTrue result.all → result.threads.items ≡ map (task shared.now.lines.now) jobs.items }
+    ensures all { IsTrue result.all → result.threads.items ≡ map (task shared.now.script.now.lines.items) jobs.items }
     ensures few { vec_len result.threads ≤ vec_len jobs }
 {
     let mut threads = threads;
@@ -115,23 +115,23 @@ fn start<'s, 'a: 's, E: 's, R: Wait + Sync + 's, G: PartGate + 's>(
     scope: &Scope<'s, E>,
     shared: &'s Shared<'a, R, G>,
     job: Job,
-) -> Result<ActorThread<'s>, NoMemory>
+) -> Result<ActorThread, NoMemory>
     requires job { IsNew shared.now.split.now.id job.seat }
-    requires few { length shared.now.lines.now ≤ LINE_LIMIT }
-    requires ticks { RiseInBounds shared.now.lines.now }
-    requires masters { NameNoMaster shared.now.lines.now }
-    ensures { IfOk result (λ thread. thread ≡ task shared.now.lines.now job) }
+    requires few { vec_len shared.now.script.now.lines ≤ LINE_LIMIT }
+    requires ticks { RiseInBounds shared.now.script.now.lines.items }
+    requires masters { NameNoMaster shared.now.script.now.lines.items }
+    ensures { IfOk result (λ thread. thread ≡ task shared.now.script.now.lines.items job) }
 {
     if shared.gate.may_start_thread() {
         let promise = Plays {
             job: Snapshot::of(&job),
-            lines: shared.lines,
+            script: Snapshot::of(shared.script),
         };
         let started = scope.spawn_with(
             promise,
             move || -> Job
-                requires { IsNew shared.now.split.now.id job.seat × (length shared.now.lines.now ≤ LINE_LIMIT) × RiseInBounds shared.now.lines.now × NameNoMaster shared.now.lines.now }
-                ensures { IsPlayedBy shared.now.lines.now job result }
+                requires { IsNew shared.now.split.now.id job.seat × (vec_len shared.now.script.now.lines ≤ LINE_LIMIT) × RiseInBounds shared.now.script.now.lines.items × NameNoMaster shared.now.script.now.lines.items }
+                ensures { IsPlayedBy shared.now.script.now.lines.items job result }
             { play(shared, job) },
         );
         if let Ok(handle) = started {
@@ -145,10 +145,10 @@ fn start<'s, 'a: 's, E: 's, R: Wait + Sync + 's, G: PartGate + 's>(
 // What the thread of an actor does.
 fn play<R: Wait + Sync, G: PartGate>(shared: &Shared<'_, R, G>, job: Job) -> Job
     requires new { IsNew shared.now.split.now.id job.seat }
-    requires few { length shared.now.lines.now ≤ LINE_LIMIT }
-    requires ticks { RiseInBounds shared.now.lines.now }
-    requires masters { NameNoMaster shared.now.lines.now }
-    ensures { IsPlayedBy shared.now.lines.now job result }
+    requires few { vec_len shared.now.script.now.lines ≤ LINE_LIMIT }
+    requires ticks { RiseInBounds shared.now.script.now.lines.items }
+    requires masters { NameNoMaster shared.now.script.now.lines.items }
+    ensures { IsPlayedBy shared.now.script.now.lines.items job result }
 {
     let mut job = job;
     job.answer = play_lines(
@@ -158,7 +158,7 @@ fn play<R: Wait + Sync, G: PartGate>(shared: &Shared<'_, R, G>, job: Job) -> Job
         shared.posting,
         &mut job.seat,
         job.actor,
-        shared.lines,
+        shared.script.lines.as_slice(),
         shared.gate,
     );
     job.seat.rises();
@@ -169,7 +169,7 @@ fn play<R: Wait + Sync, G: PartGate>(shared: &Shared<'_, R, G>, job: Job) -> Job
 #[tactic(auto, using(std::proofs::lemmas::Slice::Zip::all_zipped_more))]
 pub(crate) fn join_all<R: Threads>(
     rt: &R,
-    threads: Vec<ActorThread<'_>>,
+    threads: Vec<ActorThread>,
     played: Vec<Job>,
 ) -> Vec<Job>
     requires none { vec_len played ≡ 0 }

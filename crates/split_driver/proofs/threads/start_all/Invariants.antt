@@ -6,6 +6,6 @@ use Rattle.split_driver.proofs.threads.start_all.Given as goal
 
 abbrev pub invariant-loop-job : goal.invariant-loop-job
 invariant-loop-job g l =
-    (l.threads.items ≡ map (task l.shared.lines.now) l.yielded)
+    (l.threads.items ≡ map (task l.shared.script.now.lines.items) l.yielded)
     × (vec_len l.threads ≡ length l.yielded)
     × (vec_len l.fn.jobs ≤ vec_capacity l.threads)
