@@ -2,13 +2,17 @@
 """Measures the program `omid` beside `sort`, its strict reads and audits, its caches and its direct commits beside the others, and its
 compactions and its threads beside its replay, and prints one table of each.
 
-usage: bench/bench.py [--program PATH] [--runs N] [--only WORD] [--quick]
+usage: bench/bench.py [--program PATH] [--runs N] [--only WORD] [--quick] [--ordinary]
 
 The program is crates/omid/out/omid, which stands there behind a green gate. Every figure is a median of N runs that
 take turns with the runs they are compared with, so that a loaded machine slows both. User and system time are the kernel's
 own count of the child; `switches` are its voluntary context switches. Compare ratios of one run of this script, never times of two.
+
+With `--ordinary` one other table is printed in place of these: replays and runs of 1, 4 and 16 sessions at ordinary priority, whatever
+that of this script, at rest and beside four processes that never wait, which are started and ended here. It has an eighth of the lines,
+since a run beside others may take many times as long.
 """
-import argparse, os, random, re, statistics, subprocess, sys, tempfile, time
+import argparse, contextlib, os, random, re, statistics, subprocess, sys, tempfile, time
 from dataclasses import dataclass
 
 ROOT = os.path.dirname(os.path.dirname(os.path.abspath(__file__)))
@@ -22,6 +26,14 @@ OF_ONE_PART = ("busy", "gone", "idle", "no-transaction")
 TRACING = "/sys/kernel/tracing"
 # what a stage calls once for each batch, when all entries of it are answered
 GIVE_BACK = "stage_queues::queues::Queues::give_batch"
+# how many processes are busy beside a run, and what each of them does: it says that it has begun, and works until this script is gone
+BUSY = 4
+SPINS = """import os, sys
+print(flush=True)
+while os.getppid() == int(sys.argv[1]):
+    for _ in range(1_000_000):
+        pass
+"""
 # how the scripts of one session or one node begin
 HEAD = [*WIDE, "a take"]
 
@@ -38,11 +50,19 @@ class Cost:
         return self.user + self.system
 
 
-def ran(words, given, taken):
-    """Runs the words with standard input from a file (None: nothing) and standard output to one, and gives what it cost."""
+def ordinarily():
+    """Gives the calling process the priority of any other: no real-time one, and no nicety if that can be had."""
+    os.sched_setscheduler(0, os.SCHED_OTHER, os.sched_param(0))
+    with contextlib.suppress(PermissionError):
+        os.setpriority(os.PRIO_PROCESS, 0, 0)
+
+
+def ran(words, given, taken, first=None):
+    """Runs the words with standard input from a file (None: nothing) and standard output to one, and gives what it cost. The child
+    calls `first` before all else."""
     with open(given or os.devnull, "rb") as source, open(taken, "wb") as sink:
         began = time.perf_counter()
-        child = subprocess.Popen(words, stdin=source, stdout=sink, env={**os.environ, "LC_ALL": "C"})
+        child = subprocess.Popen(words, stdin=source, stdout=sink, env={**os.environ, "LC_ALL": "C"}, preexec_fn=first)
         _, status, used = os.wait4(child.pid, 0)
         wall = time.perf_counter() - began
         child.returncode = os.waitstatus_to_exitcode(status)
@@ -379,12 +399,53 @@ def over_split_stores(program, work, runs, loads):
               f"{together:9.1%} {busy / len(script):6.1%}", flush=True)
 
 
+@contextlib.contextmanager
+def beside(count):
+    """So many processes are busy meanwhile, at ordinary priority."""
+    spinning = []
+    try:
+        for _ in range(count):
+            spinning.append(subprocess.Popen([sys.executable, "-c", SPINS, str(os.getpid())], stdout=subprocess.PIPE, preexec_fn=ordinarily))
+        for it in spinning:
+            it.stdout.readline()
+        yield
+    finally:
+        for it in spinning:
+            it.kill()
+        for it in spinning:
+            it.wait()
+            it.stdout.close()
+
+
+def ordinary(program, work, runs, loads):
+    """What a replay and a run cost at ordinary priority, at rest and where others want the processors too."""
+    print(f"{'load, at ordinary priority':28} {'lines':>7} {'beside':>8} {'replay wall':>11} {'processor':>9} {'run wall':>8} {'processor':>9} "
+          f"{'of replay':>9} {'of rest':>8}", flush=True)
+    for name, script in loads:
+        given, other = os.path.join(work, "script"), os.path.join(work, "other")
+        with open(given, "w") as it:
+            it.write("\n".join(script) + "\n")
+        costs = {(busy, words): [] for busy in (0, BUSY) for words in ("replay", "run")}
+        for _ in range(runs):
+            for busy in (0, BUSY):
+                with beside(busy):
+                    for words in ("replay", "run"):
+                        costs[busy, words].append(ran([program, words], given, other, ordinarily))
+        at_rest = median(costs[0, "run"], "wall")
+        for busy in (0, BUSY):
+            replay, run = costs[busy, "replay"], costs[busy, "run"]
+            wall = median(run, "wall")
+            print(f"{name:28} {len(script):7} {f'{busy} busy' if busy else 'nobody':>8} {median(replay, 'wall'):11.3f} {median(replay, 'processor'):9.3f} "
+                  f"{wall:8.3f} {median(run, 'processor'):9.3f} {wall / median(replay, 'wall'):9.1f} {wall / at_rest:8.2f}", flush=True)
+
+
 def main():
     words = argparse.ArgumentParser(description=__doc__, formatter_class=argparse.RawDescriptionHelpFormatter)
     words.add_argument("--program", default=os.path.join(ROOT, "crates/omid/out/omid"))
     words.add_argument("--runs", type=int, default=9)
     words.add_argument("--only", default="", help="loads whose name has this word")
     words.add_argument("--quick", action="store_true", help="an eighth of the lines, for a look")
+    words.add_argument("--ordinary", action="store_true", help="replays and runs at ordinary priority alone, at rest and beside busy processes")
     said = words.parse_args()
     if not os.access(said.program, os.X_OK):
         sys.exit(f"bench: {said.program} is not there: run `rt ci` first, or name one by --program")
@@ -397,6 +458,10 @@ def main():
             ("9 takeovers, by master", transactions(lines, 16, 3, 9, True)), ("posts and awaits", posts(lines))]
     picked = [[load for load in loads if said.only in load[0]] for loads in (files, runs)]
     with tempfile.TemporaryDirectory(prefix="omid-bench-") as work:
+        if said.ordinary:
+            loads = [(f"{it} session{'s' if it > 1 else ''}", transactions(lines // 8, it)) for it in (1, 4, 16)]
+            ordinary(said.program, work, max(3, said.runs // 3), [load for load in loads if said.only in load[0]])
+            return
         if picked[0]:
             beside_sort(said.program, work, said.runs, picked[0])
             compactions(said.program, work, said.runs, picked[0][:2])

@@ -1,8 +1,8 @@
 #!/usr/bin/env python3
 """Tries the edits that the gate leaves out: those of crates/NAME/by-hand, which the prover must refuse as it must those of must-fail.
 
-    bench/try_edits.py            of all crates
-    bench/try_edits.py NAME ..    of these
+    bench/try_edits.py NAME ..    of these crates
+    bench/try_edits.py --all      of all crates that have some, which takes long
 
 They are put beside the gate's own in a copy of the tree, over which `rt ci NAME ..` runs: crates that a gate on this machine has passed
 are not proved again. The status is 0 where each edit was refused. A crate's edits take a check of it from nothing and a check each."""
@@ -34,7 +34,10 @@ def copied(names, to):
 
 
 def main(words):
-    names = words or sorted(it for it in os.listdir(f'{ROOT}/crates') if edits_of(it))
+    if not words or words[0] in ('-h', '--help'):
+        print(__doc__, file=sys.stderr)
+        return 2
+    names = sorted(it for it in os.listdir(f'{ROOT}/crates') if edits_of(it)) if words == ['--all'] else words
     unknown = [it for it in names if not edits_of(it)]
     if unknown:
         print(f'no crate with edits in by-hand: {" ".join(unknown)}', file=sys.stderr)

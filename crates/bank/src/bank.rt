@@ -1,12 +1,11 @@
 // The bank: what a program does to begin, read, write and commit at a cluster.
-ghost use Rattle.std.specs.Prelude.{◌≡◌, IsTrue, Some};
-ghost use Rattle.machine.specs.Machine.{IsSteadyAt, reading_of};
+ghost use Rattle.std.specs.Prelude.{◌≤◌, ◌+◌, ◌^◌, IfOk};
 
 use crate::failure::Failure;
 use cluster_core::{Cluster, Stopped};
 use history_book::Item;
 use history_text::LineBuf;
-use machine::{Doing, Event};
+use machine::Doing;
 use port_io::CalmWeather;
 use stamp_base::{KeyNo, NodeNo, SessionNo, Setup, Value};
 use std::alloc::Global;
@@ -31,58 +30,35 @@ impl Bank {
         })
     }
 
-    /// Makes one event. The cluster asks for steady readings, and nothing else: the only one who can see to them is the caller.
-    fn make(&mut self, event: Event) -> Result<(), Failure> {
-        if !is_steady(&self.cluster, &event) {
-            return Err(Failure::Unsteady);
-        }
-        match self.cluster.make(&mut self.weather, &event) {
-            Ok(()) => Ok(()),
-            Err(Stopped::Refused(_)) => Err(Failure::Refused),
-            Err(Stopped::StoreFault(_)) => Err(Failure::Fault),
-            Err(Stopped::NoMemory) => Err(Failure::NoMemory),
-        }
-    }
-
     /// The clock stands at this number from now on.
     pub fn wait_until(&mut self, to: u64) -> Result<(), Failure> {
-        self.make(Event::Tick { to })?;
+        told(self.cluster.tick(to))?;
         self.clock = to;
         Ok(())
     }
 
     /// The node becomes the one that serves.
     pub fn take(&mut self, node: NodeNo) -> Result<(), Failure> {
-        let reading = self.clock;
-        self.make(Event::Take { node, reading })
+        let reading = self.reading()?;
+        told(self.cluster.take(&mut self.weather, node, reading))
     }
 
     /// Opens a transaction of the session.
     pub fn begin(&mut self, session: SessionNo, node: NodeNo) -> Result<(), Failure> {
-        let reading = self.clock;
-        self.make(Event::AskBegin { session, node })?;
-        self.make(Event::Accept {
-            node,
-            session,
-            reading,
-        })?;
-        self.make(Event::Decide { node, session })?;
-        self.make(Event::Answer { node, session })
+        told(self.cluster.ask_begin(session, node))?;
+        self.accept(session, node)?;
+        told(self.cluster.decide(node, session))?;
+        told(self.cluster.answer(node, session))
     }
 
     /// Asks for the commit of the session's transaction and draws its stamp. It is not placed yet.
     pub fn submit(&mut self, session: SessionNo, node: NodeNo) -> Result<(), Failure> {
-        let reading = self.clock;
-        self.make(Event::AskCommit { session, node })?;
+        told(self.cluster.ask_commit(session, node))?;
         if self.cluster.doing(session) == Doing::Free {
             return Ok(());
         }
-        self.make(Event::Accept {
-            node,
-            session,
-            reading,
-        })?;
-        self.make(Event::Decide { node, session })
+        self.accept(session, node)?;
+        told(self.cluster.decide(node, session))
     }
 
     /// Places a commit that was submitted, tells the session, and lets it complete. Whether it is committed.
@@ -90,9 +66,8 @@ impl Bank {
         if self.cluster.doing(session) == Doing::Free {
             return Ok(true);
         }
-        self.make(Event::Put { node, session })?;
-        let answer = self.make(Event::Answer { node, session });
-        let committed = match answer {
+        told(self.cluster.put(&mut self.weather, node, session))?;
+        let committed = match told(self.cluster.answer(node, session)) {
             Ok(()) => true,
             Err(Failure::Refused) => false,
             Err(failure) => return Err(failure),
@@ -101,28 +76,44 @@ impl Bank {
         Ok(committed)
     }
 
+    /// The node accepts the session's request, by the clock.
+    fn accept(&mut self, session: SessionNo, node: NodeNo) -> Result<(), Failure> {
+        let reading = self.reading()?;
+        told(self.cluster.accept(node, session, reading))
+    }
+
+    /// The clock's reading. The cluster asks for steady readings, and nothing else: behind none before it, but for the skew, which is not
+    /// asked for here, since all nodes read one clock, and far from the end of the numbers.
+    fn reading(&self) -> Result<u64, Failure>
+        ensures far { IfOk result (λ reading. reading ≤ 2 ^ 61) }
+        ensures steady { IfOk result (λ reading. self.now.cluster.state.seen ≤ reading + self.now.cluster.state.setup.skew) }
+    {
+        let reading = self.clock;
+        if reading < self.cluster.seen() || reading > LAST_READING {
+            return Err(Failure::Unsteady);
+        }
+        Ok(reading)
+    }
+
     /// Lets the session make the steps that are left of its transaction: shadows, or the cells that it takes back.
     fn finish(&mut self, session: SessionNo) -> Result<(), Failure> {
         for _ in 0..1_000 {
             if self.cluster.doing(session) != Doing::Completing {
                 break;
             }
-            self.make(Event::Step { session })?;
+            told(self.cluster.step(&mut self.weather, session))?;
         }
         Ok(())
     }
 
     /// The balance of an account, as the session's transaction sees it.
     pub fn balance(&mut self, session: SessionNo, account: KeyNo) -> Result<u64, Failure> {
-        self.make(Event::Fetch {
-            session,
-            key: account,
-        })?;
+        told(self.cluster.fetch(&mut self.weather, session, account))?;
         for _ in 0..1_000 {
             if self.cluster.doing(session) != Doing::Reading {
                 break;
             }
-            self.make(Event::Step { session })?;
+            told(self.cluster.step(&mut self.weather, session))?;
         }
         match self.cluster.history().last() {
             Some(
@@ -140,11 +131,10 @@ impl Bank {
         let mut digits = LineBuf::new();
         digits.push_number(to);
         match Value::new(digits.as_slice()) {
-            Some(value) => self.make(Event::Write {
-                session,
-                key: account,
-                value,
-            }),
+            Some(value) => told(
+                self.cluster
+                    .write(&mut self.weather, session, account, value),
+            ),
             None => Err(Failure::Balance),
         }
     }
@@ -174,24 +164,14 @@ impl Bank {
     }
 }
 
-/// Whether the reading of the event, if it has one, may be handed in.
-fn is_steady(cluster: &Cluster, event: &Event) -> bool
-    ensures { IsTrue result → IsSteadyAt cluster.now.state.setup.skew cluster.now.state.seen (reading_of event.now) }
-{
-    match *event {
-        Event::Take { reading, .. } => comes_next(cluster, reading),
-        Event::Renew { reading, .. } => comes_next(cluster, reading),
-        Event::Accept { reading, .. } => comes_next(cluster, reading),
-        _ => true,
+/// What the bank makes of how an event ended.
+fn told(made: Result<(), Stopped>) -> Result<(), Failure> {
+    match made {
+        Ok(()) => Ok(()),
+        Err(Stopped::Refused(_)) => Err(Failure::Refused),
+        Err(Stopped::StoreFault(_)) => Err(Failure::Fault),
+        Err(Stopped::NoMemory) => Err(Failure::NoMemory),
     }
-}
-
-/// Whether the reading is behind none before it, and far from the end of the numbers. The skew is not asked for: all nodes here
-/// read one clock.
-fn comes_next(cluster: &Cluster, reading: u64) -> bool
-    ensures { IsTrue result → IsSteadyAt cluster.now.state.setup.skew cluster.now.state.seen (Some reading) }
-{
-    cluster.seen() <= reading && reading <= LAST_READING
 }
 
 fn number_in(value: Value) -> Result<u64, Failure> {

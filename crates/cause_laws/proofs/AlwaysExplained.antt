@@ -28,6 +28,7 @@ use Rattle.cause_laws.proofs.RecordShown.{record_kept}
 use Rattle.cause_laws.proofs.MarksShown.{marked_kept}
 use Rattle.cause_laws.proofs.GoneShown.{gone_kept}
 use Rattle.cause_laws.proofs.PlacingKept.{placing_kept}
+use Rattle.cause_laws.proofs.ReadsFetched.{reads_kept}
 use Rattle.cause_laws.proofs.DueIsShown.{due_is_shown}
 use Rattle.cause_laws.proofs.ShownAtFirst.{shown_at_first}
 use Rattle.cause_laws.proofs.LongerHistories.{each_longer}
@@ -48,6 +49,7 @@ shows_stay w h e fate stands shows =
       faulted = after_deed w h AreFaulted step.state.nodes step.items by (faulted_kept w h by.deed stands shows);
       put = subst (λ s. ArePutByNodes s step.state.nodes) (sym setup) (after_deed w h (λ nodes items. ArePutByNodes w.setup nodes) step.state.nodes step.items by (put_kept w h by.deed stands shows));
       placing = placing_kept w h e fate stands shows;
+      reads = reads_kept w h e fate stands shows;
       open_asks = subst (λ s. AreOpenAsks s step.state.nodes (h ++ step.items)) (sym setup) (after_deed w h (AreOpenAsks w.setup) step.state.nodes step.items by (open_asks_kept w h by.deed stands shows shows.sixteen));
       taken = after_deed w h AreTaken step.state.nodes step.items by (taken_kept w h by.deed stands shows);
       vacant = after_deed w h AreVacant step.state.nodes step.items by (vacant_kept w h by.deed stands shows);

@@ -92,7 +92,7 @@ crash_mute s node term told refusals =
     (All-weaker IsRefusal (Mute s) (λ x is. mute_always s x (refusal_tells_none x is)) told refusals)
 
 -- ---- items that tell of another session
-none_unless : {A : Type 0} (r s : ℕ) (a : A) → (r ≡ s → ⊥) → (if r == s then Some a else None) ≡ None
+pub none_unless : {A : Type 0} (r s : ℕ) (a : A) → (r ≡ s → ⊥) → (if r == s then Some a else None) ≡ None
 none_unless r s a other = ap (λ (b : Bool). if b then Some a else None) (ne_eqb r s other)
 
 pub other_ask : (s n : ℕ) (request : Request) → (session_of request ≡ s → ⊥) → Mute s (ask_item n request)

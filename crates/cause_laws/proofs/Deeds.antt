@@ -70,6 +70,11 @@ pub record Crashed (w : State) : Type 0 where
   pub told : List Item
   pub losses : All (IsLossOf i) told
 
+-- a commit is asked for the transaction that the client has open
+abbrev pub AsksFor : Request → Client → Type 0
+AsksFor (Begin session) c = Unit {0}
+AsksFor (Commit session start keys) c = (c.entry.state ≡ phase.Open) × (c.entry.start ≡ Some start)
+
 -- a session asked, which waited for nothing
 pub record Asked (w : State) : Type 0 where
   pub node : ℕ
@@ -80,6 +85,7 @@ pub record Asked (w : State) : Type 0 where
   pub c : Client
   pub client_at : ClientAt w.clients (session_of request) c
   pub idle : (c.entry.state ≡ phase.Free) ⊎ (c.entry.state ≡ phase.Open)
+  pub for_it : AsksFor request c
 
 abbrev pub ask_item : ℕ → Request → Item
 ask_item node (Begin session) = item.AskBegin session node

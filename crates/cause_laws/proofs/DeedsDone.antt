@@ -158,6 +158,7 @@ outcome_deed w h (OfAskedBegin k) holds = record {
     c = k.c;
     client_at = k.client_at;
     idle = inl k.free;
+    for_it = tt;
   });
   leaves = refl;
   tells = refl;
@@ -172,6 +173,7 @@ outcome_deed w h (OfAskedCommit k) holds = record {
     c = k.c;
     client_at = k.client_at;
     idle = inr k.is_open;
+    for_it = (k.is_open, k.start_is);
   });
   leaves = refl;
   tells = k.tells;

@@ -36,4 +36,5 @@ mod AsBefore
 mod ClientsMoved
 mod GoneShown
 mod PlacingKept
+mod ReadsFetched
 pub mod AlwaysExplained

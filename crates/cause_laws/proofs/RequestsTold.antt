@@ -92,7 +92,7 @@ told_mute direct h items n s term request p mute told = record {
 }
 
 -- ---- the item of a step
-own_item : {A : Type 0} (s : ℕ) (a : A) (last : Option A) → option_or (if s == s then Some a else None) last ≡ Some a
+pub own_item : {A : Type 0} (s : ℕ) (a : A) (last : Option A) → option_or (if s == s then Some a else None) last ≡ Some a
 own_item s a last = ap (λ (b : Bool). option_or (if b then Some a else None) last) (eq-eqb s s refl)
 
 no_stamps_yet : (request : Request) (stamps : ℕ × Option ℕ) → stamps_by request progress.Accepted ≡ Some stamps → ⊥

@@ -1,5 +1,5 @@
 -- The opening state, of an empty history, has nothing to show.
-use Rattle.std.proofs.Common.{◌≡◌, ℕ, [], Option, None, inl, refl, sym, ◌∙◌, ap}
+use Rattle.std.proofs.Common.{◌≡◌, ℕ, [], Option, None, Some, inl, refl, sym, ◌∙◌, ap}
 use Rattle.std.specs.FinMap as map
 use Rattle.std.specs.Ordering.{nat_cmp}
 use Rattle.std.proofs.lemmas.Option.{none-some}
@@ -29,6 +29,9 @@ nobody_gone setup s c at gone = let clash : phase.Free ≡ phase.Gone = all_free
 nobody_placing : (setup : SetupNumbers) (s : ℕ) (c : Client) → ClientAt (opening setup).clients s c → c.entry.state ≡ phase.Placing → ⊥
 nobody_placing setup s c at placing = let clash : phase.Free ≡ phase.Placing = all_free setup s c at ∙ placing in cc
 
+nobody_open : (setup : SetupNumbers) (s : ℕ) (c : Client) → ClientAt (opening setup).clients s c → c.entry.state ≡ phase.Open → ⊥
+nobody_open setup s c at is_open = let clash : phase.Free ≡ phase.Open = all_free setup s c at ∙ is_open in cc
+
 none_marked : (t : ℕ) → Marked map.empty t → ⊥
 none_marked t marked = none-some InvalidMark (sym (map.get-empty nat_cmp t) ∙ marked)
 
@@ -46,6 +49,10 @@ shown_at_first setup = record {
   };
   put = record { each = λ n s i request p at. absurd (none_at setup.nodes n i at) };
   placing = record { each = λ s start commit c at placing. absurd (nobody_placing setup s c at placing) };
+  reads = record {
+    opened = λ s t c at is_open. absurd (nobody_open setup s c at is_open);
+    asked = λ s n t c at asked. absurd (none-some (record { node = n; start = Some t }) asked);
+  };
   open_asks = record {
     each = λ n s post at. nobody_asked n s post (found_copy setup.nodes n None post at);
     slots = λ n i at. absurd (none_at setup.nodes n i at);

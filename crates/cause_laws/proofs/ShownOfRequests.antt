@@ -1,7 +1,8 @@
 -- For planned_laws too.
 -- What is due of a request is shown: by its ask, its term and its draw, and by the facts of isolation.
-use Rattle.std.proofs.Common.{◌≡◌, ◌≢◌, ℕ, false, List, [], Option, None, Some, inl, inr, refl, sym, ◌∙◌, ap, subst, Contains}
+use Rattle.std.proofs.Common.{◌≡◌, ◌≢◌, ℕ, true, List, [], Option, None, Some, ◌⊎◌, inl, inr, refl, sym, ◌∙◌, ap, subst, Contains}
 use Rattle.std.specs.Option.{option_or}
+use Rattle.std.proofs.lemmas.Bool.{cases_Bool}
 use Rattle.history_book.specs.declared.item.Item.{Item}
 use Rattle.oracle_parts.specs.declared.buckets.Verdict.{Verdict}
 use Rattle.oracle_parts.specs.declared.buckets.Verdict.TheVariants.{Free, Conflict, Hidden}
@@ -15,6 +16,7 @@ use Rattle.oracle_parts.proofs.BucketVerdicts.{verdict_shown}
 use Rattle.machine.specs.State.{State}
 use Rattle.cause_rules.specs.Asks.{Ask, its_ask, its_term, its_draw, its_start, its_node, start_asked, start_drawn, node_asked}
 use Rattle.cause_rules.specs.Written.{written_keys, recorded}
+use Rattle.cause_rules.specs.OwnKeys.{WroteOrRead}
 use Rattle.cause_rules.specs.Commits.{ShownConflict, ShownHidden, ShownOldEpoch, ShownExpired}
 use Rattle.cause_rules.specs.Posts.{TookLast, LeasedUntil}
 use Rattle.isolation_laws.specs.Words.{HeldBy}
@@ -22,6 +24,7 @@ use Rattle.isolation_laws.specs.Pending.{InFlight, HeldPending, Taken}
 use Rattle.isolation_laws.specs.Sound.{Stands}
 use Rattle.isolation_laws.proofs.Memory.RecordedCommits.{recorded_rise}
 use Rattle.cause_laws.specs.Requests.{ask_for}
+use Rattle.cause_laws.specs.Reads.{AreFetched}
 use Rattle.cause_laws.specs.Shows.{Shows}
 use Rattle.cause_laws.specs.Due.{Serves, DueVerdict, DueOldEpoch, DueExpired}
 use Rattle.cause_laws.proofs.HiddenWaters.{refused_first, hidden_water}
@@ -66,9 +69,9 @@ keys_of w h s asker start keys i stands serves =
     (stands.holds.requests.pending.keys q (inl pending)).0
 
 -- ---- the keys that a refusal is of: those that the commit writes, or with strict reads those that its client has read
-record Refused (w : State) (i : InstanceEntry) (start : ℕ) (keys : List ℕ) (why : Verdict) : Type 0 where
+record Refused (w : State) (i : InstanceEntry) (start : ℕ) (keys reads : List ℕ) (why : Verdict) : Type 0 where
   of : List ℕ
-  own : w.setup.strict ≡ false → of ≡ keys
+  own : (of ≡ keys) ⊎ ((w.setup.strict ≡ true) × (of ≡ reads))
   judged : verdict i.buckets start of ≡ why
 
 -- nothing that was read is nothing that is refused
@@ -76,31 +79,42 @@ none_read : (buckets : List Bucket) (start : ℕ) (reads : List ℕ) (why : Verd
 unfolding verdict
 none_read buckets start reads why some none is = some (sym is ∙ ap (λ (ks : List ℕ). verdict buckets start ks) none)
 
-refused : (w : State) (h : List Item) (s : ℕ) (why : Verdict) → why ≢ Free → Stands w h → (due : DueVerdict w s why) → Refused w due.i due.start due.keys why
+-- what was refused by what was read is so with strict reads
+read_strictly : (w : State) (h : List Item) (s : ℕ) (why : Verdict) → why ≢ Free → Stands w h → (due : DueVerdict w s why) → verdict due.i.buckets due.start due.client.reads ≡ why → w.setup.strict ≡ true
+read_strictly w h s why some stands due read = elim (cases_Bool w.setup.strict) [
+  | inl strict ↦ strict
+  | inr plain ↦ absurd (none_read due.i.buckets due.start due.client.reads why some (stands.holds.reads.read_sets.plain plain s due.client due.client_at) read)
+]
+
+refused : (w : State) (h : List Item) (s : ℕ) (why : Verdict) → why ≢ Free → Stands w h → (due : DueVerdict w s why) → Refused w due.i due.start due.keys due.client.reads why
 refused w h s why some stands due = elim (refused_first (verdict due.i.buckets due.start due.keys) (verdict due.i.buckets due.start due.client.reads) why some due.judged) [
-  | inl wrote ↦ record { of = due.keys; own = λ plain. refl; judged = wrote }
-  | inr read ↦
-      record {
-        of = due.client.reads;
-        own = λ plain. absurd (none_read due.i.buckets due.start due.client.reads why some (stands.holds.reads.read_sets.plain plain s due.client due.client_at) read);
-        judged = read;
-      }
+  | inl wrote ↦ record { of = due.keys; own = inl refl; judged = wrote }
+  | inr read ↦ record { of = due.client.reads; own = inr (read_strictly w h s why some stands due read, refl); judged = read }
 ]
 
 -- the buckets have what was drawn in the term
-judged_by : (w : State) (h : List Item) (s : ℕ) (why : Verdict) → Stands w h → (due : DueVerdict w s why) → (r : Refused w due.i due.start due.keys why) → verdict (contents w.setup.buckets w.setup.width (recorded h due.i.term)) due.start r.of ≡ why
+judged_by : (w : State) (h : List Item) (s : ℕ) (why : Verdict) → Stands w h → (due : DueVerdict w s why) → (r : Refused w due.i due.start due.keys due.client.reads why) → verdict (contents w.setup.buckets w.setup.width (recorded h due.i.term)) due.start r.of ≡ why
 judged_by w h s why stands due r = ap (λ (bs : List Bucket). verdict bs due.start r.of) (sym (stands.holds.memory.recorded.hold due.serves.node due.i due.serves.at)) ∙ r.judged
 
 -- so what they say is shown by it
-told : (w : State) (h : List Item) (s : ℕ) (why : Verdict) → Stands w h → (due : DueVerdict w s why) → (r : Refused w due.i due.start due.keys why) → IsShown w.setup.buckets w.setup.width (recorded h due.i.term) due.start r.of why
+told : (w : State) (h : List Item) (s : ℕ) (why : Verdict) → Stands w h → (due : DueVerdict w s why) → (r : Refused w due.i due.start due.keys due.client.reads why) → IsShown w.setup.buckets w.setup.width (recorded h due.i.term) due.start r.of why
 told w h s why stands due r =
     let setup = stands.holds.in_range in
     subst (λ v. IsShown w.setup.buckets w.setup.width (recorded h due.i.term) due.start r.of v) (judged_by w h s why stands due r)
     (verdict_shown w.setup.buckets w.setup.width (recorded h due.i.term) due.start r.of setup.buckets.0 setup.width.0 (recorded_rise h due.i.term stands.holds.numbers.new))
 
--- without strict reads the transaction wrote the key
-own_key : (w : State) (h : List Item) (s key : ℕ) (why : Verdict) → Stands w h → (due : DueVerdict w s why) → (r : Refused w due.i due.start due.keys why) → Contains r.of key → w.setup.strict ≡ false → Contains (written_keys h due.start) key
-own_key w h s key why stands due r has plain = subst (λ ks. Contains ks key) (r.own plain ∙ keys_of w h s due.asker due.start due.keys due.i stands due.serves) has
+-- its session asked for its commit last: what its client keeps as read was fetched since its begin
+reads_of : (w : State) (h : List Item) (s : ℕ) (why : Verdict) → Shows w h → (due : DueVerdict w s why) → AreFetched h s due.start due.client
+reads_of w h s why shows due = shows.reads.asked s due.serves.node due.start due.client due.client_at (asks w h s due.i (Commit due.asker due.start due.keys) progress.Accepted shows due.serves)
+
+-- the transaction wrote the key, or with strict reads has read it
+own_key : (w : State) (h : List Item) (s key : ℕ) (why : Verdict) → Stands w h → Shows w h → (due : DueVerdict w s why) → (r : Refused w due.i due.start due.keys due.client.reads why) → Contains r.of key → WroteOrRead w.setup h s due.start key
+own_key w h s key why stands shows due r has = elim r.own [
+  | inl wrote ↦ inl (subst (λ ks. Contains ks key) (wrote ∙ keys_of w h s due.asker due.start due.keys due.i stands due.serves) has)
+  | inr read ↦
+      let are : AreFetched h s due.start due.client = reads_of w h s why shows due in
+      inr (read.0, record { begun = are.begun; fetched = are.fetched key (subst (λ ks. Contains ks key) read.1 has) })
+]
 
 pub conflict_shown : (w : State) (h : List Item) (s key by : ℕ) → Stands w h → Shows w h → DueVerdict w s (Conflict key by) → ShownConflict w.setup h s key by
 conflict_shown w h s key by stands shows due =
@@ -112,7 +126,7 @@ conflict_shown w h s key by stands shows due =
       node_is = node_of w h s due.i (Commit due.asker due.start due.keys) progress.Accepted shows due.serves;
       start = due.start;
       start_is = start_of w h s due.asker due.start due.keys due.i progress.Accepted shows due.serves;
-      own = own_key w h s key (Conflict key by) stands due r is.0;
+      own = own_key w h s key (Conflict key by) stands shows due r is.0;
       term = due.i.term;
       term_is = term_of w h s due.i (Commit due.asker due.start due.keys) progress.Accepted shows due.serves accepted_not_asked;
       above = is.2;
@@ -131,7 +145,7 @@ hidden_shown w h s key water stands shows due =
       node_is = node_of w h s due.i (Commit due.asker due.start due.keys) progress.Accepted shows due.serves;
       start = due.start;
       start_is = start_of w h s due.asker due.start due.keys due.i progress.Accepted shows due.serves;
-      own = own_key w h s key (Hidden key water) stands due r is.0;
+      own = own_key w h s key (Hidden key water) stands shows due r is.0;
       term = due.i.term;
       term_is = term_of w h s due.i (Commit due.asker due.start due.keys) progress.Accepted shows due.serves accepted_not_asked;
       forgotten = is.1;

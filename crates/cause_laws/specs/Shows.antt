@@ -5,6 +5,7 @@ use Rattle.machine.specs.State.{State}
 use Rattle.cause_rules.specs.Explained.{Explained}
 use Rattle.isolation_laws.specs.Sound.{Stands}
 use Rattle.cause_laws.specs.Requests.{AreAsked, AreFaulted, ArePutByNodes, ArePlacingAsked, AreOpenAsks}
+use Rattle.cause_laws.specs.Reads.{AreReadsShown}
 use Rattle.cause_laws.specs.Nodes.{AreTaken, AreVacant, AreShownStops, AreLasts}
 use Rattle.cause_laws.specs.Stores.{IsRecordShown, AreMarked, AreGone}
 
@@ -14,6 +15,7 @@ pub record Shows (w : State) (h : List Item) : Type 0 where
   pub faulted : AreFaulted w.nodes h
   pub put : ArePutByNodes w.setup w.nodes
   pub placing : ArePlacingAsked w.clients h
+  pub reads : AreReadsShown w.clients h
   pub open_asks : AreOpenAsks w.setup w.nodes h
   pub taken : AreTaken w.nodes h
   pub vacant : AreVacant w.nodes h

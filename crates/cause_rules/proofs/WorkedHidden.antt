@@ -1,18 +1,20 @@
 -- The short histories of keys that are hidden.
-use Rattle.std.proofs.Common.{◌≡◌, ℕ, ◌<◌, false, Option, None, Some, ◌⊎◌, inl, inr, refl, sym, ◌∙◌, ap, subst, arith, Contains}
+use Rattle.std.proofs.Common.{◌≡◌, ℕ, ◌<◌, true, false, Option, None, Some, ◌⊎◌, inl, inr, refl, sym, ◌∙◌, ap, subst, arith, Contains}
 use Rattle.std.proofs.lemmas.Option.{same_Some}
 use Rattle.stamp_base.specs.SetupNumbers.{SetupNumbers}
 use Rattle.history_book.specs.Members.{◌∈◌}
 use Rattle.history_book.specs.declared.cause.Cause.TheVariants as cause
 use Rattle.history_book.specs.declared.item.Actor.TheVariants.{Session}
 use Rattle.history_book.specs.declared.item.Item.{Item}
-use Rattle.history_book.specs.declared.item.Item.TheVariants.{Draw}
+use Rattle.history_book.specs.declared.item.StoreStep.TheVariants.{Fetch}
+use Rattle.history_book.specs.declared.item.Item.TheVariants.{Draw, Step}
 use Rattle.oracle_parts.specs.Buckets.{Bucket, place_of, bucket_of, contents, kept_commit, record_pairs, added, without, oldest}
 use Rattle.cause_rules.specs.Written.{keys_from, written_keys, recorded, recorded_in}
+use Rattle.cause_rules.specs.OwnKeys.{since_begin, HasRead, WroteOrRead}
 use Rattle.cause_rules.specs.Commits.{ShownHidden}
 use Rattle.cause_rules.specs.Explained.{Explained}
-use Rattle.cause_rules.specs.WorkedCommits.{strictly, Hiding, hiding, buckets_of, before_hidden, hidden_told}
-use Rattle.cause_rules.proofs.WorkedRefusals.{of_each, only_key, shown_explains, explained_shows}
+use Rattle.cause_rules.specs.WorkedCommits.{strictly, Hiding, hiding, read_hiding, buckets_of, before_hidden, hidden_told}
+use Rattle.cause_rules.proofs.WorkedRefusals.{of_each, only_key, FetchesOnly, shown_explains, explained_shows}
 
 pub forgotten : Explained (buckets_of 1) (hidden_told hiding)
 unfolding keys_from recorded_in record_pairs kept_commit added without oldest ◌∈◌
@@ -21,38 +23,35 @@ forgotten = shown_explains (buckets_of 1) (before_hidden hiding) (Session 2) (ca
   node_is = refl;
   start = 3;
   start_is = refl;
-  own = λ plain. (0, omega arith, refl);
+  own = inl (0, omega arith, refl);
   term = 1;
   term_is = refl;
   forgotten = refl;
   forgot = refl;
   above = omega arith;
   writer = 1;
-  drawn = (0, 0, inr (inr (inr (inl refl))));
+  drawn = (0, 0, inr (inr (inr (inr (inr (inr (inl refl)))))));
   other = 0;
   wrote = (0, omega arith, refl);
   same_bucket = refl;
 })
 
--- ---- a key that the transaction did not write, with strict reads
-abbrev of_other_key : Hiding
-of_other_key = record hiding { own = 8 }
-
-pub only_read : Explained (strictly (buckets_of 1)) (hidden_told of_other_key)
+-- ---- a key that the transaction read and did not write, with strict reads
+pub read : Explained (strictly (buckets_of 1)) (hidden_told read_hiding)
 unfolding keys_from recorded_in record_pairs kept_commit added without oldest ◌∈◌
-only_read = shown_explains (strictly (buckets_of 1)) (before_hidden of_other_key) (Session 2) (cause.Hidden 0 4) refl (record {
+read = shown_explains (strictly (buckets_of 1)) (before_hidden read_hiding) (Session 2) (cause.Hidden 0 4) refl (record {
   node = 0;
   node_is = refl;
   start = 3;
   start_is = refl;
-  own = λ plain. absurd (cc);
+  own = inr (refl, record { begun = refl; fetched = (1, inl refl) });
   term = 1;
   term_is = refl;
   forgotten = refl;
   forgot = refl;
   above = omega arith;
   writer = 1;
-  drawn = (0, 0, inr (inr (inr (inl refl))));
+  drawn = (0, 0, inr (inr (inr (inr (inr (inr (inl refl)))))));
   other = 0;
   wrote = (0, omega arith, refl);
   same_bucket = refl;
@@ -73,7 +72,7 @@ TwoDraws c _ = Unit {0}
 
 record Told (setup : SetupNumbers) (c : Hiding) : Type 0 where
   above : c.start < c.water
-  own : setup.strict ≡ false → Contains (written_keys (before_hidden c) c.start) c.key
+  own : WroteOrRead setup (before_hidden c) 2 c.start c.key
   kept : kept_of setup c 1 ≡ None
   water : (bucket_in setup c 1).water ≡ c.water
   writer : ℕ
@@ -88,10 +87,10 @@ told_by setup c e =
     let start : shown.start ≡ c.start = sym (same_Some _ _ shown.start_is) in
     let term : shown.term ≡ 1 = sym (same_Some _ _ shown.term_is) in
     let drawn : TwoDraws c (Draw shown.drawn.0 shown.drawn.1 shown.term shown.writer (Some c.water)) =
-    of_each (TwoDraws c) (Draw shown.drawn.0 shown.drawn.1 shown.term shown.writer (Some c.water)) (before_hidden c) (tt, (tt, (tt, (inl (refl, refl, refl), (inr refl, (tt, (tt, tt))))))) shown.drawn.2 in
+    of_each (TwoDraws c) (Draw shown.drawn.0 shown.drawn.1 shown.term shown.writer (Some c.water)) (before_hidden c) (tt, (tt, (tt, (tt, (tt, (tt, (inl (refl, refl, refl), (inr refl, (tt, (tt, tt)))))))))) shown.drawn.2 in
     record {
       above = subst (λ (t : ℕ). t < c.water) start shown.above;
-      own = λ plain. subst (λ (t : ℕ). Contains (written_keys (before_hidden c) t) c.key) start (shown.own plain);
+      own = subst (λ (t : ℕ). WroteOrRead setup (before_hidden c) 2 t c.key) start shown.own;
       kept = subst (λ (t : ℕ). kept_of setup c t ≡ None) term shown.forgotten;
       water = subst (λ (t : ℕ). (bucket_in setup c t).water ≡ c.water) term shown.forgot;
       writer = shown.writer;
@@ -112,9 +111,9 @@ pub kept_by_width : Explained (buckets_of 2) (hidden_told hiding) → ⊥
 unfolding keys_from recorded_in record_pairs kept_commit added
 kept_by_width e = absurd (some_not_none 4 (told_of 2 hiding e).kept)
 
-pub only_read_kept : Explained (strictly (buckets_of 2)) (hidden_told of_other_key) → ⊥
+pub read_kept : Explained (strictly (buckets_of 2)) (hidden_told read_hiding) → ⊥
 unfolding keys_from recorded_in record_pairs kept_commit added
-only_read_kept e = absurd (some_not_none 4 (told_by (strictly (buckets_of 2)) of_other_key e).kept)
+read_kept e = absurd (some_not_none 4 (told_by (strictly (buckets_of 2)) read_hiding e).kept)
 
 pub kept : Explained (buckets_of 1) (hidden_told (record hiding { own = 4; key = 4 })) → ⊥
 unfolding keys_from recorded_in record_pairs kept_commit added without oldest
@@ -159,6 +158,29 @@ other_bucket e =
       | inr second ↦ let same : 4 ≡ 5 = second in absurd (omega (arith, same))
     ]
 
-pub not_its_own : Explained (buckets_of 1) (hidden_told (record hiding { own = 8 })) → ⊥
+-- ---- where the transaction wrote another key it has read this one
+abbrev reading : ℕ → ℕ → Hiding
+reading before since = record hiding { own = 8; read_before = before; read = since }
+
+must_read : (setup : SetupNumbers) (before since : ℕ) → Explained setup (hidden_told (reading before since)) → (setup.strict ≡ true) × HasRead (before_hidden (reading before since)) 2 3 0
 unfolding keys_from
-not_its_own e = let same : 8 ≡ 0 = only_key 8 0 ((told_of 1 (record hiding { own = 8 }) e).own refl) in absurd (omega (arith, same))
+must_read setup before since e = elim (told_by setup (reading before since) e).own [
+  | inl wrote ↦ let same : 8 ≡ 0 = only_key 8 0 wrote in absurd (omega (arith, same))
+  | inr has ↦ has
+]
+
+only_fetch : (before since : ℕ) → HasRead (before_hidden (reading before since)) 2 3 0 → since ≡ 0
+only_fetch before since has =
+    of_each (FetchesOnly since) (Step (Session 2) (Fetch 0 has.fetched.0)) (since_begin (before_hidden (reading before since)) 2) (refl, (tt, (tt, (tt, (tt, (tt, (tt, (tt, tt)))))))) has.fetched.1
+
+pub not_its_own : Explained (buckets_of 1) (hidden_told (record hiding { own = 8 })) → ⊥
+not_its_own e = let strict : false ≡ true = (must_read (buckets_of 1) 6 6 e).0 in absurd (cc)
+
+pub read_not_strictly : Explained (buckets_of 1) (hidden_told read_hiding) → ⊥
+read_not_strictly e = let strict : false ≡ true = (must_read (buckets_of 1) 6 0 e).0 in absurd (cc)
+
+pub not_read : Explained (strictly (buckets_of 1)) (hidden_told (record read_hiding { read = 7 })) → ⊥
+not_read e = let same : 7 ≡ 0 = only_fetch 6 7 (must_read (strictly (buckets_of 1)) 6 7 e).1 in absurd (omega (arith, same))
+
+pub read_before : Explained (strictly (buckets_of 1)) (hidden_told (record read_hiding { read_before = 0; read = 7 })) → ⊥
+read_before e = let same : 7 ≡ 0 = only_fetch 0 7 (must_read (strictly (buckets_of 1)) 0 7 e).1 in absurd (omega (arith, same))

@@ -6,8 +6,9 @@ use Rattle.stamp_base.specs.SetupNumbers.{SetupNumbers}
 use Rattle.history_book.specs.Members.{◌∈◌}
 use Rattle.history_book.specs.declared.cause.Cause.{Cause}
 use Rattle.history_book.specs.declared.item.Actor.{Actor}
+use Rattle.history_book.specs.declared.item.StoreStep.TheVariants.{Fetch}
 use Rattle.history_book.specs.declared.item.Item.{Item}
-use Rattle.history_book.specs.declared.item.Item.TheVariants.{Refused}
+use Rattle.history_book.specs.declared.item.Item.TheVariants.{Step, Refused}
 use Rattle.history_book.proofs.MemberLemmas.{in_at, AtEach-push}
 use Rattle.cause_rules.specs.Explained.{ShownCause, Shown, Explained}
 use Rattle.cause_rules.specs.WorkedHistories.{told, told_between}
@@ -40,6 +41,11 @@ only_key only key found = at_place found.0 found.1 found.2 where
   at_place : (place : ℕ) → place < 1 → get_or (only ∷ []) place key ≡ key → only ≡ key
   at_place zero within same = same
   at_place (suc place) within same = absurd (omega (arith, within))
+
+-- the only key that is fetched
+abbrev pub FetchesOnly : ℕ → Item → Type 0
+FetchesOnly only (Step actor (Fetch key cells)) = only ≡ key
+FetchesOnly only _ = Unit {0}
 
 -- ---- the only refusal
 abbrev is_quiet : Item → Bool

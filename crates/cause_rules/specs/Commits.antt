@@ -13,6 +13,7 @@ use Rattle.oracle_parts.specs.Buckets.{place_of, bucket_of, contents, kept_commi
 use Rattle.cause_rules.specs.Asks.{its_node, its_term, its_draw, its_start, since_ask, since_draw}
 use Rattle.cause_rules.specs.Posts.{TookLast, LeasedUntil, TermTaken, CeilingGiven}
 use Rattle.cause_rules.specs.Written.{written_keys, recorded}
+use Rattle.cause_rules.specs.OwnKeys.{WroteOrRead}
 
 -- the transaction's commit was drawn in the term
 abbrev pub CommitDrawn : List Item → ℕ → ℕ → ℕ → Type 0
@@ -22,13 +23,13 @@ CommitDrawn h term writer commit = (s : ℕ) × (n : ℕ) × (Draw s n term writ
 abbrev pub StampDrawn : List Item → ℕ → ℕ → Type 0
 StampDrawn h term stamp = ((s : ℕ) × (n : ℕ) × (Draw s n term stamp None ∈ h)) ⊎ ((writer : ℕ) × CommitDrawn h term writer stamp)
 
--- a key that the transaction wrote, or with strict reads may only have read, was committed above its start, in its term
+-- a key that the transaction wrote, or with strict reads has read, was committed above its start, in its term
 pub record ShownConflict (setup : SetupNumbers) (h : List Item) (s key by : ℕ) : Type 0 where
   pub node : ℕ
   pub node_is : its_node h s ≡ Some node
   pub start : ℕ
   pub start_is : its_start h s ≡ Some start
-  pub own : setup.strict ≡ false → Contains (written_keys h start) key
+  pub own : WroteOrRead setup h s start key
   pub term : ℕ
   pub term_is : its_term h s ≡ Some term
   pub above : start < by
@@ -36,14 +37,14 @@ pub record ShownConflict (setup : SetupNumbers) (h : List Item) (s key by : ℕ)
   pub drawn : CommitDrawn h term writer by
   pub wrote : Contains (written_keys h writer) key
 
--- the bucket of a key that the transaction wrote, or with strict reads may only have read, does not keep the key, and its water
--- is above the start: a commit that was drawn in the term for a key of that bucket
+-- the bucket of a key that the transaction wrote, or with strict reads has read, does not keep the key, and its water is above
+-- the start: a commit that was drawn in the term for a key of that bucket
 pub record ShownHidden (setup : SetupNumbers) (h : List Item) (s key water : ℕ) : Type 0 where
   pub node : ℕ
   pub node_is : its_node h s ≡ Some node
   pub start : ℕ
   pub start_is : its_start h s ≡ Some start
-  pub own : setup.strict ≡ false → Contains (written_keys h start) key
+  pub own : WroteOrRead setup h s start key
   pub term : ℕ
   pub term_is : its_term h s ≡ Some term
   pub forgotten : kept_commit (bucket_of (contents setup.buckets setup.width (recorded h term)) key).kept key ≡ None

@@ -1,5 +1,6 @@
 pub mod Since
 pub mod Written
+pub mod OwnKeys
 pub mod Asks
 pub mod Posts
 pub mod OpenAsks

@@ -3,11 +3,12 @@ use Rattle.std.specs.Prelude.{ℕ, true, List, [], ◌∷◌, ◌++◌, None, So
 use Rattle.stamp_base.specs.SetupNumbers.{SetupNumbers, default_numbers}
 use Rattle.history_book.specs.declared.cause.Cause.TheVariants as cause
 use Rattle.history_book.specs.declared.item.Actor.TheVariants.{Session}
+use Rattle.history_book.specs.declared.item.StoreStep.TheVariants.{Fetch}
 use Rattle.history_book.specs.declared.item.Item.{Item}
-use Rattle.history_book.specs.declared.item.Item.TheVariants.{AskCommit, Accept, Draw, Write, Mark}
+use Rattle.history_book.specs.declared.item.Item.TheVariants.{AskCommit, Accept, Begin, Draw, Write, Mark, Step}
 use Rattle.cause_rules.specs.WorkedHistories.{told, told_between, v}
 
--- with strict reads a transaction is told of keys too that it only read, and its history need not show that it read them
+-- with strict reads a transaction is told of keys too that it only read
 abbrev pub strictly : SetupNumbers → SetupNumbers
 strictly setup = record setup { strict = true }
 
@@ -16,9 +17,13 @@ abbrev pub directly : SetupNumbers → SetupNumbers
 directly setup = record setup { direct = true }
 
 -- ---- a conflict on the key 0
--- the transaction 1 wrote a key, and its commit 3 was drawn in a term; another one wrote a key, and asks to commit in the
--- term 1; it is told of a commit
+-- a session fetched a key, began a transaction, and fetched another key; the transaction 1 wrote a key, and its commit 3 was drawn
+-- in a term; another one wrote a key, and asks to commit in the term 1; it is told of a commit
 pub record Conflicting : Type 0 where
+  pub reader : ℕ
+  pub read_before : ℕ
+  pub begun : ℕ
+  pub read : ℕ
   pub written : ℕ
   pub drawn_in : ℕ
   pub start : ℕ
@@ -26,10 +31,20 @@ pub record Conflicting : Type 0 where
   pub by : ℕ
 
 abbrev pub conflicting : Conflicting
-conflicting = record { written = 0; drawn_in = 1; start = 2; own = 0; by = 3 }
+conflicting = record { reader = 1; read_before = 6; begun = 2; read = 6; written = 0; drawn_in = 1; start = 2; own = 0; by = 3 }
+
+-- the transaction wrote another key, and read the key 0
+abbrev pub read_conflicting : Conflicting
+read_conflicting = record conflicting { own = 5; read = 0 }
+
+-- what a session read before its begin, and since
+abbrev pub reads_of : ℕ → ℕ → ℕ → ℕ → List Item
+reads_of session before start since = Step (Session session) (Fetch before 1) ∷ Begin session start ∷ Step (Session session) (Fetch since 1) ∷ []
 
 abbrev pub before_conflict : Conflicting → List Item
-before_conflict c = Write 0 1 c.written v ∷ Write 1 c.start c.own v ∷ Draw 0 0 c.drawn_in 1 (Some 3) ∷ AskCommit 1 0 c.start ∷ Accept 1 0 1 0 ∷ []
+before_conflict c =
+    reads_of c.reader c.read_before c.begun c.read
+    ++ Write 0 1 c.written v ∷ Write 1 c.start c.own v ∷ Draw 0 0 c.drawn_in 1 (Some 3) ∷ AskCommit 1 0 c.start ∷ Accept 1 0 1 0 ∷ []
 
 abbrev pub conflict_told : Conflicting → List Item
 conflict_told c = told (before_conflict c) (Session 1) (cause.Conflict 0 c.by)
@@ -53,9 +68,14 @@ conflict_told_first = told_between before_draw (Session 1) (cause.Conflict 0 3) 
 abbrev pub buckets_of : ℕ → SetupNumbers
 buckets_of width = record default_numbers { buckets = 4; width = width }
 
--- the transaction 1 wrote a key, and its commit 4 was drawn in a term; the transaction 2 wrote the key 4, and its commit 5 was
--- drawn in the term 1; another one wrote a key, and asks to commit in the term 1; it is told of a key and of a water
+-- a session fetched a key, began a transaction, and fetched another key; the transaction 1 wrote a key, and its commit 4 was drawn
+-- in a term; the transaction 2 wrote the key 4, and its commit 5 was drawn in the term 1; another one wrote a key, and asks to
+-- commit in the term 1; it is told of a key and of a water
 pub record Hiding : Type 0 where
+  pub reader : ℕ
+  pub read_before : ℕ
+  pub begun : ℕ
+  pub read : ℕ
   pub written : ℕ
   pub drawn_in : ℕ
   pub start : ℕ
@@ -64,11 +84,16 @@ pub record Hiding : Type 0 where
   pub water : ℕ
 
 abbrev pub hiding : Hiding
-hiding = record { written = 0; drawn_in = 1; start = 3; own = 0; key = 0; water = 4 }
+hiding = record { reader = 2; read_before = 6; begun = 3; read = 6; written = 0; drawn_in = 1; start = 3; own = 0; key = 0; water = 4 }
+
+-- the transaction wrote another key, and read the key 0
+abbrev pub read_hiding : Hiding
+read_hiding = record hiding { own = 8; read = 0 }
 
 abbrev pub before_hidden : Hiding → List Item
 before_hidden c =
-    Write 0 1 c.written v ∷ Write 1 2 4 v ∷ Write 2 c.start c.own v
+    reads_of c.reader c.read_before c.begun c.read
+    ++ Write 0 1 c.written v ∷ Write 1 2 4 v ∷ Write 2 c.start c.own v
     ∷ Draw 0 0 c.drawn_in 1 (Some 4) ∷ Draw 1 0 1 2 (Some 5)
     ∷ AskCommit 2 0 c.start ∷ Accept 2 0 1 0 ∷ []
 

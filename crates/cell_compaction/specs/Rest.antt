@@ -13,7 +13,7 @@ use Rattle.store_parts.specs.Pairs.{Pairs, mark_of}
 use Rattle.cell_compaction.specs.declared.latest.Latest.{Latest}
 
 -- ---- the stores and their history
--- the cell has this value, and its commit as shadow, or as its pair where it is bare
+-- the cell has this value, and a shadow that tells its commit, or none, and then the table tells it
 abbrev pub IsWritten : Pairs → Option Cell → ℕ → ℕ → List ℕ → Type 0
 IsWritten pairs found t c value =
     (found ≡ Some (record { version = t; value = value; shadow = Some c })) ⊎ ((found ≡ Some (record { version = t; value = value; shadow = None })) × (mark_of pairs t ≡ Some (mark.Committed c)))
@@ -27,7 +27,7 @@ pub record StandsAtRest (h : List Item) (rows : List Row) (pairs : Pairs) : Type
   pub paired : (t c : ℕ) → mark_of pairs t ≡ Some (mark.Committed c) → Committed h t c
   pub no_others : (t c k : ℕ) (cell : Cell) → Committed h t c → looked rows k t ≡ Some cell → (value : List ℕ) × Wrote h t k value
 
--- ---- the commit of a row: its shadow, or that of its pair where it is bare
+-- ---- the commit of a row, which its shadow tells, or the table where it has none
 abbrev pub commit_in : Option Mark → Option ℕ
 commit_in (Some (mark.Committed c)) = Some c
 commit_in (Some mark.Invalid) = None
@@ -63,7 +63,7 @@ abbrev pub with_row : ℕ → Row → Option ℕ → Option Latest → Option La
 with_row k r None latest = latest
 with_row k r (Some c) latest = if r.key == k then later_of r c latest else latest
 
--- of the rows of k with a commit below s, the one of the greatest commit
+-- the newest of the rows of k that were committed before s
 unfoldable pub latest_in : List Row → ℕ → ℕ → Option Latest
 latest_in [] s k = None
 latest_in (r ∷ rs) s k = with_row k r (commit_below s r.shadow) (latest_in rs s k)

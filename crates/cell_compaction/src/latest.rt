@@ -16,7 +16,7 @@ pub struct Latest {
     pub value: Value,
 }
 
-/// Of the key's rows with a commit below the start, the one of the greatest commit. It costs a search by halves and a look at
+/// The newest of the key's rows that were committed below the start. It costs a search by halves and a look at
 /// each row of the key.
 pub fn latest_of(rows: &[Row], start: Stamp, key: KeyNo) -> Option<Latest>
     requires { AreOrdered (map row_of rows.now) }

@@ -17,7 +17,7 @@ pub struct Row {
 }
 
 impl Cells {
-    /// The rows, in ascending order of key and version. After NoMemory the cells are given up.
+    /// The rows, by rising keys and versions. Where memory is refused the cells are gone.
     pub fn into_rows(self) -> Result<Vec<Row>, NoMemory>
         ensures rows { IfOk result (λ rows. map row_of rows.items ≡ self.rows) }
         ensures ordered { AreOrdered self.rows }

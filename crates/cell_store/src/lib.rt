@@ -2,7 +2,7 @@
 //! version to its keys.
 #![tactic(auto)]
 
-ghost use Rattle.std.specs.Prelude.{◌≡◌, ◌↔◌, [], length, None, IfOk, IsOk, IsSome, OnErr, OnOk};
+ghost use Rattle.std.specs.Prelude.{◌≡◌, [], length, None, IfOk, IsSome, OnErr, OnOk};
 ghost use Rattle.std.specs.List.Sorted.{IsStrictlyIncreasing};
 ghost use Rattle.cell_store.specs.Calls.{put_row, fetched, front_of, looked, with_shadow, without_bare, keys_of_version, AreFalling, AreOrdered, AreUpto, HasOnly, IsBare, IsOneCall, UnlessNoMemory, OnNoMemory, fated};
 ghost use Rattle.cell_store.specs.Shadow.{shadow_at};
@@ -20,6 +20,7 @@ use std::alloc::Global;
 use std::cmp::Reverse;
 use std::collections::BTreeSet;
 use std::marker::Model;
+use store_parts::answered_under;
 pub use store_parts::{Cell, StoreError, StoreFault};
 
 /// The cells of a store, seen as their rows in ascending order of key and version.
@@ -63,7 +64,7 @@ impl Cells {
         }
     }
 
-    /// Adds a bare row, or replaces the value of the row that is there. After NoMemory the store is as before and the
+    /// Writes a value into the row that is there, or as a new bare one. After NoMemory the store is as before and the
     /// weather was not asked; after a StoreFault the row was put exactly where the fate is FailsApplied.
     #[tactic(auto, using(crate::proofs::Entries::kept_entry))]
     pub fn put<W: Weather>(
@@ -139,7 +140,7 @@ impl Cells {
         answered_under(weather.next(Store::Cells), found)
     }
 
-    /// The shadow of the row of the key and the version, without a store call. None exactly where that row is bare or not there.
+    /// The shadow of the row of the key and the version, without a store call. None exactly of a bare row, and where there is none.
     pub fn shadow_of(&self, key: KeyNo, version: Stamp) -> Option<Stamp>
         ensures { result ≡ shadow_at self.now.rows key version }
     {
@@ -165,7 +166,7 @@ impl Cells {
         answered_under(fate, ())
     }
 
-    /// Removes the row only where it has no shadow.
+    /// Removes a bare row. One with a shadow stays.
     pub fn remove_bare<W: Weather>(
         &mut self,
         weather: &mut W,
@@ -276,17 +277,5 @@ impl Cells {
             self.rows.remove_bare(key, version);
             self.index.remove(&(Reverse(version), key));
         }
-    }
-}
-
-/// The answer where the call works, and otherwise a fault.
-fn answered_under<T: Drop>(fate: Fate, answer: T) -> Result<T, StoreFault>
-    ensures answer { IsOk result ↔ (fate ≡ Fate.Works) }
-    ensures value { IfOk result (λ given. given ≡ answer) }
-{
-    if fate.works() {
-        Ok(answer)
-    } else {
-        Err(StoreFault)
     }
 }

@@ -41,7 +41,7 @@ pub record CanServe (script : ScriptData) (p : Played) (node : ℕ) : Type 0 whe
   pub slot : in_flight oracle < oracle.slots
   -- the lease stands
   pub leased : reading_of script p node < oracle.until
-  -- a stamp is left, or the range can be extended, and the instance keeps no refusal of the record
+  -- the instance has a stamp at hand or can get a further range, and keeps no refusal of the record
   pub stamp : HasStamp script p oracle
   pub goes_on : oracle.stop ≡ None
 

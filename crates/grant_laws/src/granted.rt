@@ -21,7 +21,7 @@ pub fn takes_are_granted()
 }
 
 /// A begin line of a free session appends its begin, by the next stamp of the node's instance, where that is the one of the
-/// record's term with a slot free and its lease standing, a stamp is left or the range can be extended, and it keeps no refusal
+/// record's term with a slot free and its lease standing, has a stamp at hand or can get a further range, and keeps no refusal
 /// of the record. Where the instance has drawn a commit that is not settled the session is told to wait, by the least of these.
 pub fn begins_are_granted()
     ensures { BeginsAreGranted }
@@ -39,9 +39,9 @@ pub fn direct_begins_never_wait()
 
 /// A commit line of an open transaction that has written appends its commit, by the next stamp of the node's instance, whatever
 /// came before, faults and takeovers included: where no read is under way, the instance is the one of the record's term with a
-/// slot free and its lease standing, the transaction began above its epoch, the conflict memory is free of its keys, a stamp is
-/// left or the range can be extended, the instance keeps no refusal, nobody has marked the transaction, and the commit table's
-/// next call works. What the completion meets then takes nothing back.
+/// slot free and its lease standing, the transaction began above its epoch, the conflict memory is free of its keys, the
+/// instance has a stamp at hand or can get a further range and keeps no refusal, nobody has marked the transaction, and the
+/// commit table's next call works. What the completion meets then takes nothing back.
 pub fn commits_are_granted()
     ensures { CommitsAreGranted }
 {

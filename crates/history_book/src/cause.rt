@@ -25,7 +25,7 @@ pub enum Cause {
     Crashed { node: NodeNo, term: Term },
     /// A commit that was drawn below the start is not settled.
     NotYet { commit: Stamp },
-    /// The session has no request in that place of that instance.
+    /// The instance holds no request of the session, or none in that place.
     NoRequest { session: SessionNo },
     /// The node has no instance.
     NoOracle { node: NodeNo },

@@ -18,7 +18,7 @@ pub enum Format {
 }
 
 /// The items that the lines are, all in one format: JSON where the first line that says something begins with a
-/// brace. Empty lines are skipped, and the last line feed may be missing.
+/// brace. A line of no bytes says nothing, and the last line may end without a line feed.
 pub fn read_history(alloc: Global, bytes: &[u8]) -> Result<Vec<Item>, HistoryFault>
     ensures read { IfOk result (λ items. AreItems bytes.now items.items) }
     ensures bad { IfErr result (λ fault. IsFaultOf bytes.now fault) }

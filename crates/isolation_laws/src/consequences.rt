@@ -21,8 +21,8 @@ pub fn draws_keep_terms()
     ensures { (w : State) (h : List Item) → Stands w h → DrawsKeepTerms w h }
 {}
 
-/// Where an instance may accept, nobody has taken a later term: every accept of a term stands before the first take of a
-/// higher one.
+/// Where an instance may accept, nobody has taken a later term: once a higher term was taken, no instance of a lower one
+/// accepts any more.
 pub fn leases_are_of_the_term()
     ensures { (w : State) (h : List Item) → Stands w h → LeasesAreOfTheTerm w }
 {}

@@ -1,5 +1,5 @@
-//! What `omid` answers to a replay, a run on threads and a script with a bad line, over bytes in memory: one stored run shows them all,
-//! as both compilers build it. `omid` itself has a stored run too, by its own standard input and output.
+//! What `omid` answers to a replay, an audit and a script with a bad line, over bytes in memory: one stored run shows them all, as both
+//! compilers build it. `omid` itself has a stored run too, on threads, by its own standard input and output.
 #![tactic(auto)]
 
 use std::io;
@@ -16,33 +16,16 @@ s1 read k0
 s1 commit a
 ";
 
-/// A takeover while a stage is held. The lines wait for each other by names, so that there is one order to make them in.
-const ON_THREADS: &str = "\
-a take
-a post p1
-s0 await p1
-s0 begin a
-s0 write k0 v
-s0 post p2
-a await p2
-a hold persist
-a post p3
-s0 await p3
-s0 submit a
-s0 post p4
-clock await p4
-clock tick 12
-clock post p5
-b await p5
-b take
-b post p6
-s1 await p6
-s1 begin b
-s1 read k0
-s1 post p7
-a await p7
-a free persist
-s0 collect
+/// Two commits of one key, neither of which is below the start of the other.
+const AUDITED: &str = "\
+ask-begin s0 a
+begin s0 start=1
+ask-begin s1 a
+begin s1 start=2
+write s0 start=1 k0 p
+write s1 start=2 k0 q
+placed start=1 commit=3
+placed start=2 commit=4
 ";
 
 /// The second line names a node that is none.
@@ -53,7 +36,7 @@ s1 begin z
 
 const CALLS: [(&str, &str); 3] = [
     ("replay", REPLAYED),
-    ("run", ON_THREADS),
+    ("audit", AUDITED),
     ("replay", WITH_A_BAD_LINE),
 ];
 

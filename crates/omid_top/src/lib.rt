@@ -27,6 +27,7 @@ mod status;
 mod usage;
 mod waiting;
 mod words;
+mod yields;
 
 use form::Form;
 use port_io::{Sink, Source};

@@ -12,12 +12,13 @@ use std::env::{Env, FillError};
 use std::io::{Stderr, Stdin, Stdout};
 use std::sync::Wait;
 use std::thread::Threads;
+use std::time::Clock;
 
 /// Carries out what the words behind the program's name ask for, from standard input to standard output, and gives
 /// the status that the process ends with. Where `errors` is a terminal, it shows there how far a long script is
 /// carried out. The status is that of `omid`, or 5 where standard output did not take all to the
 /// end, or 6 where there is no memory for the words.
-pub fn program<R: Env + Alloc<A = Global> + Threads + Wait + Sync>(
+pub fn program<R: Env + Alloc<A = Global> + Clock + Threads + Wait + Sync>(
     rt: &R,
     input: Stdin,
     output: Stdout,
@@ -31,7 +32,7 @@ pub fn program<R: Env + Alloc<A = Global> + Threads + Wait + Sync>(
             &words,
             StdSource::new(input),
             StdSink::new(output),
-            &ShowingGate::new(errors),
+            &ShowingGate::new(rt, errors),
         ),
         Err(NoMemory) => Status::NO_MEMORY,
     }
@@ -67,12 +68,12 @@ fn text_of(alloc: Global, bytes: &[u8]) -> Result<String, NoMemory>
 }
 
 /// Calls `omid`, and then ends standard output.
-fn carried_out<R: Alloc<A = Global> + Threads + Wait + Sync>(
+fn carried_out<R: Alloc<A = Global> + Clock + Threads + Wait + Sync>(
     rt: &R,
     words: &[String],
     mut source: StdSource,
     mut sink: StdSink,
-    gate: &ShowingGate,
+    gate: &ShowingGate<'_, R>,
 ) -> Status
     ensures usage { result.code ≡ 2 → IsKnown (map string_bytes words.now) → ⊥ }
     ensures no_command { (IsKnown (map string_bytes words.now) → ⊥) → (result.code ≡ 2) ⊎ (result.code ≡ 5) }

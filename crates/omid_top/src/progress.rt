@@ -1,9 +1,11 @@
 // Showing how far a replay is, and what the lines of a run wait for that goes on no more.
 use crate::waiting::show_wait;
+use crate::yields::Yields;
 use replay_driver::Progress;
 use run_driver::{Gate, GatePlace, WaitsFor};
 use std::io::{IsTerminal, Stderr};
 use std::sync::Wait;
+use std::time::Clock;
 
 /// More lines than a script has that is carried out before a line of progress could be read.
 const LONG: usize = 10_000;
@@ -12,15 +14,20 @@ const LONG: usize = 10_000;
 const TIMES: usize = 100;
 
 /// The program's gate: it is always open, and shows on standard error how far the replay of a long script is, and what the lines of
-/// a run wait for while nobody makes an event, where that is a terminal. Nobody hears of what standard error does not take.
+/// a run wait for while nobody makes an event, where that is a terminal. Nobody hears of what standard error does not take. Threads
+/// that wait give their processors away only while that is short, by the clock.
 #[derive(Drop)]
-pub struct ShowingGate {
+pub struct ShowingGate<'a, C: Clock + Sync> {
+    clock: &'a C,
+    yields: Yields,
     terminal: Option<Stderr>,
 }
 
-impl ShowingGate {
-    pub fn new(errors: Stderr) -> ShowingGate {
+impl<'a, C: Clock + Sync> ShowingGate<'a, C> {
+    pub fn new(clock: &'a C, errors: Stderr) -> ShowingGate<'a, C> {
         ShowingGate {
+            clock,
+            yields: Yields::new(),
             terminal: if errors.is_terminal() {
                 Some(errors)
             } else {
@@ -30,7 +37,7 @@ impl ShowingGate {
     }
 }
 
-impl Gate for ShowingGate {
+impl<C: Clock + Sync> Gate for ShowingGate<'_, C> {
     fn pass<R: Wait>(&self, _rt: &R, _place: GatePlace) {}
 
     fn carried_out(&self, lines: usize, of: usize) {
@@ -49,6 +56,10 @@ impl Gate for ShowingGate {
         if let Some(errors) = &self.terminal {
             show_wait(errors, line, on);
         }
+    }
+
+    fn give_way(&self) {
+        self.yields.give_way(self.clock);
     }
 }
 

@@ -110,11 +110,11 @@ verdict buckets start (key ∷ keys) = first_refusal (key_verdict (bucket_of buc
 abbrev pub verdict_both : List Bucket → ℕ → List ℕ → List ℕ → Verdict
 verdict_both buckets start written read = first_refusal (verdict buckets start written) (verdict buckets start read)
 
--- no commit is below an earlier one
+-- commits never fall
 abbrev pub CommitsRise : List Recorded → Type 0
 CommitsRise pairs = AllPairs (λ earlier later. earlier.commit ≤ later.commit) pairs
 
--- the last commit recorded for a key
+-- the commit that was recorded last for a key
 unfoldable pub last_commit : List Recorded → ℕ → Option ℕ
 last_commit [] key = None
 last_commit (pair ∷ later) key = option_or (last_commit later key) (if pair.key == key then Some pair.commit else None)

@@ -31,8 +31,8 @@ pub fn last_commits_are_the_greatest()
         IsSomeAnd (memory.last_commit pairs key) (λ last. commit ≤ last) }
 {}
 
-/// Where commits never fall, the last commit recorded for a key is kept with that key, or is at most the water of its
-/// bucket.
+/// Where commits never fall, a bucket remembers what was recorded last for a key, or its water has come up to that
+/// commit.
 pub fn last_commits_are_remembered()
     ensures { (count width : ℕ) (pairs : List Recorded) (key commit : ℕ) →
         1 ≤ count → 1 ≤ width → memory.CommitsRise pairs → memory.last_commit pairs key ≡ Some commit →

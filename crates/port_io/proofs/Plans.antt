@@ -1,10 +1,12 @@
 -- For this crate's own proofs.
 -- What a plan has ahead after one call, and what it has for a fault that it names.
-use Rattle.std.proofs.Common.{◌≡◌, ◌≢◌, ℕ, zero, suc, ◌+◌, ◌-◌, ◌<◌, true, false, List, [], ◌∷◌, length, get_or, map, All, inl, inr, eqb, if◌then◌else◌, refl, sym, ap, ◌∙◌, arith}
+use Rattle.std.proofs.Common.{◌≡◌, ◌≢◌, ℕ, zero, suc, ◌+◌, ◌-◌, ◌^◌, ◌<◌, ◌≤◌, true, false, List, [], ◌∷◌, length, get_or, All, inl, inr, refl, sym, ap, ◌∙◌, arith}
 use Rattle.std.proofs.lemmas.Bool.Decides.{nat_tests}
-use Rattle.std.proofs.lemmas.Bool.{cases_Bool}
+use Rattle.std.proofs.lemmas.Bool.{cases_Bool, cases_lt}
 use Rattle.port_io.specs.Fates.{Store, Cells, Table, Master, Works}
-use Rattle.port_io.specs.Planned.{PlannedFault, OneEach, same_store, is_of, planned_fate, one_call_later}
+use Rattle.port_io.specs.Memory.{one_more}
+use Rattle.port_io.specs.Planned.{PlannedFault, OneEach, same_store, is_of, planned_fate, made_on, one_counted}
+use Rattle.port_io.specs.declared.planned.Made.{Made}
 
 same_store-is : (a b : Store) → same_store a b ≡ true → a ≡ b
 same_store-is Cells Cells e = refl
@@ -17,28 +19,51 @@ same_store-is Table Master e = cc
 same_store-is Master Cells e = cc
 same_store-is Master Table e = cc
 
--- a number that counts from one call later is reached one call earlier
-number_later : (number n : ℕ) → eqb (number - 1) (n + 1) ≡ eqb number (n + 1 + 1)
-number_later number n = grind (arith, nat_tests)
+abbrev pub none_made : Made
+none_made = record { cells = 0; table = 0; master = 0 }
 
-pub moved_fate : (plan : List PlannedFault) (store : Store) (n : ℕ) → planned_fate (map (one_call_later store) plan) store (n + 1) ≡ planned_fate plan store (n + 1 + 1)
-unfolding planned_fate
-moved_fate [] store n = refl
-moved_fate (fault ∷ plan) store n = elim (cases_Bool (same_store fault.0 store)) [
-  | inl same ↦ rw (same, same, number_later fault.1 n, moved_fate plan store n) refl
-  | inr other ↦ rw (other, other) (moved_fate plan store n)
+at_first : (store : Store) → made_on none_made store ≡ 0
+at_first Cells = refl
+at_first Table = refl
+at_first Master = refl
+
+own_counted : (made : Made) (store : Store) → made_on (one_counted made store) store ≡ one_more (made_on made store)
+own_counted made Cells = refl
+own_counted made Table = refl
+own_counted made Master = refl
+
+other_counted : (made : Made) (store other : Store) → other ≢ store → made_on (one_counted made store) other ≡ made_on made other
+other_counted made Cells Cells apart = absurd (apart refl)
+other_counted made Table Table apart = absurd (apart refl)
+other_counted made Master Master apart = absurd (apart refl)
+other_counted made Cells Table apart = refl
+other_counted made Cells Master apart = refl
+other_counted made Table Cells apart = refl
+other_counted made Table Master apart = refl
+other_counted made Master Cells apart = refl
+other_counted made Master Table apart = refl
+
+-- before any call a plan's numbers are those of the fates ahead
+pub first_fate : (plan : List PlannedFault) (store : Store) (n : ℕ) → planned_fate plan store (made_on none_made store + n + 1) ≡ planned_fate plan store (n + 1)
+first_fate plan store n = ap (planned_fate plan store) (omega (arith, at_first store))
+
+-- where the count is full, no number past the last one is planned
+abbrev pub IsPast : List PlannedFault → Store → ℕ → Type 0
+IsPast plan store made = 2 ^ 64 ≤ made + 1 → (number : ℕ) → 2 ^ 64 ≤ number → planned_fate plan store number ≡ Works
+
+same_ahead : (plan : List PlannedFault) (store : Store) (made n : ℕ) → IsPast plan store made → planned_fate plan store (one_more made + n + 1) ≡ planned_fate plan store (made + (n + 1) + 1)
+same_ahead plan store made n past = elim (cases_lt made (2 ^ 64 - 1)) [
+  | inl free ↦ ap (planned_fate plan store) (omega (arith, free))
+  | inr full ↦ past (omega (arith, full)) _ (omega (arith, full)) ∙ sym (past (omega (arith, full)) _ (omega (arith, full)))
 ]
 
-pub kept_fate : (plan : List PlannedFault) (store other : Store) (n : ℕ) → other ≢ store → planned_fate (map (one_call_later store) plan) other n ≡ planned_fate plan other n
-unfolding planned_fate
-kept_fate [] store other n apart = refl
-kept_fate (fault ∷ plan) store other n apart = elim (cases_Bool (same_store fault.0 store)) [
-  | inl same ↦ elim (cases_Bool (same_store fault.0 other)) [
-    | inl too ↦ absurd (apart (sym (same_store-is fault.0 other too) ∙ same_store-is fault.0 store same))
-    | inr not ↦ rw (same, not) (kept_fate plan store other n apart)
-  ]
-  | inr not ↦ rw not (ap (λ f. if is_of other n fault then fault.2 else f) (kept_fate plan store other n apart))
-]
+-- once a call on the store was counted, its fates ahead are one call further on
+pub moved_fate : (plan : List PlannedFault) (made : Made) (store : Store) (n : ℕ) → IsPast plan store (made_on made store) → planned_fate plan store (made_on (one_counted made store) store + n + 1) ≡ planned_fate plan store (made_on made store + (n + 1) + 1)
+moved_fate plan made store n past = rw (own_counted made store) (same_ahead plan store (made_on made store) n past)
+
+-- and those of another store are as before
+pub kept_fate : (plan : List PlannedFault) (made : Made) (store other : Store) (n : ℕ) → other ≢ store → planned_fate plan other (made_on (one_counted made store) other + n + 1) ≡ planned_fate plan other (made_on made other + n + 1)
+kept_fate plan made store other n apart = rw (other_counted made store other apart) refl
 
 same_store-self : (store : Store) → same_store store store ≡ true
 same_store-self Cells = refl

@@ -1,6 +1,8 @@
 -- Faults that were planned: a store, the number of the call on it, counted from 1, and that call's fate.
-use Rattle.std.specs.Prelude.{◌≡◌, ◌≢◌, ℕ, ◌-◌, ◌==◌, Bool, true, false, ◌&&◌, if◌then◌else◌, List, [], ◌∷◌, AllPairs}
+use Rattle.std.specs.Prelude.{◌≡◌, ◌≢◌, ℕ, ◌==◌, Bool, true, false, ◌&&◌, if◌then◌else◌, List, [], ◌∷◌, AllPairs}
 use Rattle.port_io.specs.Fates.{Store, Cells, Table, Master, Fate, Works}
+use Rattle.port_io.specs.Memory.{one_more}
+use Rattle.port_io.specs.declared.planned.Made.{Made}
 
 -- a planned fault: the store, the number of the call and the fate
 abbrev pub PlannedFault : Type 0
@@ -25,7 +27,14 @@ planned_fate (fault ∷ faults) store number = if is_of store number fault then 
 abbrev pub OneEach : List PlannedFault → Type 0
 OneEach faults = AllPairs (λ a b. a.0 ≡ b.0 → a.1 ≢ b.1) faults
 
--- the fault when one more call on the store has been made: its number counts from the next call on,
--- and 0 is a call that has been
-abbrev pub one_call_later : Store → PlannedFault → PlannedFault
-one_call_later store fault = if same_store fault.0 store then (fault.0, fault.1 - 1, fault.2) else fault
+-- how many calls were made on the store, of what was counted for the three
+abbrev pub made_on : Made → Store → ℕ
+made_on made Cells = made.cells
+made_on made Table = made.table
+made_on made Master = made.master
+
+-- one more call on the store is counted, as far as a count of 64 bits goes
+abbrev pub one_counted : Made → Store → Made
+one_counted made Cells = record made { cells = one_more made.cells }
+one_counted made Table = record made { table = one_more made.table }
+one_counted made Master = record made { master = one_more made.master }

@@ -1,6 +1,7 @@
 // The weather of a plan.
-ghost use Rattle.std.specs.Prelude.{◌≡◌, ◌≢◌, ℕ, ◌+◌, ◌-◌, ◌<◌, All, Contains, map};
-ghost use Rattle.port_io.specs.Planned.{PlannedFault, OneEach, planned_fate, one_call_later};
+ghost use Rattle.std.specs.Prelude.{◌≡◌, ◌≢◌, ℕ, ◌+◌, ◌^◌, ◌≤◌, All, Contains};
+ghost use Rattle.port_io.specs.Memory.{one_more};
+ghost use Rattle.port_io.specs.Planned.{PlannedFault, OneEach, planned_fate, made_on, one_counted};
 
 use crate::weather::counted;
 use crate::{Fate, Store, Weather};
@@ -8,9 +9,18 @@ use crate::{Fate, Store, Weather};
 /// Faults at calls that were named beforehand, each by its store and its number. Every other call works.
 #[derive(Drop)]
 pub struct PlannedWeather {
-    // The numbers count from the next call on. 0 is a call that has been, or never comes.
+    // The plan stays as it was given. A call on a store is found in it by the calls that were made there before.
     plan: Vec<(Store, u64, Fate)>,
+    made: Made,
     faults: u64,
+}
+
+// How many calls were made so far on each store. A count that is full stays so, and no number of the plan lies above it.
+#[derive(Clone, Copy)]
+struct Made {
+    cells: u64,
+    table: u64,
+    master: u64,
 }
 
 impl PlannedWeather {
@@ -29,51 +39,66 @@ impl PlannedWeather {
     {
         PlannedWeather {
             plan: faults,
+            made: Made {
+                cells: 0,
+                table: 0,
+                master: 0,
+            },
             faults: 0,
         }
     }
 }
 
 impl Weather for PlannedWeather {
-    ghost ahead = { λ w store n. planned_fate w.plan.items store (n + 1) };
+    ghost ahead = { λ w store n. planned_fate w.plan.items store (made_on w.made store + n + 1) };
 
     ghost faults = { λ w. w.faults };
 
     #[tactic(auto, using(crate::proofs::Plans::moved_fate, crate::proofs::Plans::kept_fate))]
     fn next(&mut self, store: Store) -> Fate {
-        let fate = next_fate(&self.plan, store);
-        move_on(&mut self.plan, store);
+        let made = self.made.count(store);
+        let fate = fate_after(&self.plan, store, made);
         self.faults = counted(self.faults, fate);
         fate
     }
 }
 
+impl Made {
+    /// One more call on the store, and how many were made there before it.
+    fn count(&mut self, store: Store) -> u64
+        ensures before { result ≡ made_on self.old store }
+        ensures counted { self.new ≡ one_counted self.old store }
+    {
+        match store {
+            Store::Cells => count_one(&mut self.cells),
+            Store::Table => count_one(&mut self.table),
+            Store::Master => count_one(&mut self.master),
+        }
+    }
+}
+
+/// One more is counted, and how many there were before is given back.
+fn count_one(count: &mut u64) -> u64
+    ensures before { result ≡ count.old }
+    ensures counted { count.new ≡ one_more count.old }
+{
+    let before = *count;
+    *count = before.saturating_add(1);
+    before
+}
+
+/// The fate of the call on the store that comes after so many. Where so many is the last number there is, the walk over
+/// the plan shows that none of its faults is of a later call.
 #[tactic(auto, unfolding(crate::specs::Planned::planned_fate))]
-fn next_fate(plan: &[(Store, u64, Fate)], store: Store) -> Fate
-    ensures { result ≡ planned_fate plan.now store 1 }
+fn fate_after(plan: &[(Store, u64, Fate)], store: Store, made: u64) -> Fate
+    ensures fate { result ≡ planned_fate plan.now store (made + 1) }
+    ensures past { 2 ^ 64 ≤ made + 1 → (number : ℕ) → 2 ^ 64 ≤ number → planned_fate plan.now store number ≡ Fate.Works }
 {
     for fault in plan {
-        if fault.0 == store && fault.1 == 1 {
+        // The number first, since it tells more than the store.
+        if made < fault.1 && fault.1 - made == 1 && fault.0 == store {
             return fault.2;
         }
     }
     Fate::Works
-}
-
-fn move_on(plan: &mut Vec<(Store, u64, Fate)>, store: Store)
-    ensures { plan.new.items ≡ map (one_call_later store) plan.old.items }
-{
-    for i in 0..plan.len() {
-        plan[i] = moved(plan[i], store);
-    }
-}
-
-fn moved(fault: (Store, u64, Fate), store: Store) -> (Store, u64, Fate)
-    ensures { result ≡ one_call_later store fault }
-{
-    if fault.0 == store {
-        (fault.0, fault.1.saturating_sub(1), fault.2)
-    } else {
-        fault
-    }
 }

@@ -4,7 +4,7 @@ ghost use Rattle.reply_pipeline.specs.Requesting.{entry_of};
 ghost use Rattle.reply_pipeline.specs.Telling.{drawn_by, is_over, IsSaidOf};
 
 use crate::ending::StageEnd;
-use crate::gate::{Gate, GatePlace};
+use crate::gate::{Gate, GatePlace, GateWay};
 use batch_pool::{Batch, Entry};
 use history_book::{Actor, Cause};
 use stage_queues::{Queues, Ticket, Waiter};
@@ -143,9 +143,14 @@ impl<B: Steps, G: Gate> Desk<'_, B, G> {
     /// Waits until the stage is woken, and ends it where the queues are closed.
     pub fn wait<R: Wait>(&self, rt: &R, stage: Stage, worker: u64) -> Result<(), StageEnd> {
         self.go_on()?;
-        self.queues
-            .wait(rt, Waiter::Stage(self.node, stage, worker));
+        self.rest(rt, stage, worker);
         Ok(())
+    }
+
+    fn rest<R: Wait>(&self, rt: &R, stage: Stage, worker: u64) {
+        let way = GateWay { gate: self.gate };
+        self.queues
+            .wait_giving_way(rt, &way, Waiter::Stage(self.node, stage, worker));
     }
 
     /// For a stage that found the queue of the next one full: asks for room, and where it has asked since it last waited, waits until
@@ -191,8 +196,7 @@ impl<B: Steps, G: Gate> Desk<'_, B, G> {
             if self.queues.is_due(self.node) || self.queues.closed() {
                 return;
             }
-            self.queues
-                .wait(rt, Waiter::Stage(self.node, Stage::Request, 0));
+            self.rest(rt, Stage::Request, 0);
         }
         unreachable!()
     }

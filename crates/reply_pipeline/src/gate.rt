@@ -1,4 +1,6 @@
+use stage_queues::GivesWay;
 use stamp_base::{Name, NodeNo, Stage};
+use std::hint::spin_loop;
 use std::sync::Wait;
 
 /// A stage of a node.
@@ -18,7 +20,7 @@ pub enum WaitsFor {
 }
 
 /// Is passed before each step of a stage, outside all locks. It may keep a stage waiting. And it is told how far a replay is,
-/// which has no stages.
+/// which has no stages. All but `pass` have default bodies, and no promise rests on any of them.
 pub trait Gate: Sync {
     fn pass<R: Wait>(&self, rt: &R, place: GatePlace);
 
@@ -33,6 +35,29 @@ pub trait Gate: Sync {
 
     /// The line of this number waits, and nobody has made an event for two seconds. By default, it does nothing.
     fn waits(&self, _line: u64, _on: WaitsFor) {}
+
+    /// Is called by a thread that waits, between two looks whether it was woken. By default the thread keeps its processor: beside
+    /// other processes, one that gives it away may get it back only after milliseconds.
+    fn give_way(&self) {
+        spin_loop();
+    }
+
+    /// Whether one more thread may be started. False is as if the system refused it. By default, always.
+    fn may_start_thread(&self) -> bool {
+        true
+    }
+}
+
+/// A gate, where a thread that waits asks how it gives way.
+#[derive(Drop)]
+pub struct GateWay<'a, G: Gate> {
+    pub gate: &'a G,
+}
+
+impl<G: Gate> GivesWay for GateWay<'_, G> {
+    fn give_way(&self) {
+        self.gate.give_way();
+    }
 }
 
 /// A gate that is always open, and says nothing.

@@ -12,7 +12,7 @@ mod tickets;
 mod told;
 
 pub use ending::StageEnd;
-pub use gate::{Gate, GatePlace, OpenGate, WaitsFor};
+pub use gate::{Gate, GatePlace, GateWay, OpenGate, WaitsFor};
 pub use persist::persist_worker;
 pub use reply::reply_stage;
 pub use request::request_stage;

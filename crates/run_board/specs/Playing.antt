@@ -76,7 +76,7 @@ LacksAtRequest stage step.NoMemory = stage ≡ Request
 LacksAtRequest stage result = Unit {0}
 
 -- ---- the end
--- every share is there, every cursor is at its end, and the script is this one
+-- no share is missing, no cursor has a line left, and the script is this one
 pub record IsOver (script : ScriptData) (p : Played) (shares : List Done) : Type 0 where
   pub same_script : p.ran.script ≡ script
   pub all_shares : length shares ≡ length p.cursors

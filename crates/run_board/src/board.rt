@@ -18,15 +18,15 @@ use line_shares::{ActorShare, Cursors};
 use session_script::Script;
 use stamp_base::{NoMemory, NodeNo, SessionNo, Stage, Term};
 use std::alloc::Global;
+use std::hint::spin_loop;
 use std::sync::ledger::{Blank, Ledger};
 use std::sync::{Mutex, MutexGuard, Wait};
-use std::thread::yield_now;
 use thread_scripts::{actors_with_lines, copied};
 use thread_steps::{ActorStep, ActorSteps, Steps};
 use turn_engine::{Advance, StageStep, Turn};
 
-/// How often a thread tries for the lock before it sleeps.
-const TRIES: u64 = 100;
+/// How often a thread tries for the lock before it sleeps: for some tens of microseconds, which is many events.
+const TRIES: u64 = 1_000;
 
 /// A play behind a lock, and its script once more.
 #[derive(Drop)]
@@ -70,13 +70,14 @@ impl<L: Ledger> Board<L> {
     }
 
     // The play, once nobody else has it. An event takes about a microsecond, and to sleep and be woken several; so who finds the lock
-    // taken gives way and tries again some times before it sleeps.
+    // taken tries again some times before it sleeps. It keeps its processor meanwhile, since beside other processes it might get it
+    // back only after milliseconds.
     fn taken<R: Wait>(&self, rt: &R) -> MutexGuard<'_, Play<L>> {
         for _try in 0..TRIES {
             if let Some(play) = self.play.try_lock() {
                 return play;
             }
-            yield_now();
+            spin_loop();
         }
         self.play.lock(rt)
     }

@@ -147,8 +147,8 @@ impl<L: Ledger> Play<L> {
         self.run.turns_made()
     }
 
-    /// The cluster and the turns that led there. Err exactly where a share is missing, a cursor is not at its end, or the script
-    /// is another; all is handed back then.
+    /// The cluster and the turns that led there. Err exactly where a share is missing, a line is left at some cursor, or the
+    /// script is another; all is handed back then.
     pub fn finish(
         self,
         script: &Script,

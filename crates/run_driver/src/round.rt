@@ -1,5 +1,5 @@
 // What a round over a script's actors and stages has asked the board for.
-ghost use Rattle.std.specs.Prelude.{◌≡◌, ◌+◌, ◌<◌, ◌^◌, ◌||◌, IfOk};
+ghost use Rattle.std.specs.Prelude.{◌≡◌, ◌+◌, ◌<◌, ◌≤◌, ◌^◌, ◌||◌, IfOk, true};
 ghost use Rattle.run_driver.specs.Rounds.{is_made, step_of};
 
 use history_book::{Actor, Cause};
@@ -31,7 +31,7 @@ impl Round {
         }
     }
 
-    /// Whether an event was made in it.
+    /// Whether an event was made in it, or a share came up.
     pub fn made(&self) -> bool
         ensures { result ≡ self.now.made }
     {
@@ -63,10 +63,12 @@ impl Round {
 #[derive(Drop)]
 pub struct Stands {
     actor: Actor,
+    // Whether an event was made, or the share came up.
     made: bool,
 }
 
-/// Makes the events of the share's actor until its line waits or none is left.
+/// Makes the events of the share's actor until its line waits or none is left. A share may come up with no event: its last line was
+/// brought to its end by the step of a stage.
 pub fn carry_on<L: Ledger, R: Wait, B: Steps + ActorSteps<L>>(
     rt: &R,
     board: &B,
@@ -74,21 +76,35 @@ pub fn carry_on<L: Ledger, R: Wait, B: Steps + ActorSteps<L>>(
     mine: &mut ActorShare<L>,
 ) -> Result<Stands, NoMemory>
     ensures stands { IfOk result (λ stands. stands.actor ≡ mine.old.actor) }
+    ensures risen { IfOk result (λ stands. mine.old.amount < mine.new.amount → stands.made ≡ true) }
+    ensures no_fall { mine.old.amount ≤ mine.new.amount }
     ensures actor { mine.new.actor ≡ mine.old.actor }
 {
     let actor = mine.actor();
-    let mut made = false;
+    let before = mine.done();
+    let mut did = false;
     for _ in rt.forever() {
         if let Actor::Session(_) = actor {
             aim_at_master(rt, board, nodes, mine);
         }
         match board.actor_step(rt, mine) {
-            ActorStep::Did { .. } => made = true,
-            ActorStep::Waits | ActorStep::Ended => return Ok(Stands { actor, made }),
+            ActorStep::Did { .. } => did = true,
+            ActorStep::Waits | ActorStep::Ended => return Ok(stands(mine, before, did)),
             ActorStep::NoMemory => return Err(NoMemory),
         }
     }
     unreachable!()
+}
+
+// That the share's actor goes no further, which did count so many lines before.
+fn stands<L: Ledger>(mine: &ActorShare<L>, before: u64, did: bool) -> Stands
+    ensures actor { result.actor ≡ mine.now.actor }
+    ensures risen { before < mine.now.amount → result.made ≡ true }
+{
+    Stands {
+        actor: mine.actor(),
+        made: did || before < mine.done(),
+    }
 }
 
 // The node whose oracle has the greatest term. Where there is none the share stays aimed as it was.
@@ -98,7 +114,7 @@ fn aim_at_master<L: Ledger, R: Wait, B: Steps>(
     nodes: u64,
     mine: &mut ActorShare<L>,
 )
-    ensures { mine.new.actor ≡ mine.old.actor }
+    ensures { (mine.new.actor ≡ mine.old.actor) × (mine.new.amount ≡ mine.old.amount) }
 {
     let mut greatest = 0;
     for number in 0..nodes {

@@ -13,7 +13,7 @@ pub record IsBalanced (items : List Numbered) (accounts : List SettledAccount) :
   pub weights : (weight : Numbered → ℕ) → sum_by (λ a. sum_by weight a.put) accounts ≡ sum_by (λ a. sum_by weight a.taken) accounts + sum_by weight items
   pub idle : (pass : ℕ) (a : SettledAccount) → get_elem? accounts pass ≡ some a → a.parts ≡ 0 → (a.put ≡ []) × (a.taken ≡ [])
 
--- With every part: each batch was taken at most as often as it was put, and nothing else was taken
+-- With every part: no batch was taken more often than it was put, and nothing that was not put
 abbrev pub IsFair : SettledAccount → Type 0
 IsFair a = a.parts ≡ whole → (weight : Numbered → ℕ) → sum_by weight a.taken ≤ sum_by weight a.put
 

@@ -1,4 +1,4 @@
-//! The ring of settled batches, and the rule that it keeps: a batch is taken at most as often as it was put.
+//! The ring of settled batches, and the rule that it keeps: no batch is taken more often than it was put.
 #![tactic(auto)]
 
 mod account;

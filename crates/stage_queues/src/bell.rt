@@ -1,7 +1,8 @@
 // Where a thread waits until it is rung for, and looks for a while before it parks.
+use crate::giving_way::GivesWay;
 use std::sync::Wait;
 use std::sync::atomic::{AtomicBool, AtomicUsize, Ordering};
-use std::thread::{Parker, yield_now};
+use std::thread::Parker;
 use std::time::Duration;
 
 /// How often a thread looks at its bell before it parks. One stage hands a request to the next in some three microseconds, and a look
@@ -37,12 +38,12 @@ impl Bell {
     }
 
     // Gives way to other threads until the bell is rung, for a while.
-    fn watch(&self) {
+    fn watch<W: GivesWay>(&self, way: &W) {
         for _look in 0..LOOKS {
             if self.rung.load(Ordering::SeqCst) {
                 return;
             }
-            yield_now();
+            way.give_way();
         }
     }
 
@@ -74,9 +75,9 @@ impl Watchers {
     }
 
     /// Looks at the bell for a while, unless enough threads do so.
-    pub fn watch(&self, bell: &Bell) {
+    pub fn watch<W: GivesWay>(&self, bell: &Bell, way: &W) {
         if self.count.fetch_add(1, Ordering::SeqCst) < MOST {
-            bell.watch();
+            bell.watch(way);
         }
         self.count.fetch_sub(1, Ordering::SeqCst);
     }

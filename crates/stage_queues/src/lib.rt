@@ -6,6 +6,7 @@ mod batch_queue;
 mod bell;
 mod buffers;
 mod gathering;
+mod giving_way;
 mod laws;
 mod node;
 mod node_pass;
@@ -18,6 +19,7 @@ mod sizes;
 mod waiting;
 
 pub use batch_queue::BatchQueue;
+pub use giving_way::{GivesWay, KeepsProcessor};
 pub use laws::{actors_wait_apart, settled_once};
 pub use node_pass::NodePass;
 pub use pass::StagePass;

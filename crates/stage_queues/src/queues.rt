@@ -6,6 +6,7 @@ ghost use Rattle.stage_queues.specs.Plan.{node_ring};
 use crate::batch_queue::BatchQueue;
 use crate::bell::{Bell, Watchers};
 use crate::gathering::AtWork;
+use crate::giving_way::{GivesWay, KeepsProcessor};
 use crate::node::NodeQueues;
 use crate::node_pass::NodePass;
 use crate::pass::StagePass;
@@ -81,7 +82,7 @@ impl Queues {
         &self.nodes[node.index()].settled
     }
 
-    /// An empty batch of the node's pool. None only where all its buffers were out at that step.
+    /// An empty batch of the node's pool. None only where every buffer was out just then.
     pub fn take_batch<R: Wait>(&self, rt: &R, node: NodeNo, pass: &mut StagePass) -> Option<Batch>
         requires node { node < length self.now.nodes }
         requires held { pass.old.held < 2 ^ 32 }
@@ -117,35 +118,46 @@ impl Queues {
     /// Parks the waiter until it is woken, once it has looked for that in vain. It may be woken for no reason, and once the queues are
     /// closed it does not wait.
     pub fn wait<R: Wait>(&self, rt: &R, waiter: Waiter) {
+        self.wait_giving_way(rt, &KeepsProcessor, waiter);
+    }
+
+    /// As `wait`, where the waiter gives way so between its looks.
+    pub fn wait_giving_way<R: Wait, W: GivesWay>(&self, rt: &R, way: &W, waiter: Waiter) {
         match waiter {
             Waiter::Actor(actor) => {
                 if let Some(place) = self.actors.get(actor_place(actor)) {
                     self.rest(place);
-                    self.park(rt, &place.bell);
+                    self.park(rt, way, &place.bell);
                     self.rise(place);
                 }
             }
             Waiter::Stage(node, stage, number) => {
                 if let Some(bell) = self.stage_bell(node, stage, number) {
-                    self.park(rt, bell);
+                    self.park(rt, way, bell);
                 }
             }
         }
     }
 
-    fn park<R: Wait>(&self, rt: &R, bell: &Bell) {
+    fn park<R: Wait, W: GivesWay>(&self, rt: &R, way: &W, bell: &Bell) {
         if !self.closed() {
-            self.watchers.watch(bell);
+            self.watchers.watch(bell, way);
             bell.wait(rt);
         }
     }
 
-    /// Parks the actor until it is woken, as `wait` does, but no longer than this.
-    pub fn wait_a_while<R: Wait>(&self, rt: &R, actor: Actor, most: Duration) {
+    /// Parks the actor until it is woken, as `wait_giving_way` does, but no longer than this.
+    pub fn wait_a_while<R: Wait, W: GivesWay>(
+        &self,
+        rt: &R,
+        way: &W,
+        actor: Actor,
+        most: Duration,
+    ) {
         if let Some(place) = self.actors.get(actor_place(actor)) {
             self.rest(place);
             if !self.closed() {
-                self.watchers.watch(&place.bell);
+                self.watchers.watch(&place.bell, way);
                 place.bell.wait_a_while(rt, most);
             }
             self.rise(place);

@@ -23,7 +23,7 @@ bare_row k t v = record { key = k; version = t; value = v; shadow = None }
 abbrev pub is_before : Row → ℕ → ℕ → Bool
 is_before r k t = if r.key == k then nat_lt r.version t else nat_lt r.key k
 
--- a put adds a bare row at its place, or replaces the value of the row that is there
+-- a put writes the value into the row that is there, or as a new bare one at its place
 unfoldable pub put_row : List Row → ℕ → ℕ → List ℕ → List Row
 put_row [] k t v = bare_row k t v ∷ []
 put_row (r ∷ rs) k t v =

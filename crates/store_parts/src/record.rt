@@ -16,7 +16,7 @@ pub struct Grant {
 /// Why a take was not granted, the first cause that holds.
 #[derive(Clone, Copy, Debug, PartialEq, Eq)]
 pub enum TakeRefused {
-    /// The store failed. The take took effect at its own step, or never does.
+    /// The store failed. The take took effect when it was made, or never will.
     StoreFault,
     /// The record is held, and the reading is below `until` and the skew.
     Early { reading: u64, until: u64 },
@@ -27,7 +27,7 @@ pub enum TakeRefused {
 /// Why a renewal was refused, the first cause that holds.
 #[derive(Clone, Copy, Debug, PartialEq, Eq)]
 pub enum RenewRefused {
-    /// The store failed. The renewal took effect at its own step, or never does.
+    /// The store failed. The renewal took effect when it was made, or never will.
     StoreFault,
     /// The record has another term, 0 where it is free.
     Replaced { found: u64 },
@@ -36,7 +36,7 @@ pub enum RenewRefused {
 /// Why an extension was refused, the first cause that holds.
 #[derive(Clone, Copy, Debug, PartialEq, Eq)]
 pub enum ExtendRefused {
-    /// The store failed. The extension took effect at its own step, or never does.
+    /// The store failed. The extension took effect when it was made, or never will.
     StoreFault,
     /// The record has another term, 0 where it is free.
     Replaced { found: u64 },

@@ -4,7 +4,7 @@ use port_io::Fate;
 use stamp_base::NoMemory;
 use std::alloc::{AllocError, AllocFailed};
 
-/// A store call was answered by a failure. It took effect at its own step, or never does.
+/// A store call was answered by a failure. It took effect when it was made, or never will.
 #[derive(Clone, Copy, Debug, PartialEq, Eq)]
 pub struct StoreFault;
 
@@ -23,7 +23,7 @@ pub fn answered_under<T: Drop>(fate: Fate, value: T) -> Result<T, StoreFault>
 /// Why a store call that takes memory gave no answer.
 #[derive(Clone, Copy, Debug, PartialEq, Eq)]
 pub enum StoreError {
-    /// The store failed. The call took effect at its own step, or never does.
+    /// The store failed. The call took effect when it was made, or never will.
     StoreFault,
     /// Memory was refused. The store is as before, and its weather was not asked.
     NoMemory,

@@ -15,6 +15,7 @@ mod sending;
 mod sent;
 mod shared;
 mod stages;
+mod starting;
 mod waking;
 
 pub use playing::play;

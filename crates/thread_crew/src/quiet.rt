@@ -1,7 +1,7 @@
 // Waiting, and telling what a line waits for while nobody makes an event.
 use crate::lines::LinesLeft;
 use crate::shared::Shared;
-use reply_pipeline::{Gate, WaitsFor};
+use reply_pipeline::{Gate, GateWay, WaitsFor};
 use script_data::Verb;
 use stage_queues::Waiter;
 use stamp_base::{NodeNo, Stage};
@@ -74,13 +74,16 @@ pub fn wait_quietly<R: Wait, B: Steps + Sync, G: Gate>(
     left: &LinesLeft<'_>,
     quiet: &mut Quiet,
 ) {
+    let way = GateWay { gate: shared.gate };
     if !shared.gate.hears_waits() {
-        shared.queues.wait(rt, Waiter::Actor(left.actor));
+        shared
+            .queues
+            .wait_giving_way(rt, &way, Waiter::Actor(left.actor));
         return;
     }
     shared
         .queues
-        .wait_a_while(rt, left.actor, Duration::from_millis(SLICE));
+        .wait_a_while(rt, &way, left.actor, Duration::from_millis(SLICE));
     if quiet.goes_on(shared.board.turns_made(rt)) {
         tell(rt, shared, left, quiet.asked);
     }

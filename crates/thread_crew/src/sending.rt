@@ -10,6 +10,7 @@ use crate::actors::act;
 use crate::before::Before;
 use crate::sent::Sent;
 use crate::shared::Shared;
+use crate::starting::start;
 use line_shares::ActorShare;
 use master_beacon::BeaconPass;
 use reply_pipeline::Gate;
@@ -84,7 +85,9 @@ fn send<
     ensures { result ≡ mine }
 {
     let before = Before::of(&mine);
-    let started = scope.spawn_with(
+    let started = start(
+        scope,
+        shared.gate,
         Before::of(&mine),
         move || -> ActorShare<L>
             requires { IsSenderPass shared.now.queues.now pass × IsSightOf shared.now.beacon.now sight × (length shared.now.queues.now.nodes ≡ shared.now.setup.nodes) }

@@ -34,16 +34,35 @@ pub fn start_stages<
     for (place, pass) in stages.iter_mut().enumerate() {
         let stage = stage_of(place % per_node, workers);
         if let Some(node) = NodeNo::new((place / per_node) as u64) {
-            let started = scope.spawn(
-                move ||
-                    requires { IsReadyFor shared.now.queues.now node stage pass.now × (shared.now.queues.now.buffers < 2 ^ 32) }
-                { serve(rt, alloc, shared, node, stage, pass) },
-            );
-            if started.is_err() {
+            if !is_started(scope, rt, alloc, shared, node, stage, pass) {
                 shared.queues.close();
             }
         }
     }
+}
+
+// Starts the thread of a stage, unless the gate or the system refuses it.
+fn is_started<'s, 'a: 's, E: 's, R: Threads + Wait + Sync + 's, B: Steps + Sync + 's, G: Gate + 's>(
+    scope: &Scope<'s, E>,
+    rt: &'s R,
+    alloc: Global,
+    shared: &'s Shared<'a, B, G>,
+    node: NodeNo,
+    stage: Stage,
+    pass: &'s mut StagePass,
+) -> bool
+    requires ready { IsReadyFor shared.now.queues.now node stage pass.old }
+    requires buffers { shared.now.queues.now.buffers < 2 ^ 32 }
+{
+    if !shared.gate.may_start_thread() {
+        return false;
+    }
+    let started = scope.spawn(
+        move ||
+            requires { IsReadyFor shared.now.queues.now node stage pass.now × (shared.now.queues.now.buffers < 2 ^ 32) }
+        { serve(rt, alloc, shared, node, stage, pass) },
+    );
+    started.is_ok()
 }
 
 // The stage whose pass stands at a place among its node's.

@@ -109,6 +109,27 @@ fn a_commit_comes_and_goes(rt: HostRuntime) -> Result<(), Fail> {
     Ok(())
 }
 
+#[test]
+fn what_a_begin_drew_is_told(rt: HostRuntime) -> Result<(), Fail> {
+    let mut instance = opened(rt.alloc(), 0, 100)?;
+    let session = SessionNo::FIRST;
+    assert_eq!(rt; accepted(&mut instance, begin()), Ok(()));
+    assert_eq!(rt; instance.drawn(session), None);
+    assert!(rt; instance.decide(session).is_ok());
+    assert_eq!(rt; instance.drawn(session), Some((Stamp::FIRST, None)));
+    Ok(())
+}
+
+// Its start was drawn elsewhere.
+#[test]
+fn what_a_commit_drew_is_told(rt: HostRuntime) -> Result<(), Fail> {
+    let mut instance = opened(rt.alloc(), 0, 100)?;
+    assert!(rt; decided(&mut instance, commit()).is_ok());
+    let stamps = (Stamp::FIRST, Some(Stamp::FIRST));
+    assert_eq!(rt; instance.drawn(SessionNo::LAST), Some(stamps));
+    Ok(())
+}
+
 // No put settles it.
 #[test]
 fn a_direct_commit_is_settled(rt: HostRuntime) -> Result<(), Fail> {
@@ -197,9 +218,8 @@ fn a_range_is_widened(rt: HostRuntime) -> Result<(), Fail> {
     let mut instance = opened(rt.alloc(), 0, 0)?;
     instance.renewed(20);
     assert_eq!(rt; decided(&mut instance, begin()), no_stamp(0));
-    if instance.range_end() <= 100 {
-        instance.widened(100);
-    }
+    assert!(rt; instance.range_end() <= 100);
+    instance.widened(100);
     assert!(rt; instance.decide(SessionNo::FIRST).is_ok());
     Ok(())
 }

@@ -42,9 +42,8 @@ fn own_writes(rt: HostRuntime) {
 fn plain_path(rt: HostRuntime) {
     let mut session = opened();
     assert_eq!(rt; session.wrote(key(0)), Ok(()));
-    if !session.keys().as_slice().is_empty() {
-        commits(&rt, session, stamp(2));
-    }
+    assert!(rt; !session.keys().as_slice().is_empty());
+    commits(&rt, session, stamp(2));
 }
 
 /// Takes an open transaction with a write through its commit.
@@ -66,9 +65,8 @@ fn commits(rt: &impl Abort, mut session: Session, commit: Stamp)
 fn handed_commits(rt: HostRuntime) {
     let mut session = opened();
     assert_eq!(rt; session.wrote(key(0)), Ok(()));
-    if !session.keys().as_slice().is_empty() {
-        places(&rt, session, stamp(2));
-    }
+    assert!(rt; !session.keys().as_slice().is_empty());
+    places(&rt, session, stamp(2));
 }
 
 /// Takes an open transaction with a write to a commit that the session is to place, and that is not placed.

@@ -1,4 +1,5 @@
 // What the program says of words that are no command, and of bytes that are no script.
+use std::alloc::{AllocError, Global};
 use std::test::Fail;
 use worked_calls::{Told, answers, first_unlike};
 use worked_commits::commits::PLAIN_PATH;
@@ -178,5 +179,46 @@ fn too_many_bytes_are_named(rt: HostRuntime) -> Result<(), Fail> {
     let script = vec![in rt.alloc(); b'\n'; 16_777_217]?;
     let report = b"script line 0: too long\n";
     assert!(rt; answers(&rt, rt.alloc(), &["replay"], &script, report, 3)?);
+    Ok(())
+}
+
+/// As many lines as this, each of which is an actor's.
+fn ticks(alloc: Global, lines: usize) -> Result<Vec<u8>, AllocError> {
+    let mut script = Vec::new(alloc);
+    for _ in 0..lines {
+        script.extend_from_slice(b"clock tick 1\n")?;
+    }
+    Ok(script)
+}
+
+#[test]
+fn a_line_too_many_is_named(rt: HostRuntime) -> Result<(), Fail> {
+    let script = ticks(rt.alloc(), 131_073)?;
+    let report = b"script line 131073: too many lines\n";
+    assert!(rt; answers(&rt, rt.alloc(), &["replay"], &script, report, 3)?);
+    Ok(())
+}
+
+/// As many planned faults as this.
+fn faults(alloc: Global, lines: u64) -> Result<Vec<u8>, AllocError> {
+    let mut script = Vec::new(alloc);
+    for before in 0..lines {
+        let number = before + 1;
+        let line = format!(in alloc; "fault cells {number} unchanged\n")?;
+        script.extend_from_slice(line.as_bytes())?;
+    }
+    Ok(script)
+}
+
+#[test]
+fn a_fault_too_many_is_named(rt: HostRuntime) -> Result<(), Fail> {
+    let script = faults(rt.alloc(), 33)?;
+    let report = b"script line 33: too many faults\n";
+    for word in ["replay", "run"] {
+        assert!(rt;
+            answers(&rt, rt.alloc(), &[word], &script, report, 3)?,
+            "{word}"
+        );
+    }
     Ok(())
 }

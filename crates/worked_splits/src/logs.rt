@@ -1,7 +1,7 @@
 // Logs of which something is missing.
 ghost use Rattle.std.specs.Prelude.{◌≡◌, ◌≤◌, false, All, IfOk, IsTrue};
 
-use crate::making::read_behind;
+use crate::making::{read_behind, risen_twice};
 use cluster_core::Cluster;
 use history_book::Item;
 use session_script::{Mode, Script, read_script};
@@ -120,6 +120,30 @@ fn misses(alloc: Global, script: &Script) -> Result<bool, NoMemory> {
     Ok(is_missing_one(&settled))
 }
 
+/// By how much the clock has risen, as the only seat tells.
+fn risen_of_one<R: Wait>(rt: &R, alloc: Global, split: &Split, seats: Vec<ActorSeat>) -> Option<u64>
+    requires { All (λ s. s.word ≡ split.now.id) seats.items }
+{
+    let mut seats = seats;
+    let mut seat = seats.pop()?;
+    risen_twice(rt, alloc, split, &mut seat)
+}
+
+fn risen<R: Wait>(rt: &R, alloc: Global, script: &Script) -> Result<Option<u64>, NoMemory> {
+    if !is_plain(&script.setup) {
+        return Ok(None);
+    }
+    let (split, seats) = open(alloc, script, 1)?;
+    Ok(risen_of_one(rt, alloc, &split, seats))
+}
+
+fn risen_in<R: Wait>(rt: &R, alloc: Global) -> Result<Option<u64>, NoMemory> {
+    match script_behind(alloc) {
+        Some(script) => risen(rt, alloc, &script),
+        None => Ok(None),
+    }
+}
+
 fn tears_in<R: Wait>(rt: &R, alloc: Global) -> Result<bool, NoMemory> {
     match script_behind(alloc) {
         Some(script) => tears(rt, alloc, &script),
@@ -143,5 +167,11 @@ fn a_struck_log_is_torn(rt: HostRuntime) -> Result<(), Fail> {
 #[test]
 fn a_log_that_is_kept_back_is_missing(rt: HostRuntime) -> Result<(), Fail> {
     assert!(rt; misses_in(rt.alloc())?);
+    Ok(())
+}
+
+#[test]
+fn a_seat_tells_how_far_the_clock_has_risen(rt: HostRuntime) -> Result<(), Fail> {
+    assert_eq!(rt; risen_in(&rt, rt.alloc())?, Some(42));
     Ok(())
 }

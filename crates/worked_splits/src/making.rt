@@ -1,5 +1,5 @@
 // The events of a script, made one after the other: a commit, and a reader that waits for it.
-ghost use Rattle.std.specs.Prelude.{◌≡◌};
+ghost use Rattle.std.specs.Prelude.{◌≡◌, ◌≤◌};
 ghost use Rattle.split_stores.specs.Logs.{CanRise};
 
 use history_book::{Actor, Note};
@@ -18,6 +18,37 @@ fn makes<R: Wait>(rt: &R, alloc: Global, split: &Split, seat: &mut ActorSeat, ev
         Made::Did => true,
         _ => false,
     }
+}
+
+/// The clock rises by so much. False where it was not done.
+fn rises<R: Wait>(rt: &R, alloc: Global, split: &Split, seat: &mut ActorSeat, by: u64) -> bool
+    requires word { seat.old.word ≡ split.now.id }
+    requires by { (1 ≤ by) × (by ≤ 1000000) }
+    ensures { seat.new.word ≡ split.now.id }
+{
+    seat.risen() < 1_000_000 && makes(rt, alloc, split, seat, Event::Tick { by })
+}
+
+/// By how much the clock has risen by two ticks and a note between them, as the seat tells. None where one of these was not done.
+pub fn risen_twice<R: Wait>(
+    rt: &R,
+    alloc: Global,
+    split: &Split,
+    seat: &mut ActorSeat,
+) -> Option<u64>
+    requires { seat.old.word ≡ split.now.id }
+{
+    let noted = Event::Note {
+        actor: Actor::Clock,
+        note: Note::Post(Name::new("p1".as_bytes())?),
+    };
+    if rises(rt, alloc, split, seat, 12)
+        && makes(rt, alloc, split, seat, noted)
+        && rises(rt, alloc, split, seat, 30)
+    {
+        return Some(seat.risen());
+    }
+    None
 }
 
 /// One actor posts a name for which the other waits.

@@ -75,7 +75,9 @@ fetch_fated w session start epoch key Works c at go begun known = (
     start_is = begun;
     epoch_is = known;
     may = go;
+    cells = length (fetched w.rows key start);
     first = item.Step (Session session) (step.Fetch key (length (fetched w.rows key start)));
+    tells = refl;
     quiet = refl;
     silent = refl;
   }),

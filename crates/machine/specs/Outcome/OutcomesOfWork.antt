@@ -1,7 +1,10 @@
 -- What an event comes to for the work of sessions: reads, outcomes that are open, completions.
 use Rattle.std.specs.Prelude.{[], ◌≡◌, ℕ, ◌≤◌, Bool, true, false, if◌then◌else◌, List, ◌∷◌, Option, None, Some, ◌⊎◌, slice_set}
 use Rattle.stamp_base.specs.declared.stores.Mark.TheVariants.{Invalid as InvalidMark}
+use Rattle.history_book.specs.declared.item.Actor.TheVariants.{Session}
+use Rattle.history_book.specs.declared.item.StoreStep.TheVariants as step
 use Rattle.history_book.specs.declared.item.Item.{Item}
+use Rattle.history_book.specs.declared.item.Item.TheVariants as item
 use Rattle.store_parts.specs.Rows.{fetched}
 use Rattle.store_parts.specs.Pairs.{Pairs, put_pair}
 use Rattle.client_parts.specs.declared.asks.Ask.{Ask}
@@ -31,7 +34,9 @@ pub record Fetched (w : State) : Type 0 where
   pub start_is : it.c.entry.start ≡ Some start
   pub epoch_is : it.c.entry.epoch ≡ Some epoch
   pub may : fetch_refused w.setup it.c key ≡ None
+  pub cells : ℕ
   pub first : Item
+  pub tells : first ≡ item.Step (Session it.session) (step.Fetch key cells)
   pub quiet : Quiet first
   pub silent : Silent first
 

@@ -1,4 +1,4 @@
-use Rattle.cause_rules.proofs.WorkedHidden.{at_the_start, below_the_start, forgotten, kept, kept_by_width, not_drawn, not_forgotten, not_its_own, only_read, only_read_kept, other_bucket, other_term}
+use Rattle.cause_rules.proofs.WorkedHidden.{at_the_start, below_the_start, forgotten, kept, kept_by_width, not_drawn, not_forgotten, not_its_own, not_read, other_bucket, other_term, read, read_before, read_kept, read_not_strictly}
 use Rattle.cause_rules.proofs.WorkedUnasked.{hidden_unasked}
 use Rattle.cause_rules.proofs.commits.forgotten_keys_are_hidden.Goals as goal
 
@@ -14,7 +14,10 @@ returns c = record {
   not_drawn = not_drawn;
   not_forgotten = not_forgotten;
   not_its_own = not_its_own;
-  only_read = only_read;
-  only_read_kept = only_read_kept;
+  read = read;
+  read_kept = read_kept;
+  read_not_strictly = read_not_strictly;
+  not_read = not_read;
+  read_before = read_before;
   not_asked = hidden_unasked;
 }
