@@ -82,10 +82,26 @@ Follows actor st (line ∷ lines) (e ∷ es) =
     ((opener e.event ≡ None) × Follows actor (gone_on actor st e) (line ∷ lines) es)
     ⊎ ((is_paid st ≡ true) × (first_event actor line.verb ≡ Some e.event) × Follows actor (opened actor line.verb st e.kept.items) lines es)
 
+-- The same walk, which may end anywhere: the entries open the lines of a front, and the last of them may not be at its end.
+unfoldable pub FollowsFront : Actor → Standing → List Line → List Entry → Type 0
+FollowsFront actor st lines [] = Unit {0}
+FollowsFront actor st [] (e ∷ es) = (opener e.event ≡ None) × FollowsFront actor (gone_on actor st e) [] es
+FollowsFront actor st (line ∷ lines) (e ∷ es) =
+    ((opener e.event ≡ None) × FollowsFront actor (gone_on actor st e) (line ∷ lines) es)
+    ⊎ ((is_paid st ≡ true) × (first_event actor line.verb ≡ Some e.event) × FollowsFront actor (opened actor line.verb st e.kept.items) lines es)
+
 -- the log is of the lines of the actor that have an opening item
 abbrev pub FollowsLines : List Line → Actor → List Entry → Type 0
 FollowsLines lines actor entries = Follows actor first_standing (filter (is_of actor) lines) entries
 
+-- the log is of a front of these lines
+abbrev pub FollowsSome : List Line → Actor → List Entry → Type 0
+FollowsSome lines actor entries = FollowsFront actor first_standing (filter (is_of actor) lines) entries
+
 -- each of the actors has one log, which is of its lines
 abbrev pub AllFollow : ScriptData → List Actor → List Logged → Type 0
 AllFollow script actors logs = AllZip (λ actor log. FollowsLines script.lines actor log.entries) actors logs
+
+-- each of the actors has one log, which is of a front of its lines
+abbrev pub AllFollowSome : ScriptData → List Actor → List Logged → Type 0
+AllFollowSome script actors logs = AllZip (λ actor log. FollowsSome script.lines actor log.entries) actors logs

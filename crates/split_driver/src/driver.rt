@@ -89,9 +89,9 @@ fn carry_out<R: Threads + Wait + Sync, G: PartGate>(
         return settle_nothing(alloc, script);
     }
     let (split, seats) = Split::open(alloc, script, actors.len())?;
-    let mut jobs = jobs_of(alloc, &split, actors, seats)?;
-    play_all(rt, alloc, &split, &script.lines, &mut jobs, gate);
-    finish(rt, alloc, script, split, jobs)
+    let jobs = jobs_of(alloc, &split, actors, seats)?;
+    let played = play_all(rt, alloc, &split, script, jobs, gate)?;
+    finish(rt, alloc, script, split, played)
 }
 
 // Where no actor has lines, one log stays empty.

@@ -6,6 +6,7 @@ mod ending;
 mod laws;
 mod playing;
 mod stop;
+mod threads;
 
 pub use driver::run_split;
 pub use laws::split_scripts_may_split;

@@ -1,6 +1,6 @@
 -- For this crate's own proofs.
 -- How the log of an actor goes on along its lines.
-use Rattle.std.proofs.Common.{◌≡◌, ℕ, ◌+◌, ◌-◌, ◌*◌, ◌≤◌, ◌<◌, ◌^◌, Bool, true, false, cond, ◌&&◌, List, [], ◌∷◌, ◌++◌, length, append_assoc, get_or, drop, None, Some, inl, inr, refl, sym, subst, ap, ◌∙◌, arith}
+use Rattle.std.proofs.Common.{◌≡◌, ℕ, ◌+◌, ◌-◌, ◌*◌, ◌≤◌, ◌<◌, ◌^◌, Bool, true, false, cond, ◌&&◌, List, [], ◌∷◌, ◌++◌, length, append_assoc, get_or, drop, ◌⊎◌, None, Some, inl, inr, refl, sym, subst, ap, ◌∙◌, arith}
 use Rattle.std.specs.Prelude.{filter}
 use Rattle.std.proofs.lemmas.List.{append-nil, get_or_push, length_push}
 use Rattle.std.proofs.Math.ListN.{drop_of_length-le}
@@ -17,10 +17,10 @@ use Rattle.split_parts.specs.declared.event.Event.{Event}
 use Rattle.split_parts.specs.declared.event.Event.TheVariants as event
 use Rattle.split_stores.specs.declared.seat.Entry.{Entry}
 use Rattle.split_stores.specs.Makes.{AddsOne}
-use Rattle.split_stores.specs.Logs.{Logged, CanRise, risen_by, rise_of}
+use Rattle.split_stores.specs.Logs.{Logged, SameLog, CanRise, risen_by, rise_of}
 use Rattle.seat_lines.specs.Owed.{Standing, first_standing, gone_on, opened, is_paid}
-use Rattle.seat_lines.specs.Follows.{opener, first_event, Follows, FollowsLines}
-use Rattle.split_runs.specs.Runs.{RisesInBounds, Stand, stand, IsFollowedTo, IsNewest, GoesOn, OpensLine, PlaysLine}
+use Rattle.seat_lines.specs.Follows.{opener, first_event, Follows, FollowsFront, FollowsLines, FollowsSome}
+use Rattle.split_runs.specs.Runs.{RisesInBounds, Stand, stand, IsFollowedTo, IsNewest, GoesOn, OpensLine, PlaysLine, StopsIn, StopsOn, StopsOpening}
 
 -- ---- one entry more
 -- an entry that opens no line
@@ -29,14 +29,44 @@ unfolding Follows
 follows_past actor st [] e later none walks = (none, walks)
 follows_past actor st (line ∷ left) e later none walks = inl (none, walks)
 
+front_past : (actor : Actor) (st : Standing) (left : List Line) (e : Entry) (later : List Entry) → opener e.event ≡ None → FollowsFront actor (gone_on actor st e) left later → FollowsFront actor st left (e ∷ later)
+unfolding FollowsFront
+front_past actor st [] e later none walks = (none, walks)
+front_past actor st (line ∷ left) e later none walks = inl (none, walks)
+
 -- an entry that opens the next line
 follows_open : (actor : Actor) (st : Standing) (line : Line) (left : List Line) (e : Entry) (later : List Entry) → is_paid st ≡ true → first_event actor line.verb ≡ Some e.event → Follows actor (opened actor line.verb st e.kept.items) left later → Follows actor st (line ∷ left) (e ∷ later)
 unfolding Follows
 follows_open actor st line left e later paid first walks = inr (paid, first, walks)
 
--- what follows behind one entry more, follows
-with_entry : (actor : Actor) (all : List Line) (entries : List Entry) (e : Entry) (later : List Entry) → Follows actor first_standing all (entries ++ e ∷ later) → Follows actor first_standing all ((entries ++ e ∷ []) ++ later)
-with_entry actor all entries e later so = subst (λ (es : List Entry). Follows actor first_standing all es) (sym (append_assoc entries (e ∷ []) later)) so
+front_open : (actor : Actor) (st : Standing) (line : Line) (left : List Line) (e : Entry) (later : List Entry) → is_paid st ≡ true → first_event actor line.verb ≡ Some e.event → FollowsFront actor (opened actor line.verb st e.kept.items) left later → FollowsFront actor st (line ∷ left) (e ∷ later)
+unfolding FollowsFront
+front_open actor st line left e later paid first walks = inr (paid, first, walks)
+
+-- no entries are of a front
+front_none : (actor : Actor) (st : Standing) (left : List Line) → FollowsFront actor st left []
+unfolding FollowsFront
+front_none actor st [] = tt
+front_none actor st (line ∷ left) = tt
+
+-- what holds of entries behind one more, holds of them all
+with_entry : (P : List Entry → Type 0) (entries : List Entry) (e : Entry) (later : List Entry) → P (entries ++ e ∷ later) → P ((entries ++ e ∷ []) ++ later)
+with_entry P entries e later so = subst P (sym (append_assoc entries (e ∷ []) later)) so
+
+abbrev stood : List Entry → Standing → Stand
+stood entries st = record { entries = entries; standing = st }
+
+past_more : (actor : Actor) (all left : List Line) (entries : List Entry) (st : Standing) (e : Entry) → opener e.event ≡ None → IsFollowedTo actor all (stood entries st) left → IsFollowedTo actor all (stood (entries ++ e ∷ []) (gone_on actor st e)) left
+past_more actor all left entries st e none so = record {
+  whole = (λ later walks. with_entry (Follows actor first_standing all) entries e later (so.whole (e ∷ later) (follows_past actor st left e later none walks)));
+  front = (λ later walks. with_entry (FollowsFront actor first_standing all) entries e later (so.front (e ∷ later) (front_past actor st left e later none walks)));
+}
+
+open_more : (actor : Actor) (all left : List Line) (line : Line) (entries : List Entry) (st : Standing) (e : Entry) → is_paid st ≡ true → first_event actor line.verb ≡ Some e.event → IsFollowedTo actor all (stood entries st) (line ∷ left) → IsFollowedTo actor all (stood (entries ++ e ∷ []) (opened actor line.verb st e.kept.items)) left
+open_more actor all left line entries st e paid first so = record {
+  whole = (λ later walks. with_entry (Follows actor first_standing all) entries e later (so.whole (e ∷ later) (follows_open actor st line left e later paid first walks)));
+  front = (λ later walks. with_entry (FollowsFront actor first_standing all) entries e later (so.front (e ∷ later) (front_open actor st line left e later paid first walks)));
+}
 
 -- ---- what an entry does to the clock
 rise_none : (e : Event) → opener e ≡ None → rise_of e ≡ 0
@@ -67,13 +97,15 @@ newest_is e old new entry adds read =
 -- ---- steps
 -- at first nothing is there, and all lines are left
 pub followed_first : (actor : Actor) (all : List Line) (at : Stand) → at.entries ≡ [] → at.standing ≡ first_standing → IsFollowedTo actor all at all
-followed_first actor all at none first later walks =
-    subst (λ (es : List Entry). Follows actor first_standing all (es ++ later)) (sym none) (subst (λ (st : Standing). Follows actor st all later) first walks)
+followed_first actor all at none first = record {
+  whole = (λ later walks. subst (λ (es : List Entry). Follows actor first_standing all (es ++ later)) (sym none) (subst (λ (st : Standing). Follows actor st all later) first walks));
+  front = (λ later walks. subst (λ (es : List Entry). FollowsFront actor first_standing all (es ++ later)) (sym none) (subst (λ (st : Standing). FollowsFront actor st all later) first walks));
+}
 
 -- at the end no line is left, and nothing is owed
 pub followed_all : (actor : Actor) (all : List Line) (at : Stand) → IsFollowedTo actor all at [] → is_paid at.standing ≡ true → Follows actor first_standing all at.entries
 unfolding Follows
-followed_all actor all at so paid = subst (λ (es : List Entry). Follows actor first_standing all es) (append-nil at.entries) (so [] (refl, paid))
+followed_all actor all at so paid = subst (λ (es : List Entry). Follows actor first_standing all es) (append-nil at.entries) (so.whole [] (refl, paid))
 
 pub goes_on_none : (actor : Actor) (at : Stand) → GoesOn actor at at
 goes_on_none actor at = record { followed = (λ all left so. so); risen = refl }
@@ -81,27 +113,60 @@ goes_on_none actor at = record { followed = (λ all left so. so); risen = refl }
 pub goes_on_more : (actor : Actor) (a b c : Stand) → GoesOn actor a b → GoesOn actor b c → GoesOn actor a c
 goes_on_more actor a b c g h = record { followed = (λ all left so. h.followed all left (g.followed all left so)); risen = h.risen ∙ g.risen }
 
+-- the log with its newest entry, and how it stands then
+stands_newest : (actor : Actor) (all left : List Line) (old new : Logged) (e : Event) (entry : Entry) (after st : Standing) → IsNewest e old new entry → after ≡ st → IsFollowedTo actor all (stood (old.entries ++ entry ∷ []) st) left → IsFollowedTo actor all (stand new after) left
+stands_newest actor all left old new e entry after st newest is so =
+    subst (λ (es : List Entry). IsFollowedTo actor all (stood es after) left) (sym newest.entries)
+    (subst (λ (s : Standing). IsFollowedTo actor all (stood (old.entries ++ entry ∷ []) s) left) (sym is) so)
+
 -- an entry that opens no line was made, and its items are added up
 pub goes_on_entry : (actor : Actor) (old new : Logged) (st after : Standing) (e : Event) (entry : Entry) → IsNewest e old new entry → opener e ≡ None → after ≡ gone_on actor st entry → GoesOn actor (stand old st) (stand new after)
 goes_on_entry actor old new st after e entry newest none is =
     let later : opener entry.event ≡ None = ap opener newest.of ∙ none in
     record {
-      followed = (λ all left so later_entries walks.
-          subst (λ (es : List Entry). Follows actor first_standing all (es ++ later_entries)) (sym newest.entries)
-          (with_entry actor all old.entries entry later_entries (so (entry ∷ later_entries) (follows_past actor st left entry later_entries later (subst (λ (s : Standing). Follows actor s left later_entries) is walks)))));
+      followed = (λ all left so. stands_newest actor all left old new e entry after (gone_on actor st entry) newest is (past_more actor all left old.entries st entry later so));
       risen = (let none_risen = rise_none entry.event later in let more = risen_more old.entries entry in omega (arith, ap risen_by newest.entries, more, none_risen));
     }
 
 pub opens_entry : (actor : Actor) (verb : Verb) (old new : Logged) (st after : Standing) (e : Event) (entry : Entry) → IsNewest e old new entry → is_paid st ≡ true → first_event actor verb ≡ Some e → after ≡ opened actor verb st entry.kept.items → rise_of e ≤ tick_of verb → OpensLine actor verb (stand old st) (stand new after)
 opens_entry actor verb old new st after e entry newest paid first is rise =
     record {
-      followed = (λ all left line verb_is so later_entries walks.
+      followed = (λ all left line verb_is so.
           let begins : first_event actor line.verb ≡ Some entry.event = ap (first_event actor) verb_is ∙ first ∙ ap Some (sym newest.of) in
-          let at : Follows actor (opened actor line.verb st entry.kept.items) left later_entries = subst (λ (v : Verb). Follows actor (opened actor v st entry.kept.items) left later_entries) (sym verb_is) (subst (λ (s : Standing). Follows actor s left later_entries) is walks) in
-          subst (λ (es : List Entry). Follows actor first_standing all (es ++ later_entries)) (sym newest.entries)
-          (with_entry actor all old.entries entry later_entries (so (entry ∷ later_entries) (follows_open actor st line left entry later_entries paid begins at))));
+          let so_far : after ≡ opened actor line.verb st entry.kept.items = is ∙ ap (λ (v : Verb). opened actor v st entry.kept.items) (sym verb_is) in
+          stands_newest actor all left old new e entry after (opened actor line.verb st entry.kept.items) newest so_far (open_more actor all left line old.entries st entry paid begins so));
       risen = (let more = risen_more old.entries entry in omega (arith, ap risen_by newest.entries, more, ap rise_of newest.of, rise));
     }
+
+-- ---- stops
+-- where the actor stops here, its log is of a front of the lines
+pub stops_here : (actor : Actor) (at : Stand) → StopsOn actor at at.entries
+stops_here actor at all left so = subst (λ (es : List Entry). FollowsFront actor first_standing all es) (append-nil at.entries) (so.front [] (front_none actor at.standing left))
+
+pub stops_later : (actor : Actor) (a b : Stand) (entries : List Entry) → GoesOn actor a b → StopsOn actor b entries → StopsOn actor a entries
+stops_later actor a b entries on stops all left so = stops all left (on.followed all left so)
+
+-- where it stops in an event that opens no line
+pub stops_on : (actor : Actor) (old new : Logged) (st : Standing) (e : Event) → opener e ≡ None → AddsOne e old new ⊎ SameLog old new → StopsOn actor (stand old st) new.entries
+stops_on actor old new st e none (inl adds) all left so =
+    let later : opener adds.added.event ≡ None = ap opener adds.of ∙ none in
+    subst (λ (es : List Entry). FollowsFront actor first_standing all es) (sym adds.entries)
+    (stops_here actor (stood (old.entries ++ adds.added ∷ []) (gone_on actor st adds.added)) all left (past_more actor all left old.entries st adds.added later so))
+stops_on actor old new st e none (inr same) all left so = subst (λ (es : List Entry). FollowsFront actor first_standing all es) (sym same.entries) (stops_here actor (stand old st) all left so)
+
+-- where it stops before the event that opens a line, in it, and behind it
+pub stops_before : (actor : Actor) (verb : Verb) (at : Stand) → StopsOpening actor verb at at.entries
+stops_before actor verb at all left line is so = stops_here actor at all (line ∷ left) so
+
+pub stops_opening : (actor : Actor) (verb : Verb) (old new : Logged) (st : Standing) (e : Event) → is_paid st ≡ true → first_event actor verb ≡ Some e → AddsOne e old new ⊎ SameLog old new → StopsOpening actor verb (stand old st) new.entries
+stops_opening actor verb old new st e paid first (inl adds) all left line is so =
+    let begins : first_event actor line.verb ≡ Some adds.added.event = ap (first_event actor) is ∙ first ∙ ap Some (sym adds.of) in
+    subst (λ (es : List Entry). FollowsFront actor first_standing all es) (sym adds.entries)
+    (stops_here actor (stood (old.entries ++ adds.added ∷ []) (opened actor line.verb st adds.added.kept.items)) all left (open_more actor all left line old.entries st adds.added paid begins so))
+stops_opening actor verb old new st e paid first (inr same) all left line is so = subst (λ (es : List Entry). FollowsFront actor first_standing all es) (sym same.entries) (stops_here actor (stand old st) all (line ∷ left) so)
+
+pub stops_opened : (actor : Actor) (verb : Verb) (a b : Stand) (entries : List Entry) → OpensLine actor verb a b → StopsOn actor b entries → StopsOpening actor verb a entries
+stops_opened actor verb a b entries opens stops all left line is so = stops all left (opens.followed all left line is so)
 
 -- ---- lines
 pub other_line : (actor : Actor) (line : Line) → same_actor line.actor actor ≡ false → is_of actor line ≡ false
@@ -123,6 +188,13 @@ plays_opening actor line old mid new own opens on paid = record {
   paid = paid;
   risen = omega (arith, on.risen, opens.risen);
 }
+
+pub stops_in_opening : (actor : Actor) (line : Line) (old : Stand) (entries : List Entry) → is_of actor line ≡ true → StopsOpening actor line.verb old entries → StopsIn actor line old entries
+stops_in_opening actor line old entries own stops all left so =
+    stops all (filter (is_of actor) left) line refl (subst (λ (mine : Bool). IsFollowedTo actor all old (cond mine (line ∷ filter (is_of actor) left) (filter (is_of actor) left))) own so)
+
+pub stops_in : (actor : Actor) (line : Line) (old : Stand) (entries : List Entry) → StopsOn actor old entries → StopsIn actor line old entries
+stops_in actor line old entries stops all left so = stops all (filter (is_of actor) (line ∷ left)) so
 
 -- ---- all lines
 -- the lines before this place are carried out
@@ -147,6 +219,14 @@ stands_more actor lines i line old new here tick at plays = record {
 
 pub stands_all : (actor : Actor) (lines : List Line) (i : ℕ) (at : Stand) → drop i lines ≡ [] → StandsAt actor lines i at → FollowsLines lines actor at.entries
 stands_all actor lines i at none stands = followed_all actor (filter (is_of actor) lines) at (subst (λ (left : List Line). IsFollowedTo actor (filter (is_of actor) lines) at (filter (is_of actor) left)) none stands.followed) stands.paid
+
+-- where the actor stops in a line, and at the end, the log is of a front of the lines
+pub front_stopped : (actor : Actor) (lines : List Line) (i : ℕ) (line : Line) (old : Stand) (entries : List Entry) → drop i lines ≡ line ∷ drop (i + 1) lines → StandsAt actor lines i old → StopsIn actor line old entries → FollowsSome lines actor entries
+front_stopped actor lines i line old entries here at stops =
+    stops (filter (is_of actor) lines) (drop (i + 1) lines) (subst (λ (left : List Line). IsFollowedTo actor (filter (is_of actor) lines) old (filter (is_of actor) left)) here at.followed)
+
+pub front_at : (actor : Actor) (lines : List Line) (i : ℕ) (at : Stand) → StandsAt actor lines i at → FollowsSome lines actor at.entries
+front_at actor lines i at stands = stops_here actor at (filter (is_of actor) lines) (filter (is_of actor) (drop i lines)) stands.followed
 
 pub nothing_left : (lines : List Line) (i : ℕ) → length lines ≤ i → drop i lines ≡ []
 nothing_left lines i past = drop_of_length-le lines past

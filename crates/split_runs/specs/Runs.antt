@@ -1,5 +1,5 @@
 -- How far the log of an actor follows the lines of a script while they are carried out.
-use Rattle.std.specs.Prelude.{◌≡◌, ◌+◌, ◌≤◌, true, List, [], ◌∷◌, ◌++◌, All, filter, length, Option, None, Result, MatchResult}
+use Rattle.std.specs.Prelude.{◌≡◌, ◌+◌, ◌≤◌, ◌⊎◌, true, List, [], ◌∷◌, ◌++◌, All, filter, length, Option, None, Result, MatchResult}
 use Rattle.tick_word.specs.Rule.{seat_limit}
 use Rattle.history_book.specs.declared.item.Actor.{Actor}
 use Rattle.script_data.specs.declared.line.Line.{Line}
@@ -11,10 +11,10 @@ use Rattle.line_steps.specs.declared.point.Halt.{Halt}
 use Rattle.split_parts.specs.declared.event.Event.{Event}
 use Rattle.split_parts.specs.declared.event.Event.TheVariants as event
 use Rattle.split_stores.specs.declared.seat.Entry.{Entry}
-use Rattle.split_stores.specs.Logs.{Logged, CanRise, risen_by}
+use Rattle.split_stores.specs.Logs.{Logged, SameLog, CanRise, risen_by}
 use Rattle.split_stores.specs.Makes.{AddsOne}
 use Rattle.seat_lines.specs.Owed.{Standing, first_standing, is_paid}
-use Rattle.seat_lines.specs.Follows.{opener, Follows}
+use Rattle.seat_lines.specs.Follows.{opener, Follows, FollowsFront}
 use Rattle.split_runs.specs.declared.choosing.Choice.{Choice}
 use Rattle.split_runs.specs.declared.choosing.Choice.TheVariants as choice
 use Rattle.split_runs.specs.declared.stop.PlayStop.{PlayStop}
@@ -40,9 +40,14 @@ abbrev pub TellsDrawn : List Entry → PlayStop → Type 0
 TellsDrawn entries (stop.Spent drawn) = (drawn ≡ length entries) × (seat_limit ≤ drawn)
 TellsDrawn entries _ = Unit {0}
 
+-- the actor stops with one entry of the event more, or with none
+pub record StopsAt (e : Event) (old new : Logged) (why : PlayStop) : Type 0 where
+  pub adds : AddsOne e old new ⊎ SameLog old new
+  pub told : TellsDrawn new.entries why
+
 -- one entry of the event was added, unless the actor stops
 abbrev pub Enters : Event → Logged → Logged → Result (Option Halt) PlayStop → Type 0
-Enters e old new result = MatchResult result (λ _. AddsOne e old new) (TellsDrawn new.entries)
+Enters e old new result = MatchResult result (λ _. AddsOne e old new) (StopsAt e old new)
 
 -- the last entry is this one, of the event
 pub record IsNewest (e : Event) (old new : Logged) (entry : Entry) : Type 0 where
@@ -58,9 +63,10 @@ pub record Stand : Type 0 where
 abbrev pub stand : Logged → Standing → Stand
 stand log st = record { entries = log.entries; standing = st }
 
--- what follows the lines that are left from here on, follows all lines
-abbrev pub IsFollowedTo : Actor → List Line → Stand → List Line → Type 0
-IsFollowedTo actor all at left = (later : List Entry) → Follows actor at.standing left later → Follows actor first_standing all (at.entries ++ later)
+-- what follows the lines that are left from here on, follows all lines, and what follows a front of them, a front of all
+pub record IsFollowedTo (actor : Actor) (all : List Line) (at : Stand) (left : List Line) : Type 0 where
+  pub whole : (later : List Entry) → Follows actor at.standing left later → Follows actor first_standing all (at.entries ++ later)
+  pub front : (later : List Entry) → FollowsFront actor at.standing left later → FollowsFront actor first_standing all (at.entries ++ later)
 
 -- the log goes on, and opens no line
 pub record GoesOn (actor : Actor) (old new : Stand) : Type 0 where
@@ -78,6 +84,20 @@ pub record PlaysLine (actor : Actor) (line : Line) (old new : Stand) : Type 0 wh
   pub paid : is_paid new.standing ≡ true
   pub risen : risen_by new.entries ≤ risen_by old.entries + tick_of line.verb
 
+-- ---- stopping
+-- the actor stops while it goes on: the log is of a front of the lines
+abbrev pub StopsOn : Actor → Stand → List Entry → Type 0
+StopsOn actor old entries = (all left : List Line) → IsFollowedTo actor all old left → FollowsFront actor first_standing all entries
+
+-- so too where it stops in the event that opens a line
+abbrev pub StopsOpening : Actor → Verb → Stand → List Entry → Type 0
+StopsOpening actor verb old entries = (all left : List Line) (line : Line) → line.verb ≡ verb → IsFollowedTo actor all old (line ∷ left) → FollowsFront actor first_standing all entries
+
+-- and where it stops in the line, which may be another actor's
+abbrev pub StopsIn : Actor → Line → Stand → List Entry → Type 0
+StopsIn actor line old entries = (all left : List Line) → IsFollowedTo actor all old (filter (is_of actor) (line ∷ left)) → FollowsFront actor first_standing all entries
+
+-- ---- choices
 -- the event opens no line, and where nothing is left to do nothing is owed
 abbrev pub MayGoOn : Standing → Choice → Type 0
 MayGoOn st (choice.Event e) = opener e ≡ None

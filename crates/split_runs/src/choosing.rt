@@ -1,21 +1,20 @@
 // The next event of a line.
-ghost use Rattle.std.specs.Prelude.{◌≡◌, ◌^◌, IfSome, None};
+ghost use Rattle.std.specs.Prelude.{◌≡◌, ◌^◌, ◌×◌, IfSome, None};
 ghost use Rattle.line_steps.specs.Clocks.{TicksWithin};
 ghost use Rattle.seat_lines.specs.Follows.{opener};
 ghost use Rattle.seat_lines.specs.Owed.{Standing};
 ghost use Rattle.split_runs.specs.Runs.{MayGoOn};
+ghost use Rattle.split_runs.specs.Sights.{IsSightOf};
 
 use crate::account::Account;
 use crate::later::later_event;
+use crate::looking::Sight;
 use history_book::Actor;
 use line_steps::{Point, View, next_event};
-use machine::Doing;
-use oracle_parts::{Place, Request};
 use script_data::Line;
 use seat_lines::Owed;
-use split_stores::{Event, Split};
+use split_stores::Event;
 use stamp_base::{NodeNo, SessionNo};
-use std::sync::Wait;
 
 /// How a line goes on.
 #[derive(Clone, Copy, Debug, PartialEq, Eq)]
@@ -27,13 +26,14 @@ pub(crate) enum Choice {
     Stuck,
 }
 
-/// How the line goes on from this point: as in file order, by what is seen of its actor; and where that is over before what the
+/// How the line goes on from this point: as in file order, by what was seen of its actor; and where that is over before what the
 /// line owes, by an event that shows what has become of it.
-pub(crate) fn choose(line: &Line, point: Point, view: &View, account: &Account) -> Choice
-    requires { TicksWithin (2 ^ 62) line.now.verb }
+pub(crate) fn choose(line: &Line, point: Point, sight: &Sight, account: &Account) -> Choice
+    requires ticks { TicksWithin (2 ^ 62) line.now.verb }
+    requires sight { IsSightOf line.now.actor sight.now }
     ensures { MayGoOn account.now result }
 {
-    match line_event(line, point, view) {
+    match line_event(line, point, &sight.view()) {
         Some(event) => Choice::Event(event),
         None if account.is_paid() => Choice::Over,
         None => owed_event(&line.actor, &account.owed()),
@@ -71,36 +71,5 @@ fn paying_event(session: SessionNo, owed: &Owed) -> Event
             session,
         },
         _ => Event::Step { session },
-    }
-}
-
-/// What the run of an actor's line looks at.
-pub(crate) fn look<R: Wait>(rt: &R, split: &Split, actor: Actor) -> View {
-    match actor {
-        Actor::Session(session) => look_at_session(rt, split, session),
-        Actor::Janitor => seen(Doing::Gone, None, split.sweeping(rt)),
-        Actor::Clock | Actor::Node(_) => seen(Doing::Gone, None, false),
-    }
-}
-
-fn look_at_session<R: Wait>(rt: &R, split: &Split, session: SessionNo) -> View {
-    let request = split.request_of(rt, session);
-    seen(split.doing(rt, session), request, false)
-}
-
-fn seen(doing: Doing, request: Option<(NodeNo, Request, Place)>, sweeping: bool) -> View {
-    match request {
-        Some((node, request, place)) => View {
-            doing,
-            request: Some((node, place)),
-            commit: matches!(request, Request::Commit { .. }),
-            sweeping,
-        },
-        None => View {
-            doing,
-            request: None,
-            commit: false,
-            sweeping,
-        },
     }
 }

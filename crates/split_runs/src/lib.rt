@@ -5,6 +5,7 @@
 mod account;
 mod choosing;
 mod later;
+mod looking;
 mod naming;
 mod opening;
 mod owing;

@@ -1,5 +1,5 @@
 // One actor that carries out its lines.
-ghost use Rattle.std.specs.Prelude.{◌≡◌, ◌≤◌, ◌<◌, ◌-◌, [], IfErr, IfOk, OnOk, Some, None, true, false, length, slice_index_or};
+ghost use Rattle.std.specs.Prelude.{◌≡◌, ◌≤◌, ◌<◌, ◌-◌, [], IfErr, IfOk, OnOk, Some, None, OnErr, true, false, length, slice_index_or};
 ghost use Rattle.stamp_base.specs.declared.limits.TheConstants.{LINE_LIMIT};
 ghost use Rattle.script_data.specs.Ticks.{tick_of};
 ghost use Rattle.line_steps.specs.Answers.{is_of};
@@ -10,10 +10,11 @@ ghost use Rattle.split_stores.specs.Makes.{Makes};
 ghost use Rattle.seat_lines.specs.Follows as follows;
 ghost use Rattle.seat_lines.specs.Laws.{NamesNoMaster, NameNoMaster};
 ghost use Rattle.seat_lines.specs.Owed.{is_paid, first_standing};
-ghost use Rattle.split_runs.specs.Runs.{CanOpen, Enters, GoesOn, OpensLine, PlaysLine, RisesInBounds, RiseInBounds, TellsDrawn, stand};
+ghost use Rattle.split_runs.specs.Runs.{CanOpen, Enters, GoesOn, OpensLine, PlaysLine, RisesInBounds, RiseInBounds, StopsIn, StopsOn, StopsOpening, TellsDrawn, stand};
 
 use crate::account::Account;
-use crate::choosing::{Choice, choose, look};
+use crate::choosing::{Choice, choose};
+use crate::looking::look;
 use crate::naming::{tell, wait_for};
 use crate::opening::first_event;
 use crate::owing::same_actor;
@@ -52,6 +53,7 @@ impl<R: Wait, G: PartGate> Player<'_, R, G> {
         requires masters { NameNoMaster lines.now }
         ensures word { seat.new.word ≡ seat.old.word }
         ensures follows { OnOk result (follows.FollowsLines lines.now self.now.actor seat.new.entries) }
+        ensures front { follows.FollowsSome lines.now self.now.actor seat.new.entries }
         ensures spent { IfErr result (TellsDrawn seat.new.entries) }
     {
         for line in lines {
@@ -74,6 +76,7 @@ impl<R: Wait, G: PartGate> Player<'_, R, G> {
         requires master { NamesNoMaster line.now.verb }
         ensures word { seat.new.word ≡ seat.old.word }
         ensures plays { OnOk result (PlaysLine self.now.actor line.now (stand seat.old account.old) (stand seat.new account.new)) }
+        ensures stops { OnErr result (StopsIn self.now.actor line.now (stand seat.old account.old) seat.new.entries) }
         ensures spent { IfErr result (TellsDrawn seat.new.entries) }
     {
         if !same_actor(&line.actor, &self.actor) {
@@ -105,6 +108,7 @@ impl<R: Wait, G: PartGate> Player<'_, R, G> {
         requires own { is_of self.now.actor line.now ≡ true }
         ensures word { seat.new.word ≡ seat.old.word }
         ensures plays { OnOk result (PlaysLine self.now.actor line.now (stand seat.old account.old) (stand seat.new account.new)) }
+        ensures stops { OnErr result (StopsOpening self.now.actor line.now.verb (stand seat.old account.old) seat.new.entries) }
         ensures spent { IfErr result (TellsDrawn seat.new.entries) }
     {
         if let Err(stop) = wait_for(self.rt, self.split, self.posting, &line.verb) {
@@ -126,9 +130,11 @@ impl<R: Wait, G: PartGate> Player<'_, R, G> {
         from: Point,
     ) -> Result<(), PlayStop>
         requires word { seat.old.word ≡ self.now.split.now.id }
+        requires own { line.now.actor ≡ self.now.actor }
         requires ticks { RisesInBounds line.now.verb }
         ensures word { seat.new.word ≡ seat.old.word }
         ensures on { OnOk result (GoesOn self.now.actor (stand seat.old account.old) (stand seat.new account.new)) }
+        ensures stops { OnErr result (StopsOn self.now.actor (stand seat.old account.old) seat.new.entries) }
         ensures paid { OnOk result (is_paid account.new ≡ true) }
         ensures spent { IfErr result (TellsDrawn seat.new.entries) }
     {
@@ -151,14 +157,16 @@ impl<R: Wait, G: PartGate> Player<'_, R, G> {
         point: Point,
     ) -> Result<Option<Point>, PlayStop>
         requires word { seat.old.word ≡ self.now.split.now.id }
+        requires own { line.now.actor ≡ self.now.actor }
         requires ticks { RisesInBounds line.now.verb }
         ensures word { seat.new.word ≡ seat.old.word }
         ensures on { OnOk result (GoesOn self.now.actor (stand seat.old account.old) (stand seat.new account.new)) }
+        ensures stops { OnErr result (StopsOn self.now.actor (stand seat.old account.old) seat.new.entries) }
         ensures paid { IfOk result (λ then. then ≡ None → is_paid account.new ≡ true) }
         ensures spent { IfErr result (TellsDrawn seat.new.entries) }
     {
-        let view = look(self.rt, self.split, self.actor);
-        match choose(line, point, &view, account) {
+        let sight = look(self.rt, self.split, self.actor);
+        match choose(line, point, &sight, account) {
             Choice::Event(event) => {
                 let halt = self.go_on(seat, account, event)?;
                 Ok(Some(follows(&line.verb, point, halt)))
@@ -183,6 +191,7 @@ impl<R: Wait, G: PartGate> Player<'_, R, G> {
         requires tick { rise_of event ≤ tick_of verb.now }
         ensures word { seat.new.word ≡ seat.old.word }
         ensures opens { OnOk result (OpensLine self.now.actor verb.now (stand seat.old account.old) (stand seat.new account.new)) }
+        ensures stops { OnErr result (StopsOpening self.now.actor verb.now (stand seat.old account.old) seat.new.entries) }
         ensures spent { IfErr result (TellsDrawn seat.new.entries) }
     {
         let halt = self.make(seat, event)?;
@@ -205,6 +214,7 @@ impl<R: Wait, G: PartGate> Player<'_, R, G> {
         requires later { follows.opener event ≡ None }
         ensures word { seat.new.word ≡ seat.old.word }
         ensures on { OnOk result (GoesOn self.now.actor (stand seat.old account.old) (stand seat.new account.new)) }
+        ensures stops { OnErr result (StopsOn self.now.actor (stand seat.old account.old) seat.new.entries) }
         ensures spent { IfErr result (TellsDrawn seat.new.entries) }
     {
         let halt = self.make(seat, event)?;
