@@ -1,25 +1,29 @@
 -- What a request is told of its keys, its stamps and its term: by its definition where the items are found, and the other way round.
-use Rattle.std.proofs.Common.{◌≡◌, ℕ, ◌<◌, ◌==◌, ◌&&◌, nat_lt, true, false, List, Option, Some, None, Contains, is_some, is_none, refl, sym, subst, ap, ◌∙◌, inl, inr, arith}
-use Rattle.std.specs.Prelude.{slice_get, IfSome}
-use Rattle.std.proofs.lemmas.Bool.{eqb-true, and_parts, and_from, or_cases, or_left, le-leb, leb-true}
+use Rattle.std.proofs.Common.{◌≡◌, ℕ, ◌<◌, ◌==◌, ◌&&◌, nat_lt, Bool, true, false, List, Option, Some, None, Contains, drop, is_some, is_none, refl, sym, subst, ap, ◌∙◌, inl, inr, arith}
+use Rattle.std.specs.Prelude.{slice_get, IfSome, if◌then◌else◌}
+use Rattle.std.specs.Option.{option_or}
+use Rattle.std.proofs.lemmas.Bool.{cases_Bool, eqb-true, and_parts, and_from, or_cases, or_left, le-leb, leb-true}
 use Rattle.stamp_base.specs.SetupNumbers.{SetupNumbers}
 use Rattle.history_book.specs.Members.{◌∈◌}
 use Rattle.history_book.specs.Isolation.{Committed}
 use Rattle.history_book.proofs.MemberLemmas.{in_at}
+use Rattle.history_book.specs.declared.item.Actor.TheVariants.{Session}
+use Rattle.history_book.specs.declared.item.StoreStep.TheVariants.{Fetch}
 use Rattle.history_book.specs.declared.item.Item.{Item}
 use Rattle.history_book.specs.declared.item.Item.TheVariants as item
 use Rattle.cause_rules.specs.Asks.{its_node, its_start, its_term}
+use Rattle.cause_rules.specs.OwnKeys.{last_begun, since_begin, FetchedSince, HasRead, WroteOrRead}
 use Rattle.cause_rules.specs.Commits.{CommitDrawn, StampDrawn, ShownConflict, ShownHidden, ShownNotYet, ShownNoStamp, ShownReplaced}
 use Rattle.cause_rules.specs.Posts.{TermTaken, CeilingGiven}
 use Rattle.cause_rules.specs.Written.{written_keys}
 use Rattle.refusal_reasons.specs.declared.clue.Clue.TheVariants as clue
-use Rattle.refusal_reasons.specs.Clues.{draws_commit, draws_start, draws_stamp, takes_term, gives_ceiling_in, places}
+use Rattle.refusal_reasons.specs.Clues.{fetches, draws_commit, draws_start, draws_stamp, takes_term, gives_ceiling_in, places}
 use Rattle.refusal_reasons.specs.Decided.{WrittenBySetup, ForgottenBySetup}
-use Rattle.refusal_reasons.specs.Showing.{conflict, conflict_by, conflict_with, hidden, not_yet, no_stamp, replaced, own_place, is_rival, rival, places_behind}
+use Rattle.refusal_reasons.specs.Showing.{conflict, conflict_by, conflict_with, hidden, not_yet, no_stamp, replaced, begin_from, fetch_place, own_place, is_rival, rival, three_places}
 use Rattle.refusal_reasons.specs.Sought.{seek}
 use Rattle.refusal_reasons.proofs.SeekLemmas.{found, last_is}
 use Rattle.refusal_reasons.proofs.PartLemmas.{in_drop}
-use Rattle.refusal_reasons.proofs.PlaceLemmas.{IsPlace, one_found, one_parts, two_found, two_parts, one_behind, behind_one, two_behind, behind_two, same, both, seek_all, sought_in}
+use Rattle.refusal_reasons.proofs.PlaceLemmas.{IsPlace, one_found, one_parts, two_found, two_parts, three_found, three_parts, place_or, same, both, seek_in, seek_all, sought_in, begin_part}
 use Rattle.refusal_reasons.proofs.WrittenLemmas.{wrote_found, found_wrote}
 
 -- ---- a draw of a commit in a term
@@ -66,26 +70,64 @@ rival_form h u key by _ e = absurd cc
 is_there : (o : Option ℕ) (place : ℕ) → o ≡ Some place → is_some o ≡ true
 is_there o place e = rw e refl
 
-rival_whole : (h : List Item) (own : Option ℕ) (start u key by w : ℕ) → CommitDrawn h u w by → Contains (written_keys h w) key → start < by → is_some (conflict_by h own start key by (rival h u key by)) ≡ true
-rival_whole h own start u key by w (s, n, m) wrote above =
+rival_whole : (h : List Item) (own : Option ℕ) (start u key by w : ℕ) → IsPlace own → CommitDrawn h u w by → Contains (written_keys h w) key → start < by → is_some (conflict_by h own start key by (rival h u key by)) ≡ true
+rival_whole h own start u key by w there (s, n, m) wrote above =
     let at = in_drop (item.Draw s n u w (Some by)) h 0 m in
     let write = wrote_found h w key wrote in
     let is : is_rival h u key by (item.Draw s n u w (Some by)) ≡ true = and_from ((u == u) && (by == by)) (is_some (seek h 0 (clue.Wrote w key))) (both u by) (is_there (seek h 0 (clue.Wrote w key)) write.place write.is) in
     let f = found (is_rival h u key by) h 0 at.0 (item.Draw s n u w (Some by)) (omega arith) at.1.1 is in
     let form = rival_form h u key by f.last.item f.last.fits in
     let stands : slice_get h f.place ≡ Some (item.Draw form.of.s form.of.n u form.of.writer (Some by)) = f.last.stands ∙ ap Some form.of.is in
-    rw (f.is, stands) (two_behind own (nat_lt start by) (Some f.place) (seek h 0 (clue.Wrote form.of.writer key)) (le-leb _ _ above) (f.place, refl) form.wrote)
+    rw (f.is, stands) (three_found (nat_lt start by) own (Some f.place) (seek h 0 (clue.Wrote form.of.writer key)) (le-leb _ _ above) there (f.place, refl) form.wrote)
 
--- what the setup says of the own side, where the start is known
-own_whole : (setup : SetupNumbers) (h : List Item) (s key start : ℕ) → its_start h s ≡ Some start → (setup.strict ≡ false → Contains (written_keys h start) key) → WrittenBySetup setup h s key
-own_whole setup h s key start is own = λ plain. rw is (own plain)
+-- ---- the own side
+-- what the setup says of it, where the start is known
+own_written : (setup : SetupNumbers) (h : List Item) (s key start : ℕ) → setup.strict ≡ false → WroteOrRead setup h s start key → Contains (written_keys h start) key
+own_written setup h s key start plain (inl wrote) = wrote
+own_written setup h s key start plain (inr read) = absurd (let clash : false ≡ true = sym plain ∙ read.0 in cc)
 
-own_sound : (setup : SetupNumbers) (h : List Item) (s key start : ℕ) → its_start h s ≡ Some start → WrittenBySetup setup h s key → setup.strict ≡ false → Contains (written_keys h start) key
-own_sound setup h s key start is own plain = subst (λ (o : Option ℕ). IfSome o (λ t. Contains (written_keys h t) key)) is (own plain)
+own_whole : (setup : SetupNumbers) (h : List Item) (s key start : ℕ) → its_start h s ≡ Some start → WroteOrRead setup h s start key → WrittenBySetup setup h s key
+own_whole setup h s key start is own = λ plain. rw is (own_written setup h s key start plain own)
+
+-- the fetch of a key that was read
+fetch_found : (h : List Item) (s key start : ℕ) → HasRead h s start key → IsPlace (fetch_place h s start key (last_begun h s))
+fetch_found h s key start has =
+    let behind : item.Step (Session s) (Fetch key has.fetched.0) ∈ drop (begin_from h s) h = subst (λ (part : List Item). item.Step (Session s) (Fetch key has.fetched.0) ∈ part) (begin_part h s) has.fetched.1 in
+    let at = seek_in h (begin_from h s) (clue.Fetched s key) (item.Step (Session s) (Fetch key has.fetched.0)) behind (both s key) in
+    (at.0, rw (has.begun, same start) at.1)
+
+own_found : (setup : SetupNumbers) (h : List Item) (s key start : ℕ) → WroteOrRead setup h s start key → IsPlace (own_place h s start key)
+own_found setup h s key start (inl wrote) = let write = wrote_found h start key wrote in (write.place, rw write.is refl)
+own_found setup h s key start (inr read) = place_or (seek h 0 (clue.Wrote start key)) (fetch_place h s start key (last_begun h s)) (fetch_found h s key start read.1)
+
+fetch_form : (h : List Item) (s key : ℕ) (x : Item) → x ∈ since_begin h s → fetches s key x ≡ true → FetchedSince h s key
+fetch_form h s key (item.Step (Session session) (Fetch k cells)) m e =
+    let parts = and_parts (session == s) (k == key) e in
+    (cells, subst (λ (v : ℕ). item.Step (Session v) (Fetch key cells) ∈ since_begin h s) (eqb-true session s parts.0) (subst (λ (v : ℕ). item.Step (Session session) (Fetch v cells) ∈ since_begin h s) (eqb-true k key parts.1) m))
+fetch_form h s key _ m e = absurd cc
+
+fetch_sound : (h : List Item) (s key start : ℕ) (begun : Option ℕ) → last_begun h s ≡ begun → IsPlace (fetch_place h s start key begun) → HasRead h s start key
+fetch_sound h s key start None is at = absurd (let none = at.1 in cc)
+fetch_sound h s key start (Some t) is at = fetch_by (t == start) refl at where
+  fetch_by : (b : Bool) → (t == start) ≡ b → IsPlace (if b then seek h (begin_from h s) (clue.Fetched s key) else None) → HasRead h s start key
+  fetch_by false other there = absurd (let none = there.1 in cc)
+  fetch_by true own there =
+      let found = sought_in h (begin_from h s) there.0 (clue.Fetched s key) there.1 in
+      record { begun = is ∙ ap Some (eqb-true t start own); fetched = fetch_form h s key found.0 (subst (λ (part : List Item). found.0 ∈ part) (sym (begin_part h s)) found.1.0) found.1.1 }
+
+own_by : (setup : SetupNumbers) (h : List Item) (s key start : ℕ) (write : Option ℕ) → seek h 0 (clue.Wrote start key) ≡ write → setup.strict ≡ true → IsPlace (option_or write (fetch_place h s start key (last_begun h s))) → WroteOrRead setup h s start key
+own_by setup h s key start (Some place) is strict at = inl (found_wrote h start key place is)
+own_by setup h s key start None is strict at = inr (strict, fetch_sound h s key start (last_begun h s) refl at)
+
+own_sound : (setup : SetupNumbers) (h : List Item) (s key start : ℕ) → its_start h s ≡ Some start → WrittenBySetup setup h s key → IsPlace (own_place h s start key) → WroteOrRead setup h s start key
+own_sound setup h s key start is own at = elim (cases_Bool setup.strict) [
+  | inl strict ↦ own_by setup h s key start (seek h 0 (clue.Wrote start key)) refl strict at
+  | inr plain ↦ inl (subst (λ (o : Option ℕ). IfSome o (λ t. Contains (written_keys h t) key)) is (own plain))
+]
 
 pub conflict_whole : (setup : SetupNumbers) (h : List Item) (s key by : ℕ) → ShownConflict setup h s key by → (is_some (conflict h s key by (its_node h s) (its_start h s) (its_term h s)) ≡ true) × WrittenBySetup setup h s key
 conflict_whole setup h s key by shown = (
-  rw (shown.node_is, shown.start_is, shown.term_is) (rival_whole h (own_place h s shown.start key) shown.start shown.term key by shown.writer shown.drawn shown.wrote shown.above),
+  rw (shown.node_is, shown.start_is, shown.term_is) (rival_whole h (own_place h s shown.start key) shown.start shown.term key by shown.writer (own_found setup h s key shown.start shown.own) shown.drawn shown.wrote shown.above),
   own_whole setup h s key shown.start shown.start_is shown.own,
 )
 
@@ -96,8 +138,8 @@ rival_sound setup h s key by n t u ns ss ts own (Some place) is e =
     let last = last_is (is_rival h u key by) h 0 place is in
     let form = rival_form h u key by last.item last.fits in
     let stands : slice_get h place ≡ Some (item.Draw form.of.s form.of.n u form.of.writer (Some by)) = last.stands ∙ ap Some form.of.is in
-    let all : is_some (places_behind (own_place h s t key) (nat_lt t by) (Some place) (seek h 0 (clue.Wrote form.of.writer key))) ≡ true = subst (λ (o : Option Item). is_some (conflict_with h (own_place h s t key) t key by place o) ≡ true) stands e in
-    let parts = behind_two (own_place h s t key) (nat_lt t by) (Some place) (seek h 0 (clue.Wrote form.of.writer key)) all in
+    let all : is_some (three_places (nat_lt t by) (own_place h s t key) (Some place) (seek h 0 (clue.Wrote form.of.writer key))) ≡ true = subst (λ (o : Option Item). is_some (conflict_with h (own_place h s t key) t key by place o) ≡ true) stands e in
+    let parts = three_parts (nat_lt t by) (own_place h s t key) (Some place) (seek h 0 (clue.Wrote form.of.writer key)) all in
     let at = in_at h place last.item last.stands in
     record {
       node = n;
@@ -106,11 +148,11 @@ rival_sound setup h s key by n t u ns ss ts own (Some place) is e =
       start_is = ss;
       term = u;
       term_is = ts;
-      own = own_sound setup h s key t ss own;
+      own = own_sound setup h s key t ss own parts.1.0;
       above = leb-true _ _ parts.0;
       writer = form.of.writer;
       drawn = (form.of.s, form.of.n, subst (λ (x : Item). x ∈ h) form.of.is at);
-      wrote = found_wrote h form.of.writer key parts.1.1.0 parts.1.1.1;
+      wrote = found_wrote h form.of.writer key parts.1.1.1.0 parts.1.1.1.1;
     }
 
 pub conflict_sound : (setup : SetupNumbers) (h : List Item) (s key by : ℕ) (node start term : Option ℕ) → its_node h s ≡ node → its_start h s ≡ start → its_term h s ≡ term
@@ -125,7 +167,7 @@ pub hidden_whole : (setup : SetupNumbers) (h : List Item) (s key water : ℕ) �
     → (is_some (hidden h s key water (its_node h s) (its_start h s) (its_term h s)) ≡ true) × (WrittenBySetup setup h s key × ForgottenBySetup setup h s key water)
 hidden_whole setup h s key water shown =
     let drawn = commit_drawn h shown.term shown.writer water shown.drawn in (
-      rw (shown.node_is, shown.start_is, shown.term_is) (one_behind (own_place h s shown.start key) (nat_lt shown.start water) (seek h 0 (clue.Commit shown.term water)) (le-leb _ _ shown.above) drawn),
+      rw (shown.node_is, shown.start_is, shown.term_is) (two_found (nat_lt shown.start water) (own_place h s shown.start key) (seek h 0 (clue.Commit shown.term water)) (le-leb _ _ shown.above) (own_found setup h s key shown.start shown.own) drawn),
       (
         own_whole setup h s key shown.start shown.start_is shown.own,
         record { term = shown.term; term_is = shown.term_is; forgotten = shown.forgotten; forgot = shown.forgot; writer = shown.writer; drawn = shown.drawn; other = shown.other; wrote = shown.wrote; same_bucket = shown.same_bucket },
@@ -138,13 +180,13 @@ hidden_sound setup h s key water None start term ns ss ts e by = absurd cc
 hidden_sound setup h s key water (Some n) None term ns ss ts e by = absurd cc
 hidden_sound setup h s key water (Some n) (Some t) None ns ss ts e by = absurd cc
 hidden_sound setup h s key water (Some n) (Some t) (Some u) ns ss ts e by =
-    let parts = behind_one (own_place h s t key) (nat_lt t water) (seek h 0 (clue.Commit u water)) e in
+    let parts = two_parts (nat_lt t water) (own_place h s t key) (seek h 0 (clue.Commit u water)) e in
     record {
       node = n;
       node_is = ns;
       start = t;
       start_is = ss;
-      own = own_sound setup h s key t ss by.0;
+      own = own_sound setup h s key t ss by.0 parts.1.0;
       term = by.1.term;
       term_is = by.1.term_is;
       forgotten = by.1.forgotten;

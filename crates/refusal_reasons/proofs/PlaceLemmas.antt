@@ -1,17 +1,19 @@
 -- Places that are all there, items that fit by what they are, and the last take of a node.
 use Rattle.std.proofs.Common.{◌≡◌, ℕ, ◌==◌, ◌&&◌, Bool, true, false, if◌then◌else◌, List, Option, Some, None, take, drop, is_some, refl, sym, subst, ap, ◌∙◌}
 use Rattle.std.specs.Prelude.{slice_get, IfSome}
+use Rattle.std.specs.Option.{option_or}
 use Rattle.std.proofs.lemmas.Bool.{eqb-true, eq-eqb}
 use Rattle.std.proofs.lemmas.Option.{same_Some}
 use Rattle.history_book.specs.Members.{◌∈◌}
 use Rattle.history_book.specs.declared.item.Item.{Item}
 use Rattle.history_book.specs.declared.item.Item.TheVariants as item
 use Rattle.cause_rules.specs.Asks.{asks_for, since_ask}
+use Rattle.cause_rules.specs.OwnKeys.{begins_for, since_begin}
 use Rattle.cause_rules.specs.Posts.{Taken, last_take, take_by, takes_for, since_take}
 use Rattle.refusal_reasons.specs.declared.clue.Clue.{Clue}
 use Rattle.refusal_reasons.specs.Clues.{fits}
 use Rattle.refusal_reasons.specs.Sought.{passes, seek}
-use Rattle.refusal_reasons.specs.Showing.{one_place, two_places, place_behind, places_behind, ask_from, take_place, take_from, last_take_at}
+use Rattle.refusal_reasons.specs.Showing.{one_place, two_places, three_places, ask_from, begin_from, take_place, take_from, last_take_at}
 use Rattle.refusal_reasons.proofs.SeekLemmas.{found, last_is, Known, known}
 use Rattle.refusal_reasons.proofs.PartLemmas.{in_drop, drop_in, since_is, Tells, told_is, ToldAt}
 
@@ -36,23 +38,20 @@ two_parts true (Some a) None e = absurd cc
 two_parts true None p e = absurd cc
 two_parts false o p e = absurd cc
 
--- and behind a place that may not be there
-pub one_behind : (own : Option ℕ) (b : Bool) (o : Option ℕ) → b ≡ true → IsPlace o → is_some (place_behind own b o) ≡ true
-one_behind own b o agrees at = rw (agrees, at.1) refl
+pub three_found : (b : Bool) (o p q : Option ℕ) → b ≡ true → IsPlace o → IsPlace p → IsPlace q → is_some (three_places b o p q) ≡ true
+three_found b o p q agrees at and third = rw (agrees, at.1, and.1, third.1) refl
 
-pub behind_one : (own : Option ℕ) (b : Bool) (o : Option ℕ) → is_some (place_behind own b o) ≡ true → (b ≡ true) × IsPlace o
-behind_one own true (Some a) e = (refl, (a, refl))
-behind_one own true None e = absurd cc
-behind_one own false o e = absurd cc
+pub three_parts : (b : Bool) (o p q : Option ℕ) → is_some (three_places b o p q) ≡ true → (b ≡ true) × (IsPlace o × (IsPlace p × IsPlace q))
+three_parts true (Some a) (Some c) (Some d) e = (refl, ((a, refl), ((c, refl), (d, refl))))
+three_parts true (Some a) (Some c) None e = absurd cc
+three_parts true (Some a) None q e = absurd cc
+three_parts true None p q e = absurd cc
+three_parts false o p q e = absurd cc
 
-pub two_behind : (own : Option ℕ) (b : Bool) (o p : Option ℕ) → b ≡ true → IsPlace o → IsPlace p → is_some (places_behind own b o p) ≡ true
-two_behind own b o p agrees at and = rw (agrees, at.1, and.1) refl
-
-pub behind_two : (own : Option ℕ) (b : Bool) (o p : Option ℕ) → is_some (places_behind own b o p) ≡ true → (b ≡ true) × (IsPlace o × IsPlace p)
-behind_two own true (Some a) (Some c) e = (refl, ((a, refl), (c, refl)))
-behind_two own true (Some a) None e = absurd cc
-behind_two own true None p e = absurd cc
-behind_two own false o p e = absurd cc
+-- one of two places
+pub place_or : (o p : Option ℕ) → IsPlace p → IsPlace (option_or o p)
+place_or None p at = at
+place_or (Some a) p at = (a, refl)
 
 -- ---- an item that stands in the history, or behind a place, is found
 pub same : (n : ℕ) → (n == n) ≡ true
@@ -151,6 +150,9 @@ fits_take test h n e = by_take_place test h n (take_place h n) (told_is (take_by
 -- ---- the parts since the ask, the draw and the take, by their places
 pub ask_part : (h : List Item) (s : ℕ) → since_ask h s ≡ drop (ask_from h s) h
 ask_part h s = since_is (asks_for s) h
+
+pub begin_part : (h : List Item) (s : ℕ) → since_begin h s ≡ drop (begin_from h s) h
+begin_part h s = since_is (begins_for s) h
 
 pub take_part : (h : List Item) (n : ℕ) → since_take h n ≡ drop (take_from h n) h
 take_part h n = since_is (takes_for n) h

@@ -1,4 +1,4 @@
--- A session's ask, term and draw, by the place of the item that told them.
+-- A session's ask, term, draw and begin, by the place of the item that told them.
 use Rattle.std.proofs.Common.{◌≡◌, ℕ, ◌<◌, Bool, true, false, List, Option, Some, None, length, get_or, is_some, refl, subst}
 use Rattle.std.specs.Prelude.{IfSome}
 use Rattle.std.proofs.lemmas.Option.{slice_get_read}
@@ -6,6 +6,7 @@ use Rattle.history_book.specs.declared.item.Item.{Item}
 use Rattle.history_book.specs.declared.item.Item.TheVariants as item
 use Rattle.cause_rules.specs.Since.{last_told}
 use Rattle.cause_rules.specs.Asks.{ask_by, asks_for, term_by, draw_by, draws_for, its_ask}
+use Rattle.cause_rules.specs.OwnKeys.{begin_by, begins_for, last_begun}
 use Rattle.refusal_reasons.specs.declared.clue.Clue.TheVariants as clue
 use Rattle.refusal_reasons.specs.Clues.{accepts_for}
 use Rattle.refusal_reasons.specs.Sought.{last_place, seek}
@@ -38,6 +39,14 @@ draw_one : (s : ℕ) (x : Item) → draws_for s x ≡ true → is_some (draw_by 
 draw_one s (item.Draw session node term start commit) e = rw e refl
 draw_one s _ e = absurd cc
 
+begin_no : (s : ℕ) (x : Item) → begins_for s x ≡ false → begin_by s x ≡ None
+begin_no s (item.Begin session start) e = rw e refl
+begin_no s _ e = refl
+
+begin_one : (s : ℕ) (x : Item) → begins_for s x ≡ true → is_some (begin_by s x) ≡ true
+begin_one s (item.Begin session start) e = rw e refl
+begin_one s _ e = absurd cc
+
 -- ---- at a place that is known
 told_none : {A : Type 0} (told : Item → Option A) (test : Item → Bool) (h : List Item) → Tells told test → last_place test h 0 ≡ None → last_told told h ≡ None
 told_none told test h tells is = subst (λ (o : Option ℕ). ToldAt told h o) is (told_is told test h tells)
@@ -64,3 +73,9 @@ draw_none h s = told_none (draw_by s) (draws_for s) h (record { no = draw_no s; 
 
 pub draw_some : (h : List Item) (s place : ℕ) (x : Item) → seek h 0 (clue.Drew s) ≡ Some place → place < length h → x ≡ get_or h place x → last_told (draw_by s) h ≡ draw_by s x
 draw_some h s place x = told_some (draw_by s) (draws_for s) h place x (record { no = draw_no s; one = draw_one s })
+
+pub begin_none : (h : List Item) (s : ℕ) → seek h 0 (clue.Begun s) ≡ None → last_begun h s ≡ None
+begin_none h s = told_none (begin_by s) (begins_for s) h (record { no = begin_no s; one = begin_one s })
+
+pub begin_some : (h : List Item) (s place : ℕ) (x : Item) → seek h 0 (clue.Begun s) ≡ Some place → place < length h → x ≡ get_or h place x → last_begun h s ≡ begin_by s x
+begin_some h s place x = told_some (begin_by s) (begins_for s) h place x (record { no = begin_no s; one = begin_one s })

@@ -6,6 +6,7 @@ use Rattle.history_book.specs.declared.item.Item.{Item}
 use Rattle.history_book.specs.declared.item.StoreStep.TheVariants as step
 use Rattle.history_book.specs.declared.item.Item.TheVariants as item
 pub use Rattle.cause_rules.specs.Asks.{asks_for, draws_for}
+pub use Rattle.cause_rules.specs.OwnKeys.{begins_for}
 pub use Rattle.cause_rules.specs.Posts.{takes_for, crashes_for}
 use Rattle.refusal_reasons.specs.declared.clue.Clue.{Clue}
 use Rattle.refusal_reasons.specs.declared.clue.Clue.TheVariants as clue
@@ -19,10 +20,9 @@ abbrev pub writes : ℕ → ℕ → Item → Bool
 writes t k (item.Write session start key value) = (start == t) && (key == k)
 writes t k _ = false
 
-abbrev pub reads : ℕ → ℕ → Item → Bool
-reads s k (item.Step (Session session) (step.Fetch key count)) = (session == s) && (key == k)
-reads s k (item.Read session start key answer) = (session == s) && (key == k)
-reads s k _ = false
+abbrev pub fetches : ℕ → ℕ → Item → Bool
+fetches s k (item.Step (Session session) (step.Fetch key count)) = (session == s) && (key == k)
+fetches s k _ = false
 
 abbrev pub draws_commit : ℕ → ℕ → Item → Bool
 draws_commit u c (item.Draw session node term start (Some commit)) = (term == u) && (commit == c)
@@ -124,7 +124,8 @@ fits (clue.Ask session) x = asks_for session x
 fits (clue.Accepted session) x = accepts_for session x
 fits (clue.Drew session) x = draws_for session x
 fits (clue.Wrote start key) x = writes start key x
-fits (clue.HasRead session key) x = reads session key x
+fits (clue.Begun session) x = begins_for session x
+fits (clue.Fetched session key) x = fetches session key x
 fits (clue.Commit term commit) x = draws_commit term commit x
 fits (clue.StampIn term stamp) x = draws_stamp term stamp x
 fits (clue.Marked start) x = marks start x

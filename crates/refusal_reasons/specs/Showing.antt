@@ -9,6 +9,7 @@ use Rattle.history_book.specs.declared.item.Actor.TheVariants.{Session, Node, Ja
 use Rattle.history_book.specs.declared.item.Item.{Item}
 use Rattle.history_book.specs.declared.item.Item.TheVariants.{Draw}
 use Rattle.cause_rules.specs.Asks.{its_node, its_start, its_term, its_draw}
+use Rattle.cause_rules.specs.OwnKeys.{last_begun}
 use Rattle.refusal_reasons.specs.declared.shown.Places.{Places}
 use Rattle.refusal_reasons.specs.declared.clue.Clue.TheVariants as clue
 use Rattle.refusal_reasons.specs.Clues.{draws_commit, fits}
@@ -27,14 +28,9 @@ abbrev pub two_places : Bool → Option ℕ → Option ℕ → Option Places
 two_places true (Some a) (Some b) = Some (record { first = Some a; second = Some b; third = None })
 two_places _ _ _ = None
 
--- ---- the same, behind a place that may not be there
-abbrev pub place_behind : Option ℕ → Bool → Option ℕ → Option Places
-place_behind own true (Some a) = Some (record { first = own; second = Some a; third = None })
-place_behind own _ _ = None
-
-abbrev pub places_behind : Option ℕ → Bool → Option ℕ → Option ℕ → Option Places
-places_behind own true (Some a) (Some b) = Some (record { first = own; second = Some a; third = Some b })
-places_behind own _ _ _ = None
+abbrev pub three_places : Bool → Option ℕ → Option ℕ → Option ℕ → Option Places
+three_places true (Some a) (Some b) (Some c) = Some (record { first = Some a; second = Some b; third = Some c })
+three_places _ _ _ _ = None
 
 -- ---- from where on
 abbrev pub ask_from : List Item → ℕ → ℕ
@@ -51,10 +47,21 @@ abbrev pub last_take_at : (Item → Bool) → List Item → Option ℕ → Optio
 last_take_at test h None = None
 last_take_at test h (Some place) = if passes test (slice_get h place) then Some place else None
 
--- ---- the own side of a key: the write, and where there is none the last fetch or read of it by the session. There may be
--- neither: whether a key that was not written counts, the setup says
+-- ---- whether a number is there, and this one
+abbrev pub same : Option ℕ → ℕ → Bool
+same None n = false
+same (Some m) n = m == n
+
+-- ---- the own side of a key: the write, and where there is none the last fetch of it since the begin that gave the start. Whether a
+-- key counts that was only read, the setup says
+abbrev pub begin_from : List Item → ℕ → ℕ
+begin_from h s = behind (seek h 0 (clue.Begun s))
+
+abbrev pub fetch_place : List Item → ℕ → ℕ → ℕ → Option ℕ → Option ℕ
+fetch_place h s start key begun = if same begun start then seek h (begin_from h s) (clue.Fetched s key) else None
+
 abbrev pub own_place : List Item → ℕ → ℕ → ℕ → Option ℕ
-own_place h s start key = option_or (seek h 0 (clue.Wrote start key)) (seek h 0 (clue.HasRead s key))
+own_place h s start key = option_or (seek h 0 (clue.Wrote start key)) (fetch_place h s start key (last_begun h s))
 
 -- ---- a conflict: the own side, the draw of a transaction that wrote the key, and that write
 abbrev pub is_rival : List Item → ℕ → ℕ → ℕ → Item → Bool
@@ -65,7 +72,7 @@ abbrev pub rival : List Item → ℕ → ℕ → ℕ → Option ℕ
 rival h u key by = last_place (is_rival h u key by) h 0
 
 abbrev pub conflict_with : List Item → Option ℕ → ℕ → ℕ → ℕ → ℕ → Option Item → Option Places
-conflict_with h own start key by place (Some (Draw session node term writer commit)) = places_behind own (nat_lt start by) (Some place) (seek h 0 (clue.Wrote writer key))
+conflict_with h own start key by place (Some (Draw session node term writer commit)) = three_places (nat_lt start by) own (Some place) (seek h 0 (clue.Wrote writer key))
 conflict_with h own start key by place _ = None
 
 abbrev pub conflict_by : List Item → Option ℕ → ℕ → ℕ → ℕ → Option ℕ → Option Places
@@ -78,12 +85,8 @@ conflict h s key by _ _ _ = None
 
 -- ---- the others that a request is told
 abbrev pub hidden : List Item → ℕ → ℕ → ℕ → Option ℕ → Option ℕ → Option ℕ → Option Places
-hidden h s key water (Some node) (Some start) (Some term) = place_behind (own_place h s start key) (nat_lt start water) (seek h 0 (clue.Commit term water))
+hidden h s key water (Some node) (Some start) (Some term) = two_places (nat_lt start water) (own_place h s start key) (seek h 0 (clue.Commit term water))
 hidden h s key water _ _ _ = None
-
-abbrev pub same : Option ℕ → ℕ → Bool
-same None n = false
-same (Some m) n = m == n
 
 abbrev pub old_epoch : List Item → ℕ → ℕ → Option ℕ → Option ℕ → Option Places
 old_epoch h start epoch (Some node) its = one_place (same its start && nat_le start epoch) (last_take_at (fits (clue.Epoch node epoch)) h (take_place h node))

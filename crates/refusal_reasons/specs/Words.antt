@@ -9,7 +9,7 @@ use Rattle.refusal_reasons.specs.declared.shown.Places.{Places}
 use Rattle.refusal_reasons.specs.Showing.{shown_by}
 
 unfoldable pub reason_text : Cause → List ℕ
-reason_text (cause.Conflict key by) = codes "a transaction that ran at the same time wrote the key, and its commit was drawn first; this one wrote it as well, or with strict reads may only have read it"
+reason_text (cause.Conflict key by) = codes "a transaction that ran at the same time wrote the key, and its commit was drawn first; this one wrote it as well, or with strict reads has read it"
 reason_text (cause.Hidden key water) = codes "the node has forgotten what was committed at the key, and a commit that it forgot is above the start; by the buckets of the setup, which no history tells"
 reason_text (cause.OldEpoch start epoch) = codes "the transaction began in an earlier term, whose commits its node does not know"
 reason_text (cause.Expired reading until) = codes "the lease of its node was over by that node's clock"

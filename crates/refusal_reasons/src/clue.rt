@@ -15,8 +15,9 @@ pub enum Clue {
     Crashed { node: NodeNo },
     CrashedIn { node: NodeNo, term: u64 },
     Wrote { start: u64, key: KeyNo },
-    /// A fetch or a read of the key by the session.
-    HasRead { session: SessionNo, key: KeyNo },
+    Begun { session: SessionNo },
+    /// A fetch of the key by the session.
+    Fetched { session: SessionNo, key: KeyNo },
     /// A draw of the commit in the term.
     Commit { term: u64, commit: u64 },
     /// A draw of the stamp in the term, as a start or as a commit.
@@ -53,7 +54,8 @@ pub fn fits(clue: &Clue, item: &Item) -> bool
         Clue::Accepted { session } => accepts(session, item),
         Clue::Drew { session } => draws(session, item),
         Clue::Wrote { start, key } => writes(start, key, item),
-        Clue::HasRead { session, key } => reads(session, key, item),
+        Clue::Begun { session } => begins(session, item),
+        Clue::Fetched { session, key } => fetches(session, key, item),
         Clue::Commit { term, commit } => draws_commit(term, commit, item),
         Clue::StampIn { term, stamp } => draws_stamp(term, stamp, item),
         Clue::Marked { start } => marks(start, item),
@@ -123,15 +125,23 @@ fn writes(own: u64, written: KeyNo, item: &Item) -> bool
     }
 }
 
-fn reads(own: SessionNo, its: KeyNo, item: &Item) -> bool
-    ensures { result ≡ clues.reads own its item.now }
+fn begins(own: SessionNo, item: &Item) -> bool
+    ensures { result ≡ clues.begins_for own item.now }
+{
+    match *item {
+        Item::Begin { session, .. } => session == own,
+        _ => false,
+    }
+}
+
+fn fetches(own: SessionNo, its: KeyNo, item: &Item) -> bool
+    ensures { result ≡ clues.fetches own its item.now }
 {
     match *item {
         Item::Step {
             actor: Actor::Session(session),
             what: StoreStep::Fetch { key, .. },
         } => session == own && key == its,
-        Item::Read { session, key, .. } => session == own && key == its,
         _ => false,
     }
 }

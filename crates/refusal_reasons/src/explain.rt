@@ -105,7 +105,7 @@ fn reason(cause: &Cause) -> &'static [u8]
 {
     match *cause {
         Cause::Conflict { .. } => {
-            b"a transaction that ran at the same time wrote the key, and its commit was drawn first; this one wrote it as well, or with strict reads may only have read it"
+            b"a transaction that ran at the same time wrote the key, and its commit was drawn first; this one wrote it as well, or with strict reads has read it"
         }
         Cause::Hidden { .. } => {
             b"the node has forgotten what was committed at the key, and a commit that it forgot is above the start; by the buckets of the setup, which no history tells"

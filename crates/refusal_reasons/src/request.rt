@@ -1,7 +1,8 @@
-// What a history tells of a session's request: its ask, its node, its term and its draw.
+// What a history tells of a session's request: its ask, its node, its term and its draw; and the begin of its transaction.
 ghost use Rattle.std.specs.Prelude.{◌≡◌, ◌<◌, ◌≤◌, IfSome, length};
 ghost use Rattle.cause_rules.specs.Asks as asks;
-ghost use Rattle.refusal_reasons.specs.Showing.{ask_from, draw_from, draws_its};
+ghost use Rattle.cause_rules.specs.OwnKeys as own_keys;
+ghost use Rattle.refusal_reasons.specs.Showing.{ask_from, begin_from, draw_from, draws_its};
 
 use crate::clue::Clue;
 use crate::sought::{behind, items_since, seek};
@@ -63,6 +64,34 @@ fn since_ask(items: &[Item], session: SessionNo) -> &[Item]
     ensures { result.now ≡ asks.since_ask items.now session }
 {
     items_since(items, &Clue::Ask { session })
+}
+
+/// The start that its last begin gave.
+#[tactic(auto, using(crate::proofs::RequestLemmas::begin_none, crate::proofs::RequestLemmas::begin_some))]
+pub fn begun_of(items: &[Item], session: SessionNo) -> Option<u64>
+    ensures { result ≡ own_keys.last_begun items.now session }
+{
+    match seek(items, 0, &Clue::Begun { session }) {
+        Some(place) => begun_in(&items[place], session),
+        None => None,
+    }
+}
+
+fn begun_in(item: &Item, own: SessionNo) -> Option<u64>
+    ensures { result ≡ own_keys.begin_by own item.now }
+{
+    match *item {
+        Item::Begin { session, start } if session == own => Some(start.value()),
+        _ => None,
+    }
+}
+
+/// The place behind its last begin.
+pub fn begin_from(items: &[Item], session: SessionNo) -> usize
+    ensures place { result ≡ begin_from items.now session }
+    ensures within { result ≤ length items.now }
+{
+    behind(seek(items, 0, &Clue::Begun { session }))
 }
 
 /// The term in which its request was accepted.

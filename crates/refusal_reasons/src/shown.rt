@@ -1,12 +1,13 @@
 // Where the items stand that show a refusal.
 ghost use Rattle.std.specs.Prelude.{◌≡◌, ◌<◌, ◌≤◌, IfSome, Some, true, length, slice_get};
 ghost use Rattle.cause_rules.specs.Asks as asks;
+ghost use Rattle.cause_rules.specs.OwnKeys as own_keys;
 ghost use Rattle.refusal_reasons.specs.declared.clue.Clue.TheVariants as clue;
 ghost use Rattle.refusal_reasons.specs.Sought as sought;
 ghost use Rattle.refusal_reasons.specs.Showing as showing;
 
 use crate::clue::{Clue, fits};
-use crate::request::{ask_from, draw_from, draws_its, node_of, start_of, term_of};
+use crate::request::{ask_from, begin_from, begun_of, draw_from, draws_its, node_of, start_of, term_of};
 use crate::sought::{behind, last_take_at, rival, seek};
 use history_book::{Actor, Cause, Item};
 use stamp_base::{KeyNo, NodeNo, SessionNo, TxnId};
@@ -132,32 +133,17 @@ fn two_places(agrees: bool, first: Option<usize>, second: Option<usize>) -> Opti
     }
 }
 
-/// The place, behind one that may not be there.
-fn place_behind(own: Option<usize>, agrees: bool, place: Option<usize>) -> Option<Places>
-    ensures { result ≡ showing.place_behind own agrees place }
-{
-    if agrees && place.is_some() {
-        Some(Places {
-            first: own,
-            second: place,
-            third: None,
-        })
-    } else {
-        None
-    }
-}
-
-fn places_behind(
-    own: Option<usize>,
+fn three_places(
     agrees: bool,
+    first: Option<usize>,
     second: Option<usize>,
     third: Option<usize>,
 ) -> Option<Places>
-    ensures { result ≡ showing.places_behind own agrees second third }
+    ensures { result ≡ showing.three_places agrees first second third }
 {
-    if agrees && second.is_some() && third.is_some() {
+    if agrees && first.is_some() && second.is_some() && third.is_some() {
         Some(Places {
-            first: own,
+            first,
             second,
             third,
         })
@@ -177,13 +163,27 @@ fn is_same(number: Option<u64>, other: u64) -> bool
 
 // ---- what a request is told
 
-/// Where the session wrote the key in the transaction, and else where it fetched or read it last.
+/// Where the session wrote the key in the transaction, and else where it fetched it last since the transaction began.
 fn own_place(items: &[Item], session: SessionNo, start: u64, key: KeyNo) -> Option<usize>
     ensures { result ≡ showing.own_place items.now session start key }
 {
     match seek(items, 0, &Clue::Wrote { start, key }) {
         Some(write) => Some(write),
-        None => seek(items, 0, &Clue::HasRead { session, key }),
+        None => fetch_place(items, session, start, key),
+    }
+}
+
+fn fetch_place(items: &[Item], session: SessionNo, start: u64, key: KeyNo) -> Option<usize>
+    ensures { result ≡ showing.fetch_place items.now session start key (own_keys.last_begun items.now session) }
+{
+    if is_same(begun_of(items, session), start) {
+        seek(
+            items,
+            begin_from(items, session),
+            &Clue::Fetched { session, key },
+        )
+    } else {
+        None
     }
 }
 
@@ -210,9 +210,9 @@ fn conflict_with(
     ensures { result ≡ showing.conflict_with items.now own start key by place (slice_get items.now place) }
 {
     match items[place] {
-        Item::Draw { start: writer, .. } => places_behind(
-            own,
+        Item::Draw { start: writer, .. } => three_places(
             start < by,
+            own,
             Some(place),
             write_of(items, writer, key),
         ),
@@ -236,7 +236,7 @@ fn hidden(items: &[Item], session: SessionNo, key: KeyNo, water: u64) -> Option<
     let own = own_place(items, session, start, key);
     let commit = water;
     let draw = seek(items, 0, &Clue::Commit { term, commit });
-    place_behind(own, start < water, draw)
+    two_places(start < water, own, draw)
 }
 
 fn old_epoch(items: &[Item], session: SessionNo, start: u64, epoch: u64) -> Option<Places>

@@ -19,13 +19,13 @@ use Rattle.turn_rules.specs.declared.turn.Turn.{Turn}
 use Rattle.turn_rules.specs.declared.turn.Turn.TheVariants as turn
 use Rattle.turn_rules.specs.Lawful as lawful
 use Rattle.turn_rules.specs.Lawful.{stage_of, IsInPlace, LacksStamps, session_view, serving_turn, serving_turn_of, stage_turn}
-use Rattle.turn_engine.specs.Run.{Ran, reached_by, IsUsedUp, IsCarriedOut}
+use Rattle.turn_engine.specs.Run.{Ran, reached_by, IsToldUsedUp, IsCarriedOut}
 use Rattle.thread_steps.specs.declared.stages.StageStep.{StageStep}
 use Rattle.thread_steps.specs.declared.stages.StageStep.TheVariants as step
 use Rattle.turn_engine.specs.Making.{serves}
-use Rattle.turn_engine.specs.Steps.{state_of, IsServable, MayTakeMemory, LacksOnlyThere, LacksUnserved}
+use Rattle.turn_engine.specs.Steps.{state_of, ExtendsFirst, IsServable, NeedsStamps, MayTakeMemory, LacksOnlyThere, LacksUnserved}
 use Rattle.turn_engine.proofs.Steady.{facts}
-use Rattle.turn_engine.proofs.Silent.{serving, is_accepted}
+use Rattle.turn_engine.proofs.Silent.{serving, is_accepted, any_held}
 
 -- ---- a turn of a stage
 pub record IsOfStage (w : State) (stage : Stage) (node : ℕ) (by : Turn) : Type 0 where
@@ -57,25 +57,16 @@ pub of_stage_turn : (w : State) (stage : Stage) (node s : ℕ) (by : Turn) → s
 of_stage_turn w stage node s by is = serving_any w stage node s (session_view w s).request by refl is
 
 -- ---- where a decision found no stamp, the range can be extended
-any_by : (held : Option Held) (others : List (Option Held)) (here : Bool) → lawful.is_accepted held ≡ here → list_any lawful.is_accepted others ≡ true → list_any lawful.is_accepted (held ∷ others) ≡ true
-any_by held others true here later = ap (λ (b : Bool). b || list_any lawful.is_accepted others) here
-any_by held others false here later = ap (λ (b : Bool). b || list_any lawful.is_accepted others) here ∙ later
-
-any_accepted : (all : List (Option Held)) (s : ℕ) (held : Held) → slice_index_or all s None ≡ Some held → lawful.is_accepted (Some held) ≡ true → list_any lawful.is_accepted all ≡ true
-any_accepted [] s held has accepted = absurd (none-some held has)
-any_accepted (first ∷ others) zero held has accepted = ap (λ (b : Bool). b || list_any lawful.is_accepted others) (ap lawful.is_accepted has ∙ accepted)
-any_accepted (first ∷ others) (suc s) held has accepted = any_by first others (lawful.is_accepted first) refl (any_accepted others s held has accepted)
-
-lacks : (w : State) (node : ℕ) (i : InstanceEntry) → slice_get w.nodes node ≡ Some (Some i) → IsUsedUp (slice_get w.nodes node) → list_any lawful.is_accepted i.requests ≡ true → LacksStamps (slice_get w.nodes node)
+lacks : (w : State) (node : ℕ) (i : InstanceEntry) → slice_get w.nodes node ≡ Some (Some i) → IsToldUsedUp (slice_get w.nodes node) → list_any lawful.is_accepted i.requests ≡ true → LacksStamps (slice_get w.nodes node)
 lacks w node i at used waits =
-    let used_up : i.last ≡ i.ceiling = subst (λ (o : Option (Option InstanceEntry)). IsUsedUp o) at used in
-    subst (λ (o : Option (Option InstanceEntry)). LacksStamps o) (sym at) (used_up, waits)
+    let told : IsToldUsedUp (Some (Some i)) = subst (λ (o : Option (Option InstanceEntry)). IsToldUsedUp o) at used in
+    subst (λ (o : Option (Option InstanceEntry)). LacksStamps o) (sym at) (told.0, waits)
 
-pub lacks_stamps : (w : State) (h : List Item) (node s : ℕ) → Stands w h → IsInPlace w (turn.Decide node s) → IsUsedUp (slice_get w.nodes node) → LacksStamps (slice_get w.nodes node)
+pub lacks_stamps : (w : State) (h : List Item) (node s : ℕ) → Stands w h → IsInPlace w (turn.Decide node s) → IsToldUsedUp (slice_get w.nodes node) → LacksStamps (slice_get w.nodes node)
 lacks_stamps w h node s stands asks used =
     let k : Serving w h s (node, place.Accepted) = serving w h node s place.Accepted stands asks in
     let accepted : k.served.held.progress ≡ progress.Accepted = is_accepted w h node s k in
-    lacks w node k.served.holder.i k.served.holder.at used (any_accepted k.served.holder.i.requests s k.served.held k.served.holder.has (ap lawful.is_accepted_by accepted))
+    lacks w node k.served.holder.i k.served.holder.at used (any_held lawful.is_accepted k.served.holder.i.requests s k.served.held k.served.holder.has (ap lawful.is_accepted_by accepted))
 
 -- a decision that serves is of the node and the session
 decide_by : (stage : Stage) (node s : ℕ) (commit : Bool) (at : Place) (n other : ℕ) → serving_turn stage node s commit at ≡ Some (turn.Decide n other) → serving_turn stage node s commit at ≡ Some (turn.Decide node s)
@@ -107,7 +98,7 @@ extends_first r lacking stage node s n other out lacks is =
     record {
       of_stage = k.of_stage;
       in_place = lacks_stamps w (reached_by r).played.items node s (facts r.script r.turns out.sound out.few).reached.stands k.in_place (out.used_up node lacks);
-      of_session = inr (refl, decides_it);
+      of_session = inr (record { extends = refl; decides = decides_it; told = out.used_up node lacks });
     }
 
 serves_itself : (r : Ran) (stage : Stage) (node s : ℕ) (by : Turn) → stage_turn stage node s (session_view (state_of r) s) ≡ Some by → IsServable r node stage s by
@@ -153,13 +144,40 @@ accepts r node s n other stage is =
     let k : IsOfStage (state_of r) stage node (turn.Accept node s) = of_stage_turn (state_of r) stage node s (turn.Accept node s) (accept_any stage node s (session_view (state_of r) s).commit (session_view (state_of r) s).request n other is) in
     at_stage r node s node stage k.of_stage (inl k.in_place)
 
+-- a turn by which a request is served itself is no extension
+extends_none_by : (stage : Stage) (node s : ℕ) (commit : Bool) (at : Place) (n : ℕ) → serving_turn stage node s commit at ≡ Some (turn.Extend n) → ⊥
+extends_none_by Request node s commit place.Asked n is = cc
+extends_none_by Request node s commit place.Accepted n is = cc
+extends_none_by Persist node s true place.Drawn n is = cc
+extends_none_by Reply node s false place.Drawn n is = cc
+extends_none_by Reply node s true place.Settled n is = cc
+extends_none_by _ node s commit at n is = none-some (turn.Extend n) is
+
+extends_none_here : (stage : Stage) (node s : ℕ) (commit : Bool) (at : Place) (n : ℕ) (here : Bool) → cond here (serving_turn stage node s commit at) None ≡ Some (turn.Extend n) → ⊥
+extends_none_here stage node s commit at n true is = extends_none_by stage node s commit at n is
+extends_none_here stage node s commit at n false is = none-some (turn.Extend n) is
+
+extends_none : (stage : Stage) (node s : ℕ) (commit : Bool) (request : Option (ℕ × Place)) (n : ℕ) → serving_turn_of stage node s commit request ≡ Some (turn.Extend n) → ⊥
+extends_none stage node s commit None n is = none-some (turn.Extend n) is
+extends_none stage node s commit (Some request) n is = extends_none_here stage node s commit request.1 n (request.0 == node) is
+
+-- an extension is made for a request that stands before its decision
+extends_for : (r : Ran) (node s n : ℕ) (stage : Stage) → IsInPlace (state_of r) (turn.Extend n) → ExtendsFirst r node stage s (turn.Extend n) → MayTakeMemory r node stage s
+extends_for r node s n stage in_place first =
+    let k : IsOfStage (state_of r) stage node (turn.Decide node s) = of_stage_turn (state_of r) stage node s (turn.Decide node s) first.decides in
+    let needs : NeedsStamps r node s = record { waits = k.in_place; lacks = subst (λ (t : Turn). IsInPlace (state_of r) t) first.extends in_place; told = first.told } in
+    at_stage r node s node stage k.of_stage (inr needs)
+
 -- a turn that serves no request that was accepted accepts one, or extends a range
 takes_by : (r : Ran) (node s : ℕ) (stage : Stage) (by : Turn) → IsServable r node stage s by → serves by ≡ false → MayTakeMemory r node stage s
 takes_by r node s stage (turn.Accept n other) k none = elim k.of_session [
   | inl is ↦ accepts r node s n other stage is
-  | inr other_turn ↦ absurd (true≢false (ap accepting other_turn.0))
+  | inr first ↦ absurd (true≢false (ap accepting first.extends))
 ]
-takes_by r node s stage (turn.Extend n) k none = at_stage r node s n stage k.of_stage (inr k.in_place)
+takes_by r node s stage (turn.Extend n) k none = elim k.of_session [
+  | inl is ↦ absurd (extends_none stage node s (session_view (state_of r) s).commit (session_view (state_of r) s).request n is)
+  | inr first ↦ extends_for r node s n stage k.in_place first
+]
 takes_by r node s stage (turn.Own actor aim) k none = absurd (none-some (node, stage) k.of_stage)
 takes_by r node s stage (turn.Decide n other) k none = absurd (true≢false none)
 takes_by r node s stage (turn.Put n other) k none = absurd (true≢false none)

@@ -1,8 +1,10 @@
 -- For this crate's own proofs.
 -- A decision that found no stamp shows that none is left.
-use Rattle.std.proofs.Common.{◌≡◌, ℕ, ◌+◌, ◌==◌, Bool, true, false, cond, List, [], ◌∷◌, Option, Some, None, Result, Ok, Err, refl, sym, ◌∙◌, ap, subst}
-use Rattle.std.specs.Prelude.{slice_get}
+use Rattle.std.proofs.Common.{◌≡◌, ℕ, zero, suc, ◌+◌, ◌==◌, ◌||◌, Bool, true, false, cond, List, [], ◌∷◌, Option, Some, None, Result, Ok, Err, refl, sym, ◌∙◌, ap, subst}
+use Rattle.std.specs.Prelude.{◌&&◌, slice_get, slice_index_or, slice_set}
+use Rattle.std.specs.List.{list_any}
 use Rattle.std.proofs.lemmas.Bool.{true≢false, eqb-true}
+use Rattle.std.proofs.lemmas.Option.{none-some}
 use Rattle.port_io.specs.declared.weather.Fate.{Fate}
 use Rattle.history_book.specs.declared.cause.Cause.{Cause}
 use Rattle.history_book.specs.declared.cause.Cause.TheVariants as cause
@@ -31,9 +33,9 @@ use Rattle.oracle_parts.specs.Instance.{place_of_progress}
 use Rattle.isolation_laws.specs.Sound.{Stands}
 use Rattle.line_steps.proofs.Driving.{serving_at}
 use Rattle.line_steps.proofs.Serving.{Serving, node_step, on_both}
-use Rattle.turn_rules.specs.Lawful.{session_view}
+use Rattle.turn_rules.specs.Lawful.{is_accepted_by, session_view}
 use Rattle.turn_engine.specs.Making.{has_some}
-use Rattle.turn_engine.specs.Run.{IsUsedUp}
+use Rattle.turn_engine.specs.Run.{waits_told, IsToldUsedUp}
 
 pub not_empty : (x : Item) (xs : List Item) → x ∷ xs ≡ [] → ⊥
 not_empty x xs e = true≢false (ap has_some e)
@@ -77,26 +79,44 @@ decided_is w node s fate i held c at client_at has accepted =
     ∙ ap (λ (found : Option Held). decided w node s held c (both_held i s c.reads found)) has
     ∙ ap (λ (p : Progress). decided w node s held c (both_if_accepted i s c.reads held p)) accepted
 
--- ---- where no stamp was found, none is left
+-- ---- one of the requests
+any_by : (P : Option Held → Bool) (held : Option Held) (others : List (Option Held)) (here : Bool) → P held ≡ here → list_any P others ≡ true → list_any P (held ∷ others) ≡ true
+any_by P held others true here later = ap (λ (b : Bool). b || list_any P others) here
+any_by P held others false here later = ap (λ (b : Bool). b || list_any P others) here ∙ later
+
+pub any_held : (P : Option Held → Bool) (all : List (Option Held)) (s : ℕ) (held : Held) → slice_index_or all s None ≡ Some held → P (Some held) ≡ true → list_any P all ≡ true
+any_held P [] s held has so = absurd (none-some held has)
+any_held P (first ∷ others) zero held has so = ap (λ (b : Bool). b || list_any P others) (ap P has ∙ so)
+any_held P (first ∷ others) (suc s) held has so = any_by P first others (P first) refl (any_held P others s held has so)
+
+-- in the place of another
+any_set : (P : Option Held → Bool) (all : List (Option Held)) (s : ℕ) (was now : Held) → slice_index_or all s None ≡ Some was → P (Some now) ≡ true → list_any P (slice_set all s (Some now)) ≡ true
+any_set P [] s was now has so = absurd (none-some was has)
+any_set P (first ∷ others) zero was now has so = ap (λ (b : Bool). b || list_any P others) so
+any_set P (first ∷ others) (suc s) was now has so = any_by P first (slice_set others s (Some now)) (P first) refl (any_set P others s was now has so)
+
+-- ---- where no stamp was found, none is left, and the request was told so
 abbrev is_lack : Option Halt → Bool
 is_lack (Some halt.NoStamp) = true
 is_lack _ = false
 
-lacks_by : (w : State) (node s : ℕ) (held : Held) (i left : InstanceEntry) (c : Client) (answer : Result Decided Cause) → FindsNone i s held (record { left = left; answer = answer }) → InstanceAt w.nodes node i → halt_of (decided w node s held c (record { left = left; answer = answer })).stop ≡ Some halt.NoStamp → IsUsedUp (slice_get (decided w node s held c (record { left = left; answer = answer })).state.nodes node)
-lacks_by w node s held i left c (Ok drawn) finds at stopped = absurd (true≢false (sym (ap is_lack stopped)))
-lacks_by w node s held i left c (Err (cause.NoStamp last)) finds at stopped =
+lacks_by : (w : State) (node s : ℕ) (held : Held) (i left : InstanceEntry) (c : Client) (answer : Result Decided Cause) → FindsNone i s held (record { left = left; answer = answer }) → held_of i s ≡ Some held → held.progress ≡ progress.Accepted → InstanceAt w.nodes node i → halt_of (decided w node s held c (record { left = left; answer = answer })).stop ≡ Some halt.NoStamp → IsToldUsedUp (slice_get (decided w node s held c (record { left = left; answer = answer })).state.nodes node)
+lacks_by w node s held i left c (Ok drawn) finds has accepted at stopped = absurd (true≢false (sym (ap is_lack stopped)))
+lacks_by w node s held i left c (Err (cause.NoStamp last)) finds has accepted at stopped =
     let found : FoundNone i s held left = finds last refl in
-    let used : left.last ≡ left.ceiling = subst (λ (x : InstanceEntry). x.last ≡ x.ceiling) (sym found.left_is) found.used_up in
-    subst IsUsedUp (sym (set_found w.nodes node (Some left) (Some i) at)) used
-lacks_by w node s held i left c (Err _) finds at stopped = absurd (true≢false (sym (ap is_lack stopped)))
+    let told : Held = record held { told_no_stamp = true } in
+    let waits : list_any waits_told (slice_set i.requests s (Some told)) ≡ true = any_set waits_told i.requests s held told has (ap (λ (p : Progress). is_accepted_by p && true) accepted) in
+    let used : IsToldUsedUp (Some (Some left)) = subst (λ (x : InstanceEntry). IsToldUsedUp (Some (Some x))) (sym found.left_is) (found.used_up, waits) in
+    subst IsToldUsedUp (sym (set_found w.nodes node (Some left) (Some i) at)) used
+lacks_by w node s held i left c (Err _) finds has accepted at stopped = absurd (true≢false (sym (ap is_lack stopped)))
 
-pub decide_lacks : (w : State) (h : List Item) (node s : ℕ) (fate : Fate) (k : Serving w h s (node, place.Accepted)) → k.served.held.progress ≡ progress.Accepted → halt_of (stepped w (event.Decide node s) fate).stop ≡ Some halt.NoStamp → IsUsedUp (slice_get (stepped w (event.Decide node s) fate).state.nodes node)
+pub decide_lacks : (w : State) (h : List Item) (node s : ℕ) (fate : Fate) (k : Serving w h s (node, place.Accepted)) → k.served.held.progress ≡ progress.Accepted → halt_of (stepped w (event.Decide node s) fate).stop ≡ Some halt.NoStamp → IsToldUsedUp (slice_get (stepped w (event.Decide node s) fate).state.nodes node)
 decide_lacks w h node s fate k accepted =
     let i : InstanceEntry = k.served.holder.i in
     let held : Held = k.served.held in
     let step : InstanceStep Decided = verdict_by i s held (both_verdict i.buckets k.c.reads held.request) in
     let finds : FindsNone i s held step = finds_by i s held (both_verdict i.buckets k.c.reads held.request) (k.stands.sound.stops.stop node i k.served.holder.at) in
-    subst (λ (x : Step). halt_of x.stop ≡ Some halt.NoStamp → IsUsedUp (slice_get x.state.nodes node)) (sym (decided_is w node s fate i held k.c k.served.holder.at k.client_at k.served.holder.has accepted)) (lacks_by w node s held i step.left k.c step.answer finds k.served.holder.at)
+    subst (λ (x : Step). halt_of x.stop ≡ Some halt.NoStamp → IsToldUsedUp (slice_get x.state.nodes node)) (sym (decided_is w node s fate i held k.c k.served.holder.at k.client_at k.served.holder.has accepted)) (lacks_by w node s held i step.left k.c step.answer finds k.served.holder.has accepted k.served.holder.at)
 
 -- ---- where a request stands
 accepted_at : (p : Progress) → place_of_progress p ≡ place.Accepted → p ≡ progress.Accepted

@@ -14,13 +14,13 @@ use Rattle.turn_rules.specs.declared.turn.Turn.{Turn}
 use Rattle.turn_rules.specs.declared.turn.Turn.TheVariants as turn
 use Rattle.turn_rules.specs.Seats.{lines_of}
 use Rattle.turn_rules.specs.Carried.{seat_of, own_ahead, event_of, is_held, holds_at}
-use Rattle.turn_rules.specs.Lawful.{IsLawful, IsInPlace, LacksStamps, stage_of, session_view, stage_turn}
+use Rattle.turn_rules.specs.Lawful.{IsLawful, IsInPlace, stage_of, session_view, stage_turn}
 pub use Rattle.thread_scripts.specs.Places.{place_in}
 use Rattle.turn_engine.specs.declared.answers.Advance.{Advance}
 use Rattle.turn_engine.specs.declared.answers.Advance.TheVariants as advance
 use Rattle.thread_steps.specs.declared.stages.StageStep.{StageStep}
 use Rattle.thread_steps.specs.declared.stages.StageStep.TheVariants as step
-use Rattle.turn_engine.specs.Run.{Ran, reached_by, with_turn}
+use Rattle.turn_engine.specs.Run.{Ran, reached_by, with_turn, IsToldUsedUp}
 use Rattle.turn_engine.specs.Making.{step_in, MakesTurn, serves}
 
 abbrev pub state_of : Ran → State
@@ -103,12 +103,19 @@ abbrev pub ServesBy : Ran → Turn → Event → StageStep → Ran → Type 0
 ServesBy old by e step.NoMemory new = new ≡ old
 ServesBy old by e result new = TellsTurn old by e result new
 
+-- the turn extends the node's range, since the request stands there before its decision and no stamp is left; a session whose request
+-- waits there was told so, this one or another
+pub record ExtendsFirst (r : Ran) (node : ℕ) (stage : Stage) (session : ℕ) (by : Turn) : Type 0 where
+  pub extends : by ≡ turn.Extend node
+  pub decides : stage_turn stage node session (session_view (state_of r) session) ≡ Some (turn.Decide node session)
+  pub told : IsToldUsedUp (slice_get (state_of r).nodes node)
+
 -- the turn is one of the stage, and its request stands where it is made; a request that is accepted where no stamp is left may be
 -- served by an extension of the range
 pub record IsServable (r : Ran) (node : ℕ) (stage : Stage) (session : ℕ) (by : Turn) : Type 0 where
   pub of_stage : stage_of by ≡ Some (node, stage)
   pub in_place : IsInPlace (state_of r) by
-  pub of_session : (stage_turn stage node session (session_view (state_of r) session) ≡ Some by) ⊎ ((by ≡ turn.Extend node) × (stage_turn stage node session (session_view (state_of r) session) ≡ Some (turn.Decide node session)))
+  pub of_session : (stage_turn stage node session (session_view (state_of r) session) ≡ Some by) ⊎ ExtendsFirst r node stage session by
 
 -- one event of the stage was made for the session's request, and it is told so
 pub record ServesOnce (old : Ran) (node term : ℕ) (stage : Stage) (session : ℕ) (result : StageStep) (new : Ran) : Type 0 where
@@ -125,9 +132,16 @@ Serves old node term stage session step.NoMemory new = (IsStageHeld old node sta
 Serves old node term stage session result new = ServesOnce old node term stage session result new
 
 -- ---- where memory may be refused
--- to a request stage alone: where it accepts the request, or extends a range that is used up
+-- the request stands before its decision at the node, whose range is used up and can be extended; a session whose request waits there
+-- was told so, this one or another
+pub record NeedsStamps (r : Ran) (node session : ℕ) : Type 0 where
+  pub waits : IsInPlace (state_of r) (turn.Decide node session)
+  pub lacks : IsInPlace (state_of r) (turn.Extend node)
+  pub told : IsToldUsedUp (slice_get (state_of r).nodes node)
+
+-- to a request stage alone: where it accepts the request, or where the request needs stamps and the range is extended
 abbrev pub MayTakeMemory : Ran → ℕ → Stage → ℕ → Type 0
-MayTakeMemory r node Request session = IsInPlace (state_of r) (turn.Accept node session) ⊎ LacksStamps (slice_get (state_of r).nodes node)
+MayTakeMemory r node Request session = IsInPlace (state_of r) (turn.Accept node session) ⊎ NeedsStamps r node session
 MayTakeMemory r node _ session = ⊥
 
 abbrev pub LacksOnlyThere : Ran → ℕ → Stage → ℕ → StageStep → Type 0

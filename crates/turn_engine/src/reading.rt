@@ -103,8 +103,8 @@ impl ScriptRun {
         self.planned.cluster.term_of(node)
     }
 
-    /// The turn by which the node's stage serves the session's request as it stands: where a decision found no stamp, the range is
-    /// extended first.
+    /// The turn by which the node's stage serves the session's request as it stands: where the node's last decision found no stamp,
+    /// for this session or another, the range is extended first.
     pub(crate) fn turn_of(&self, stage: Stage, node: NodeNo, session: SessionNo) -> Option<Turn>
         ensures { MatchOption result (lawful.stage_turn stage node session (lawful.session_view (state_of self.now) session) ≡ None)
             (λ turn. IsServable self.now node stage session turn) }
