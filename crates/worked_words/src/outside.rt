@@ -5,6 +5,7 @@ use port_io::{
 };
 use stamp_base::NoMemory;
 use std::alloc::{AllocError, Global};
+use std::fs;
 use std::test::Fail;
 
 fn bytes_of(alloc: Global, text: &[u8]) -> Result<Vec<u8>, AllocError> {
@@ -120,13 +121,22 @@ fn one_fate_for_every_call(rt: HostRuntime) {
     }
 }
 
-// Nothing is asked of standard input, which may be a terminal.
+/// A file where tests are run, which can be read back.
+const STANDARD_OUTPUT: &str = "/dev/stdout";
+
+const WRITTEN: &[u8] = b"kept, then written\n";
+
+// Where tests are run, standard input is at its end.
 #[test]
-fn stands_on_the_system(rt: HostRuntime) {
+fn stands_on_the_system(rt: HostRuntime) -> Result<(), Fail> {
     let mut source = StdSource::new(rt.stdin());
-    assert_eq!(rt; source.read(&mut []), Ok(0));
+    let mut piece = [7; 4];
+    assert_eq!(rt; source.read(&mut piece), Ok(0));
+    assert_eq!(rt; piece, [7; 4]);
     let mut sink = StdSink::new(rt.stdout());
-    let written = write_all_of(&mut sink, b"kept, then written\n");
-    assert_eq!(rt; written, Ok(()));
+    assert_eq!(rt; write_all_of(&mut sink, WRITTEN), Ok(()));
     assert_eq!(rt; sink.finish(), Ok(()));
+    let held = fs::read(&rt, STANDARD_OUTPUT).ok().ok_or("no file")?;
+    assert!(rt; held.as_slice().ends_with(WRITTEN));
+    Ok(())
 }
