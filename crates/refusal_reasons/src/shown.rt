@@ -7,7 +7,9 @@ ghost use Rattle.refusal_reasons.specs.Sought as sought;
 ghost use Rattle.refusal_reasons.specs.Showing as showing;
 
 use crate::clue::{Clue, fits};
-use crate::request::{ask_from, begin_from, begun_of, draw_from, draws_its, node_of, start_of, term_of};
+use crate::request::{
+    ask_from, begin_from, begun_of, draw_from, draws_its, node_of, start_of, term_of,
+};
 use crate::sought::{behind, last_take_at, rival, seek};
 use history_book::{Actor, Cause, Item};
 use stamp_base::{KeyNo, NodeNo, SessionNo, TxnId};

@@ -167,11 +167,7 @@ fn play<R: Wait + Sync, G: PartGate>(shared: &Shared<'_, R, G>, job: Job) -> Job
 
 /// Waits for all of them, and puts the jobs in their order.
 #[tactic(auto, using(std::proofs::lemmas::Slice::Zip::all_zipped_more))]
-pub(crate) fn join_all<R: Threads>(
-    rt: &R,
-    threads: Vec<ActorThread>,
-    played: Vec<Job>,
-) -> Vec<Job>
+pub(crate) fn join_all<R: Threads>(rt: &R, threads: Vec<ActorThread>, played: Vec<Job>) -> Vec<Job>
     requires none { vec_len played ≡ 0 }
     requires room { vec_len threads ≤ vec_capacity played }
     ensures { AllZip GivesBack threads.items result.items }

@@ -54,10 +54,7 @@ fn stops_at<R: Threads + Wait + Sync>(rt: &R, alloc: Global, script: &Script, re
     matches!(split, Err(SplitStop::NoMemory)) && gate.asked() == refused + 1
 }
 
-fn have_one_history(
-    left: &Result<Cluster, SplitStop>,
-    right: &Result<Cluster, SplitStop>,
-) -> bool {
+fn have_one_history(left: &Result<Cluster, SplitStop>, right: &Result<Cluster, SplitStop>) -> bool {
     match (left, right) {
         (Ok(left), Ok(right)) => left.history() == right.history(),
         _ => false,
