@@ -14,7 +14,7 @@ What is checked of a page, by the word behind the three backticks that open a bl
               in its order, by bash, at the top of the repository, with the programs on the PATH. What threads write (`omid run`) is
               compared twenty times.
     omid      a script: `omid replay` carries it out.  `omid run`: on threads and over split stores comes what a replay gives but for notes,
-              twenty times.  `omid stuck`: it is read, and is not carried out, since it would wait for ever.
+              twenty times.  `omid free`: the same, in any order.  `omid stuck`: it would wait for ever on threads, and is replayed alone.
     history   `omid audit` reads each line as an item
     sh        is shown and not run
 
@@ -33,7 +33,7 @@ PROGRAMS = ('omid', 'omid_view', 'bank')
 TRIES = 20
 # a command that takes longer than this is stuck
 SECONDS = 120
-KINDS = {'console', 'omid', 'omid run', 'omid stuck', 'history', 'sh', 'text', 'json', 'sql', 'python', 'rust'}
+KINDS = {'console', 'omid', 'omid run', 'omid free', 'omid stuck', 'history', 'sh', 'text', 'json', 'sql', 'python', 'rust'}
 
 
 def pages():
@@ -126,21 +126,20 @@ def fault_of_command(command, path):
     return None
 
 
-def without_notes(printed):
-    return [line for line in printed.splitlines() if not line.startswith('note ')]
+def told(kind, printed):
+    """The items but for notes, sorted where the script leaves their order open."""
+    items = [line for line in printed.splitlines() if not line.startswith('note ')]
+    return sorted(items) if kind == 'omid free' else items
 
 
 def fault_of_script(kind, text, path):
-    if kind == 'omid stuck':
-        status, printed = run('omid replay', path, text)
-        return None if status == 0 else f'it is no script: {printed}'
     status, replayed = run('omid replay', path, text)
     if status != 0:
         return f'status {status}: {replayed}'
-    for words in ('omid run', 'omid run split') if kind == 'omid run' else ():
+    for words in ('omid run', 'omid run split') if kind in ('omid run', 'omid free') else ():
         for _ in range(TRIES):
             status, printed = run(words, path, text)
-            if status != 0 or without_notes(printed) != without_notes(replayed):
+            if status != 0 or told(kind, printed) != told(kind, replayed):
                 return f'{words}: status {status}, and not what a replay gives:\n{printed[:2000]}'
     return None
 
