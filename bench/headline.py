@@ -2,6 +2,8 @@
 """Counts the definitions on which clauses of the top call rest: how much one has to read to know what they say.
 
     bench/headline.py                     the table of docs/TRUST.md
+    bench/headline.py --write             writes it there
+    bench/headline.py --check             says whether it stands there
     bench/headline.py Isolated Serial     the same of definitions by name, each with its files and the lines of each
 
 A definition counts with the definitions that it names, and these with theirs, through `specs/` of all crates and the types that `src/`
@@ -14,6 +16,7 @@ from collections import defaultdict
 
 ROOT = os.path.dirname(os.path.dirname(os.path.abspath(__file__)))
 CRATES = os.path.join(ROOT, 'crates')
+PAGE = os.path.join(ROOT, 'docs', 'TRUST.md')
 
 # What the table has a row for: words, and the definitions that say it.
 ROWS = [
@@ -25,7 +28,8 @@ ROWS = [
     ('the lines of a history, as text', ['history_text printed']),
     ('the script that bytes are', ['session_script script_of']),
     ('what a replay does, event by event', ['line_steps replayed']),
-    ('**all of `replay`**', ['omid_top Replays', 'omid_top IsReplay', 'history_text printed']),
+    ('**the promise of `replay`**, with `replayed` as a mere name', ['omid_top Replays', 'omid_top IsReplay', 'history_text printed'], {'replayed', 'script_played'}),
+    ('all of `replay`', ['omid_top Replays', 'omid_top IsReplay', 'history_text printed']),
     ('all of `run`', ['omid_top Runs', 'omid_top IsRun']),
     ('all of `run split`', ['omid_top RunsSplit', 'omid_top IsRunSplit']),
     ('**all of `audit`**', ['omid_top Audits', 'omid_top IsAudit']),
@@ -110,8 +114,8 @@ def cut_type(source, name):
     return kept
 
 
-def reached(roots):
-    """All definitions that the roots rest on, as {(file, name): lines}, and the words of std among them."""
+def reached(roots, names=()):
+    """All definitions that the roots rest on, as {(file, name): lines}, and the words of std among them. What is in names is not opened."""
     seen, std, todo = {}, set(), list(roots)
     while todo:
         module, name = todo.pop()
@@ -134,8 +138,8 @@ def reached(roots):
             continue
         if (file.path, local) in seen:
             continue
-        seen[file.path, local] = file.lines[local]
-        todo += named_in(module, file, local)
+        seen[file.path, local] = file.lines[local][:1] if local in names else file.lines[local]
+        todo += [] if local in names else named_in(module, file, local)
     return seen, std
 
 
@@ -168,24 +172,39 @@ def root_of(text):
     return next((module, name) for module, file in sorted(FILES.items()) if module.startswith(crate + '.') and name in file.lines)
 
 
-def counted(roots):
-    seen, std = reached(roots)
+def counted(roots, names=()):
+    seen, std = reached(roots, names)
     files = defaultdict(int)
     for (path, _), lines in seen.items():
         files[os.path.relpath(path, ROOT)] += len(lines)
     return len(seen), sum(files.values()), files, std
 
 
+def table():
+    rows = ['| What is said | Definitions | Lines | Files | Words of std |', '|---|---|---|---|---|']
+    for words, roots, *names in ROWS:
+        count, lines, files, std = counted([root_of(it) for it in roots], *names)
+        rows.append(f'| {words} | {count} | {lines} | {len(files)} | {len({name for _, name in std})} |')
+    whole = sum(len(lines) for file in FILES.values() for lines in file.lines.values())
+    rows.append(f'| all files of `specs/` | {sum(len(file.lines) for file in FILES.values())} | {whole} | {len(FILES)} | |')
+    return '\n'.join(rows) + '\n'
+
+
+def with_table(text):
+    return re.sub(r'(?<=<!-- bench/headline.py -->\n).*?(?=<!-- end -->)', lambda _: table(), text, flags=re.S)
+
+
 def main():
+    if sys.argv[1:] in (['--write'], ['--check']):
+        with open(PAGE, encoding='utf-8') as file:
+            text = file.read()
+        if sys.argv[1] == '--check':
+            return print('the table is as counted' if with_table(text) == text else 'the table is not as counted')
+        with open(PAGE, 'w', encoding='utf-8') as file:
+            file.write(with_table(text))
+        return None
     if not sys.argv[1:]:
-        print('| What is said | Definitions | Lines | Files | Words of std |')
-        print('|---|---|---|---|---|')
-        for words, roots in ROWS:
-            count, lines, files, std = counted([root_of(it) for it in roots])
-            print(f'| {words} | {count} | {lines} | {len(files)} | {len({name for _, name in std})} |')
-        whole = sum(len(lines) for file in FILES.values() for lines in file.lines.values())
-        print(f'\nall of specs/: {sum(len(file.lines) for file in FILES.values())} definitions, {whole} lines, {len(FILES)} files')
-        return
+        return print(table(), end='')
     for name in sys.argv[1:]:
         roots = [(module, name) for module, file in FILES.items() if name in file.lines]
         if not roots:
@@ -195,6 +214,7 @@ def main():
         for path, part in sorted(files.items(), key=lambda it: -it[1]):
             print(f'  {part:5} {path}')
         print('  of std:', ' '.join(sorted({word for _, word in std})))
+    return None
 
 
 if __name__ == '__main__':
