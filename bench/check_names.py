@@ -124,7 +124,8 @@ def prose(text):
 
 def missing_names(tree, text, crates):
     for name in IN_TICKS.findall(text):
-        if '*' in name or '..' in name or '/tmp/' in name:
+        # (patterns, places in other folders, what a build leaves, and words that stand for a name)
+        if '*' in name or '..' in name or '/tmp/' in name or '/out' in name or re.search(r'\b[A-Z]{4,}\b', name):
             continue
         if is_path(name):
             if not any(tree.has_path(way, crates) for way in (name, name.replace('NAME', ''))):
