@@ -172,7 +172,10 @@ def faults_of_blocks(page, path):
 
 def faults_of_links(page):
     count, wrong = 0, []
-    for line, text in enumerate(without_blocks(read(page)).split('\n'), 1):
+    prose = without_blocks(read(page))
+    # a link's words may go over the end of a line
+    bare = re.sub(r'\[[^\]]*\]\([^)]*\)', lambda found: '\n' * found[0].count('\n'), prose)
+    for line, text in enumerate(prose.split('\n'), 1):
         for target in re.findall(r'\]\(([^)\s]+)\)', text):
             if re.match(r'\w+:', target):
                 continue
@@ -183,8 +186,8 @@ def faults_of_links(page):
                 wrong.append((line, f'a dead link: {target}'))
             elif anchor and path.endswith('.md') and anchor not in anchors(read(path)):
                 wrong.append((line, f'no such heading: {target}'))
-        bare = re.sub(r'\[[^\]]*\]\([^)]*\)', '', text)
-        for name in re.findall(r'\b(?:docs/)?[A-Z]{4,}\.md\b', bare):
+    for line, text in enumerate(bare.split('\n'), 1):
+        for name in re.findall(r'\b(?:docs/)?[A-Z]{4,}\.md\b', text):
             wrong.append((line, f'a page that is named and no link: {name}'))
     return count, wrong
 
