@@ -28,9 +28,9 @@ HOUSE = [
     (r'\bjanitor\b', r'garbage collect|cleans? up|clean-up|sweeps?'),
     (r'\bbeacon\b', r'who is (?:the )?master|leader|took the last term|discovery'),
     (r'\bseats?\b', r'actor'),
-    (r'\bturns?\b(?! (?:a|an|the|its|on|off|to|out|round|what))', r'event|step'),
+    (r'\bturns?\b(?! (?:a|an|the|it|its|on|off|to|out|round|what|into|one))', r'event|step'),
     (r'\btickets?\b', r'request'),
-    (r'\bterms?\b', r'epoch|leader|master record|lease'),
+    (r"(?<!field's )\bterms?\b", r'epoch|leader|master record|lease'),
     (r'\bceilings?\b', r'range|last timestamp|limit'),
     (r'\btorn\b', r'differ|do not settle|mismatch|replay'),
 ]
@@ -74,7 +74,7 @@ def alone(page):
     """The house words that no paragraph of the page explains."""
     if page.endswith('GLOSSARY.md'):
         return []
-    parts = re.split(r'\n\s*\n', re.sub(r'`[^`\n]*`', '', without_blocks(read(page))))
+    parts = re.split(r'\n\s*\n', re.sub(r'`[^`\n]*`|\*', '', without_blocks(read(page))))
     found = []
     for house, field in HOUSE:
         uses = [part for part in parts if re.search(house, part, re.I)]
