@@ -18,7 +18,11 @@ What is checked of a page, by the word behind the three backticks that open a bl
     history   `omid audit` reads each line as an item
     sh        is shown and not run
 
-A link has to lead to a file, and to a heading of it where it names one. A page that is named in prose has to be a link."""
+A link has to lead to a file, and to a heading of it where it names one. A page that is named in prose has to be a link. A command that
+stands in a page and in no such block is a fault too: nobody would see that it is wrong.
+
+Of examples/: each script is carried out; a picture is that of the script of its name, a history beside a script is its replay, and an
+answer beside a trace is what an audit says of it."""
 import os
 import re
 import shutil
@@ -186,10 +190,34 @@ def faults_of_links(page):
                 wrong.append((line, f'a dead link: {target}'))
             elif anchor and path.endswith('.md') and anchor not in anchors(read(path)):
                 wrong.append((line, f'no such heading: {target}'))
+    for line, text in enumerate(re.sub(r'^```.*?^```$', lambda found: '\n' * found[0].count('\n'), read(page), flags=re.S | re.M).split('\n'), 1):
+        if re.match(r' {4,}(?:\$ |\(cd crates/|(?:crates/\w+/out/)?omid(?:_view)? [a-z]|jq |awk |examples/\w+\.py )', text):
+            wrong.append((line, f'a command in no block: {text.strip()}'))
     for line, text in enumerate(bare.split('\n'), 1):
         for name in re.findall(r'\b(?:docs/)?[A-Z]{4,}\.md\b', text):
             wrong.append((line, f'a page that is named and no link: {name}'))
     return count, wrong
+
+
+def faults_of_examples(path):
+    folder = os.path.join(ROOT, 'examples')
+    commands = [(f'omid replay < examples/{name}', None) for name in sorted(os.listdir(folder)) if name.endswith('.omid')]
+    for name in sorted(os.listdir(os.path.join(folder, 'pictures'))):
+        script = f'examples/{name[:-4]}.omid'
+        if name.endswith('.svg') and os.path.exists(os.path.join(ROOT, script)):
+            commands.append((f'omid replay < {script} | omid_view picture', f'examples/pictures/{name}'))
+    for name in sorted(os.listdir(folder)):
+        base = f'examples/{name.rpartition(".")[0]}'
+        if name.endswith('.history') and os.path.exists(os.path.join(ROOT, base + '.omid')):
+            commands.append((f'omid replay < {base}.omid', f'examples/{name}'))
+        if name.endswith('.answer') and os.path.exists(os.path.join(ROOT, base + '.json')):
+            commands.append((f'examples/trace.py {base}.json > /tmp/checked.history; omid audit < /tmp/checked.history || true', f'examples/{name}'))
+    wrong = []
+    for words, answer in commands:
+        status, printed = run(words, path)
+        if status != 0 or (answer and printed != read(answer)):
+            wrong.append((0, f'{words}: status {status}' + (f', and not {answer}' if answer else '')))
+    return len(commands), wrong
 
 
 # ---- the programs
@@ -209,6 +237,12 @@ def path_of(how, folder):
     return made
 
 
+def told_faults(page, wrong):
+    for line, fault in sorted(wrong):
+        print(f'{page}:{line}: {fault}', flush=True)
+    return len(wrong)
+
+
 def main():
     words = sys.argv[1:]
     how = words.pop(0) if words and words[0].startswith('-') else ''
@@ -224,9 +258,11 @@ def main():
         if programs:
             count, more = faults_of_blocks(page, path)
             checked, wrong = checked + count, wrong + more
-        for line, fault in sorted(wrong):
-            faults += 1
-            print(f'{page}:{line}: {fault}', flush=True)
+        faults += told_faults(page, wrong)
+    if programs and not words:
+        count, wrong = faults_of_examples(path)
+        checked += count
+        faults += told_faults('examples', wrong)
     if not how:
         shutil.rmtree(programs)
     print(f'{checked} commands, scripts and histories, {links} links: {faults} faults')
