@@ -9,20 +9,21 @@
 
 What is checked of a page, by the word behind the three backticks that open a block:
 
-    console   a line `$ COMMAND` (it goes on in lines that begin with `> `), and below it all that it writes to standard output, up to the
-              next `$`. A line `...` stands for any lines, and a last line `[status 7]` for a status that is not 0. Commands of a page run
-              in its order, by bash, at the top of the repository, with the programs on the PATH. What threads write (`omid run`) is
-              compared twenty times.
-    omid      a script: `omid replay` carries it out.  `omid run`: on threads and over split stores comes what a replay gives but for notes,
-              twenty times.  `omid free`: the same, in any order.  `omid stuck`: it would wait for ever on threads, and is replayed alone.
+    console   a line `$ COMMAND` (it goes on in lines that begin with `> `), and below it all that it writes to standard output,
+              up to the next `$`. A line `...` stands for any lines, and a last line `[status 7]` for a status that is not 0.
+              Commands of a page run in its order, by bash, at the top of the repository, with the programs on the PATH. What
+              threads write (`omid run`) is compared twenty times.
+    omid      a script: `omid replay` carries it out.  `omid run`: on threads and over split stores comes what a replay gives
+              but for notes, twenty times.  `omid free`: the same, in any order.  `omid stuck`: it would wait for ever on
+              threads, and is replayed alone.
     history   `omid audit` reads each line as an item
     sh        is shown and not run
 
-A link has to lead to a file, and to a heading of it where it names one. A page that is named in prose has to be a link. A command that
-stands in a page and in no such block is a fault too: nobody would see that it is wrong.
+A link has to lead to a file, and to a heading of it where it names one. A page that is named in prose has to be a link. A
+command that stands in a page and in no such block is a fault too: nobody would see that it is wrong.
 
-Of examples/: each script is carried out; a picture is that of the script of its name, a history beside a script is its replay, and an
-answer beside a trace is what an audit says of it."""
+Of examples/: each script is carried out; a picture is that of the script of its name, a history beside a script is its replay,
+and an answer beside a trace is what an audit says of it."""
 import os
 import re
 import shutil
@@ -52,6 +53,15 @@ def read(path):
 
 # ---- what a page has
 
+FENCED = re.compile(r'^```.*?^```$', re.S | re.M)
+# what looks like a command where no block says so
+COMMAND = re.compile(r' {4,}(?:\$ |\(cd crates/|(?:crates/\w+/out/)?omid(?:_view)? [a-z]|jq |awk |examples/\w+\.py )')
+
+
+def blank(found):
+    return '\n' * found[0].count('\n')
+
+
 def blocks(text):
     """The fenced blocks of a page: the line where each begins, its kind, its lines."""
     found, kind = [], None
@@ -69,13 +79,13 @@ def blocks(text):
 
 def without_blocks(text):
     """The page's prose: its blocks, and its indented examples, are blank lines."""
-    text = re.sub(r'^```.*?^```$', lambda found: '\n' * found[0].count('\n'), text, flags=re.S | re.M)
+    text = FENCED.sub(blank, text)
     return re.sub(r'^(?: {4}|\t)(?! *[-*\d]).*$', '', text, flags=re.M)
 
 
 def anchors(text):
     """The anchors of a page's headings, as a viewer of pages makes them."""
-    heads = re.findall(r'^#+ +(.*)$', re.sub(r'^```.*?^```$', '', text, flags=re.S | re.M), flags=re.M)
+    heads = re.findall(r'^#+ +(.*)$', FENCED.sub('', text), flags=re.M)
     plain = (re.sub(r'\[([^\]]*)\]\([^)]*\)', r'\1', head) for head in heads)
     return {re.sub(r'[^\w\- ]', '', head.lower()).strip().replace(' ', '-') for head in plain}
 
@@ -106,10 +116,12 @@ def commands(line, lines):
 def run(words, path, given=None):
     try:
         done = subprocess.run(['bash', '-o', 'pipefail', '-c', words], cwd=ROOT, env={**os.environ, 'PATH': path}, input=given,
-                              stdin=subprocess.DEVNULL if given is None else None, capture_output=True, text=True, timeout=SECONDS)
+                              stdin=subprocess.DEVNULL if given is None else None, capture_output=True, text=True,
+                              timeout=SECONDS)
     except subprocess.TimeoutExpired:
         return None, f'it had not ended after {SECONDS} seconds'
-    return done.returncode, done.stdout if done.stdout or not done.stderr else done.stdout + ''.join(f'(stderr) {it}\n' for it in done.stderr.splitlines()[-3:])
+    trouble = '' if done.stdout else ''.join(f'(stderr) {it}\n' for it in done.stderr.splitlines()[-3:])
+    return done.returncode, done.stdout + trouble
 
 
 def fits(shown, printed):
@@ -178,7 +190,7 @@ def faults_of_links(page):
     count, wrong = 0, []
     prose = without_blocks(read(page))
     # a link's words may go over the end of a line
-    bare = re.sub(r'\[[^\]]*\]\([^)]*\)', lambda found: '\n' * found[0].count('\n'), prose)
+    bare = re.sub(r'\[[^\]]*\]\([^)]*\)', blank, prose)
     for line, text in enumerate(prose.split('\n'), 1):
         for target in re.findall(r'\]\(([^)\s]+)\)', text):
             if re.match(r'\w+:', target):
@@ -190,8 +202,8 @@ def faults_of_links(page):
                 wrong.append((line, f'a dead link: {target}'))
             elif anchor and path.endswith('.md') and anchor not in anchors(read(path)):
                 wrong.append((line, f'no such heading: {target}'))
-    for line, text in enumerate(re.sub(r'^```.*?^```$', lambda found: '\n' * found[0].count('\n'), read(page), flags=re.S | re.M).split('\n'), 1):
-        if re.match(r' {4,}(?:\$ |\(cd crates/|(?:crates/\w+/out/)?omid(?:_view)? [a-z]|jq |awk |examples/\w+\.py )', text):
+    for line, text in enumerate(FENCED.sub(blank, read(page)).split('\n'), 1):
+        if COMMAND.match(text):
             wrong.append((line, f'a command in no block: {text.strip()}'))
     for line, text in enumerate(bare.split('\n'), 1):
         for name in re.findall(r'\b(?:docs/)?[A-Z]{4,}\.md\b', text):
@@ -211,7 +223,7 @@ def faults_of_examples(path):
         if name.endswith('.history') and os.path.exists(os.path.join(ROOT, base + '.omid')):
             commands.append((f'omid replay < {base}.omid', f'examples/{name}'))
         if name.endswith('.answer') and os.path.exists(os.path.join(ROOT, base + '.json')):
-            commands.append((f'examples/trace.py {base}.json > /tmp/checked.history; omid audit < /tmp/checked.history || true', f'examples/{name}'))
+            commands.append((f'omid audit < <(examples/trace.py {base}.json) || true', f'examples/{name}'))
     wrong = []
     for words, answer in commands:
         status, printed = run(words, path)
@@ -247,7 +259,8 @@ def main():
     words = sys.argv[1:]
     how = words.pop(0) if words and words[0].startswith('-') else ''
     folder = words.pop(0) if how == '--with' and words else None
-    if how not in ('', '--with', '--built', '--links') or (how == '--with' and not folder) or any(it not in pages() for it in words):
+    known = how in ('', '--built', '--links') or (how == '--with' and folder)
+    if not known or any(it not in pages() for it in words):
         sys.exit(__doc__)
     programs = '' if how == '--links' else path_of(how, folder)
     path = f'{programs}:{os.environ["PATH"]}'

@@ -6,9 +6,9 @@
     bench/headline.py --check             says whether it stands there
     bench/headline.py Isolated Serial     the same of definitions by name, each with its files and the lines of each
 
-A definition counts with the definitions that it names, and these with theirs, through `specs/` of all crates and the types that `src/`
-declares (with what contracts see of them: `impl Model`). Lines that are blank, comments or imports don't count. Words of the kit's
-std library are counted apart, by name alone."""
+A definition counts with the definitions that it names, and these with theirs, through `specs/` of all crates and the types that
+`src/` declares (with what contracts see of them: `impl Model`). Lines that are blank, comments or imports don't count. Words of
+the kit's std library are counted apart, by name alone."""
 import os
 import re
 import sys
@@ -28,7 +28,8 @@ ROWS = [
     ('the lines of a history, as text', ['history_text printed']),
     ('the script that bytes are', ['session_script script_of']),
     ('what a replay does, event by event', ['line_steps replayed']),
-    ('**the promise of `replay`**, with `replayed` as a mere name', ['omid_top Replays', 'omid_top IsReplay', 'history_text printed'], {'replayed', 'script_played'}),
+    ('**the promise of `replay`**, with `replayed` as a mere name',
+     ['omid_top Replays', 'omid_top IsReplay', 'history_text printed'], {'replayed', 'script_played'}),
     ('all of `replay`', ['omid_top Replays', 'omid_top IsReplay', 'history_text printed']),
     ('all of `run`', ['omid_top Runs', 'omid_top IsRun']),
     ('all of `run split`', ['omid_top RunsSplit', 'omid_top IsRunSplit']),
@@ -115,7 +116,7 @@ def cut_type(source, name):
 
 
 def reached(roots, names=()):
-    """All definitions that the roots rest on, as {(file, name): lines}, and the words of std among them. What is in names is not opened."""
+    """The definitions that the roots rest on, as {(file, name): lines}, and the words of std among them; names stay closed."""
     seen, std, todo = {}, set(), list(roots)
     while todo:
         module, name = todo.pop()

@@ -4,8 +4,8 @@
     bench/measure_pages.py [PAGE ..]      a row for each page, and what is to be mended below
     bench/measure_pages.py --all [PAGE ..]      with each sentence of more than 30 words, and each cell of more than 300 characters
 
-A house word is one of the project's own. It stands alone on a page where no paragraph that has it has the field's word for it too
-(docs/GLOSSARY.md has both). Examples, names in backticks and the glossary itself don't count."""
+A house word is one of the project's own. It stands alone on a page where no paragraph that has it has the field's word for it
+too (docs/GLOSSARY.md has both). Examples, names in backticks and the glossary itself don't count."""
 import os
 import re
 import sys

@@ -3,9 +3,9 @@
 
     examples/record_postgres.py [--level 'repeatable read'] [--clients 4] [--transactions 12] [--keys 4] [--seed 1] > TRACE
 
-It needs the command psql and nothing else, and reaches the server as psql does, by PGHOST, PGUSER and so on. It drops and creates a table
-`kv` there. Each client has a psql of its own, and records what that answered: the snapshot of each transaction, its number once it wrote,
-and every read. A value names the transaction that wrote it, so a read tells whom it read from."""
+It needs the command psql and nothing else, and reaches the server as psql does, by PGHOST, PGUSER and so on. It drops and
+creates a table `kv` there. Each client has a psql of its own, and records what that answered: the snapshot of each transaction,
+its number once it wrote, and every read. A value names the transaction that wrote it, so a read tells whom it read from."""
 import argparse
 import json
 import random
@@ -19,7 +19,8 @@ class Client:
     """One session of the server."""
 
     def __init__(self):
-        self.psql = subprocess.Popen(['psql', '-qAtX'], stdin=subprocess.PIPE, stdout=subprocess.PIPE, stderr=subprocess.DEVNULL, text=True)
+        self.psql = subprocess.Popen(['psql', '-qAtX'], stdin=subprocess.PIPE, stdout=subprocess.PIPE,
+                                     stderr=subprocess.DEVNULL, text=True)
 
     def ask(self, statement):
         """The rows of the answer. Raises Refused where the server answered with an error."""
@@ -42,7 +43,8 @@ class Refused(Exception):
 def write(client, txn, key):
     value = f'{txn["id"]}/{len(txn["does"])}'
     txn['does'].append({'write': key, 'value': value})
-    rows = client.ask(f"insert into kv values ({key}, '{value}') on conflict (k) do update set v = excluded.v returning pg_current_xact_id()")
+    rows = client.ask(f"insert into kv values ({key}, '{value}') on conflict (k) do update set v = excluded.v "
+                      'returning pg_current_xact_id()')
     txn['xid'] = int(rows[0])
 
 
@@ -84,7 +86,11 @@ def main():
     loader.ask('drop table if exists kv')
     loader.ask('create table kv (k int primary key, v text)')
     # what is there before the clients begin is written by a transaction of the trace
-    recorded = [transaction(loader, 'load', asked.level, lambda client, txn: [write(client, txn, key) for key in range(0, asked.keys, 2)])]
+    def load(client, txn):
+        for key in range(0, asked.keys, 2):
+            write(client, txn, key)
+
+    recorded = [transaction(loader, 'load', asked.level, load)]
 
     def run(number):
         client, random_of = Client(), random.Random(asked.seed * 1000 + number)
@@ -96,6 +102,7 @@ def main():
         thread.start()
     for thread in threads:
         thread.join()
+    recorded = [txn for txn in recorded if txn['snapshot']]
     for txn in recorded:
         print(json.dumps(txn))
     print(f'{sum(txn["committed"] for txn in recorded)} of {len(recorded)} transactions committed', file=sys.stderr)

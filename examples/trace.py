@@ -21,10 +21,11 @@ PostgreSQL's snapshots may stand in place of stamps:
     commit    what orders commits that lie between the same two snapshots, if anything does; else it is the order of the trace
     era       a number that is greater behind each crash of the server; without it, 0
 
-Stamps are any whole numbers: what counts is their order, and a history gets their ranks. By `--snapshots` a start sees commits of its own
-number, and several transactions may start or commit at one number. By `--late` a transaction has both stamps at its commit, as in a
-store that holds its locks until then; those without a commit are left out. A value that is longer than 64 bytes, or has other bytes than
-visible ones, gets a number in its place. What is odd is told on standard error. Python 3.10 or later."""
+Stamps are any whole numbers: what counts is their order, and a history gets their ranks. By `--snapshots` a start sees commits
+of its own number, and several transactions may start or commit at one number. By `--late` a transaction has both stamps at its
+commit, as in a store that holds its locks until then; those without a commit are left out. A value that is longer than 64
+bytes, or has other bytes than visible ones, gets a number in its place. What is odd is told on standard error. Python 3.10 or
+later."""
 import json
 import sys
 from bisect import bisect_left
@@ -130,7 +131,8 @@ def told_value(value, ranks):
 class History:
     def __init__(self, txns):
         self.by_name = {str(txn.get('id', txn.get('start'))): txn for txn in txns}
-        self.keys = {name: place for place, name in enumerate(sorted({key for txn in txns for _, key, _ in steps_of(txn)}, key=str))}
+        names = sorted({key for txn in txns for _, key, _ in steps_of(txn)}, key=str)
+        self.keys = {name: place for place, name in enumerate(names)}
         self.strangers, self.values, self.unknown = count(3 * len(txns) + 1), {}, 0
         if len(self.keys) > KEYS:
             sys.exit(f'{len(self.keys)} keys: a history has {KEYS} at most. Leave out all but the reads and writes of some of them')
@@ -175,10 +177,12 @@ def by_stamps(history, txns):
 
 def by_moments(history, txns):
     """In the order of the clock, with the asks: a session is taken from an ask to its begin alone."""
-    moments = [((txn[name], which, place), txn) for place, txn in enumerate(txns) for which, name in enumerate(('asked', 'begun', 'done'))]
+    moments = [((txn['asked'], 0, place), txn) for place, txn in enumerate(txns)]
+    moments += [((txn['begun'], 1, place), txn) for place, txn in enumerate(txns)]
+    moments += [((txn['done'], 2, place), txn) for place, txn in enumerate(txns) if txn['to'] is not None]
     free, taken, found, crowded = list(range(SESSIONS))[::-1], {}, [], 0
     for (_, which, place), txn in sorted(moments, key=lambda it: it[0]):
-        if which == 2 and txn['to'] is not None:
+        if which == 2:
             found.append(placed(txn))
         elif which == 0 and free:
             taken[place] = free.pop()
@@ -216,7 +220,8 @@ def main():
     items = by_moments(history, txns) if txns and all('asked' in txn for txn in txns) else by_stamps(history, txns)
     sys.stdout.writelines(json.dumps(item, separators=(',', ':'), sort_keys=True) + '\n' for item in items)
     if history.unknown:
-        tell(f'values were read of {history.unknown} writers that are not in the trace: let its first transaction write what was there before')
+        tell(f'values were read of {history.unknown} writers that are not in the trace: '
+             'let its first transaction write what was there before')
 
 
 if __name__ == '__main__':
