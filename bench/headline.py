@@ -182,13 +182,21 @@ def counted(roots, names=()):
 
 
 def table():
-    rows = ['| What is said | Definitions | Lines | Files | Words of std |', '|---|---|---|---|---|']
+    rows = ['| What is said | Definitions | Lines | Files | Words of std | Most lines stand in |', '|---|---|---|---|---|---|']
     for words, roots, *names in ROWS:
         count, lines, files, std = counted([root_of(it) for it in roots], *names)
-        rows.append(f'| {words} | {count} | {lines} | {len(files)} | {len({name for _, name in std})} |')
+        rows.append(f'| {words} | {count} | {lines} | {len(files)} | {len({name for _, name in std})} | {most(files)} |')
     whole = sum(len(lines) for file in FILES.values() for lines in file.lines.values())
-    rows.append(f'| all files of `specs/` | {sum(len(file.lines) for file in FILES.values())} | {whole} | {len(FILES)} | |')
+    rows.append(f'| all files of `specs/` | {sum(len(file.lines) for file in FILES.values())} | {whole} | {len(FILES)} | | |')
     return '\n'.join(rows) + '\n'
+
+
+def most(files):
+    """The crates with the most of these lines."""
+    crates = defaultdict(int)
+    for path, lines in files.items():
+        crates[path.split('/')[1]] += lines
+    return ', '.join(f'`{name}` {lines}' for name, lines in sorted(crates.items(), key=lambda it: -it[1])[:4])
 
 
 def with_table(text):
