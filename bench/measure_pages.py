@@ -95,7 +95,7 @@ def main():
         text = read(page)
         found, cells = sentences(text)
         lengths = [it for it in map(words_in, found) if it >= 4]
-        wide = [line for line in text.split('\n') if len(line) > WIDE and not line.startswith('|')]
+        wide = [line for line in without_blocks(text).split('\n') if len(line) > WIDE and not line.startswith('|')]
         long = [it for it in found if words_in(it) > (30 if everything else MOST)]
         large = [it for it in cells if len(it) > CELL]
         dead = faults_of_links(page)[1]
