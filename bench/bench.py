@@ -8,7 +8,7 @@ The program is crates/omid/out/omid, which stands there behind a green gate. Eve
 take turns with the runs they are compared with, so that a loaded machine slows both. User and system time are the kernel's
 own count of the child; `switches` are its voluntary context switches. Compare ratios of one run of this script, never times of two.
 
-With `--ordinary` one other table is printed in place of these: replays and runs of 1, 4 and 16 sessions at ordinary priority, whatever
+With `--ordinary` one other table is printed in place of these: replays and runs of the loads on threads at ordinary priority, whatever
 that of this script, at rest and beside four processes that never wait, which are started and ended here. It has an eighth of the lines,
 since a run beside others may take many times as long.
 """
@@ -150,6 +150,24 @@ def transactions(lines, sessions, nodes=1, takeovers=0, by_master=False):
             if chunk + 1 < chunks:
                 script.append(f"s{session} post d{chunk + 1}-{session}")
     return behind_the_take(script)
+
+
+def held_stages(lines, sessions=16, holds=32):
+    """Transactions side by side, while the node holds one of its stages and frees it again, over and over: each time a reader that has
+    its transaction reads eight keys meanwhile."""
+    reader = f"s{sessions - 1}"
+    script = [*HEAD, f"{reader} begin a", f"{reader} post begun", "a await begun"]
+    each = (lines - 20 * holds - 2 * sessions) // (sessions - 1) // 4 // holds
+    for hold in range(holds):
+        stage = ("request", "persist", "reply")[hold % 3]
+        for session in range(sessions - 1):
+            for turn in range(each):
+                script += [f"s{session} begin a", f"s{session} read k{session}", f"s{session} write k{session} v{turn}", f"s{session} commit a"]
+            if session == 0:
+                script += [f"s0 post done{hold}", f"a await done{hold}", f"a hold {stage}", f"a post held{hold}", f"{reader} await held{hold}"]
+                script += [f"{reader} read k{turn}" for turn in range(8)]
+                script += [f"{reader} post read{hold}", f"a await read{hold}", f"a free {stage}"]
+    return behind_the_take([*script, f"{reader} commit a"])
 
 
 def hot_reader(lines):
@@ -420,7 +438,7 @@ def beside(count):
 def ordinary(program, work, runs, loads):
     """What a replay and a run cost at ordinary priority, at rest and where others want the processors too."""
     print(f"{'load, at ordinary priority':28} {'lines':>7} {'beside':>8} {'replay wall':>11} {'processor':>9} {'run wall':>8} {'processor':>9} "
-          f"{'of replay':>9} {'of rest':>8}", flush=True)
+          f"{'of replay':>9} {'processor':>9} {'of rest':>8}", flush=True)
     for name, script in loads:
         given, other = os.path.join(work, "script"), os.path.join(work, "other")
         with open(given, "w") as it:
@@ -436,7 +454,18 @@ def ordinary(program, work, runs, loads):
             replay, run = costs[busy, "replay"], costs[busy, "run"]
             wall = median(run, "wall")
             print(f"{name:28} {len(script):7} {f'{busy} busy' if busy else 'nobody':>8} {median(replay, 'wall'):11.3f} {median(replay, 'processor'):9.3f} "
-                  f"{wall:8.3f} {median(run, 'processor'):9.3f} {wall / median(replay, 'wall'):9.1f} {wall / at_rest:8.2f}", flush=True)
+                  f"{wall:8.3f} {median(run, 'processor'):9.3f} {wall / median(replay, 'wall'):9.1f} "
+                  f"{median(run, 'processor') / (median(replay, 'processor') or 1e-6):9.1f} {wall / at_rest:8.2f}", flush=True)
+
+
+def on_threads(lines):
+    """The loads of the tables on threads."""
+    return [("1 session", transactions(lines, 1)), ("4 sessions", transactions(lines, 4)), ("16 sessions", transactions(lines, 16)),
+            ("16 sessions, workers 4", ["workers 4", "batch 16"] + transactions(lines, 16)),
+            ("16 sessions, direct", ["commits direct"] + transactions(lines, 16)),
+            ("16 sessions, held stages", held_stages(lines)),
+            ("3 nodes, 9 takeovers", transactions(lines, 16, 3, 9)),
+            ("9 takeovers, by master", transactions(lines, 16, 3, 9, True)), ("posts and awaits", posts(lines))]
 
 
 def main():
@@ -452,15 +481,11 @@ def main():
     lines = LINES // 8 if said.quick else LINES
     files = [("whole lines", whole_lines(lines)), ("hot key", hot_key(lines)), ("single steps", single_steps(lines)),
              ("16 sessions at random", at_random(lines)), ("at random, by master", at_random_by_master(lines))]
-    runs = [("1 session", transactions(lines, 1)), ("4 sessions", transactions(lines, 4)), ("16 sessions", transactions(lines, 16)),
-            ("16 sessions, workers 4", ["workers 4", "batch 16"] + transactions(lines, 16)),
-            ("3 nodes, 9 takeovers", transactions(lines, 16, 3, 9)),
-            ("9 takeovers, by master", transactions(lines, 16, 3, 9, True)), ("posts and awaits", posts(lines))]
+    runs = on_threads(lines)
     picked = [[load for load in loads if said.only in load[0]] for loads in (files, runs)]
     with tempfile.TemporaryDirectory(prefix="omid-bench-") as work:
         if said.ordinary:
-            loads = [(f"{it} session{'s' if it > 1 else ''}", transactions(lines // 8, it)) for it in (1, 4, 16)]
-            ordinary(said.program, work, max(3, said.runs // 3), [load for load in loads if said.only in load[0]])
+            ordinary(said.program, work, max(3, said.runs // 3), [load for load in on_threads(lines // 8) if said.only in load[0]])
             return
         if picked[0]:
             beside_sort(said.program, work, said.runs, picked[0])

@@ -48,6 +48,10 @@ impl<C: Clock + Sync> Gate for ShowingGate<'_, C> {
         }
     }
 
+    fn stands_open(&self) -> bool {
+        true
+    }
+
     fn hears_waits(&self) -> bool {
         self.terminal.is_some()
     }

@@ -47,6 +47,11 @@ pub trait Gate: Sync {
         false
     }
 
+    /// Whether `pass` lets every step through at once, so that no step need be waited for. By default, no.
+    fn stands_open(&self) -> bool {
+        false
+    }
+
     /// Whether one more thread may be started. False is as if the system refused it. By default, always.
     fn may_start_thread(&self) -> bool {
         true

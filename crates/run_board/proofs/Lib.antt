@@ -3,3 +3,4 @@ mod Kept
 mod Counted
 mod Closing
 mod SoFar
+mod StageSteps

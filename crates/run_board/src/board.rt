@@ -13,6 +13,7 @@ ghost use Rattle.thread_steps.specs.Going.{GoesOn};
 ghost use Rattle.run_board.specs.Playing.{IsResult, LacksAtRequest};
 
 use crate::play::Play;
+use crate::stretch::without_why;
 use cluster_core::Cluster;
 use line_shares::{ActorShare, Cursors};
 use session_script::Script;
@@ -135,12 +136,14 @@ impl<L: Ledger> Board<L> {
 impl<L: Ledger> ActorSteps<L> for Board<L> {
     /// Makes the next event of the present line of the share's actor, and leaves out why a line waits.
     fn actor_step<R: Wait>(&self, rt: &R, mine: &mut ActorShare<L>) -> ActorStep {
-        match self.advance(rt, mine) {
-            Advance::Did { asked } => ActorStep::Did { asked },
-            Advance::Waits(_) => ActorStep::Waits,
-            Advance::Ended => ActorStep::Ended,
-            Advance::NoMemory => ActorStep::NoMemory,
-        }
+        without_why(self.advance(rt, mine))
+    }
+
+    /// Makes events of the actor's lines one after the other, and has what they ask served, under one taking of the lock, as
+    /// `Play::stretch` does.
+    fn actor_stretch<R: Wait>(&self, rt: &R, mine: &mut ActorShare<L>) -> ActorStep {
+        // A stretch lasts longer than it takes to sleep and be woken.
+        self.play.lock(rt).stretch(mine)
     }
 }
 

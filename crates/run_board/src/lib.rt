@@ -5,6 +5,8 @@
 mod board;
 mod play;
 mod sessions;
+mod stretch;
+mod through;
 
 pub use board::Board;
 pub use cluster_core::Cluster;

@@ -38,7 +38,7 @@ use turn_rules::{turns_answer, turns_answer_so_far, turns_are_planned, turns_are
 /// actor are done.
 #[derive(Drop)]
 pub struct Play<L: Ledger> {
-    run: ScriptRun,
+    pub(crate) run: ScriptRun,
     cursors: Cursors<L>,
 }
 

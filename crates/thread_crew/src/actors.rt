@@ -100,6 +100,9 @@ fn step<L: Ledger, R: Wait, B: Steps + ActorSteps<L> + Sync, G: Gate>(
     if let Actor::Session(_) = mine.actor() {
         look(rt, shared.beacon, mine, sight);
     }
+    if shared.gate.stands_open() {
+        return shared.board.actor_stretch(rt, mine);
+    }
     shared.board.actor_step(rt, mine)
 }
 

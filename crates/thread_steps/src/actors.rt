@@ -23,4 +23,12 @@ pub trait ActorSteps<L: Ledger> {
     /// Makes the next event of the present line of the share's actor. The share counts the lines that were done since.
     fn actor_step<R: Wait>(&self, rt: &R, mine: &mut ActorShare<L>) -> ActorStep
         ensures { GoesOn mine.old mine.new };
+
+    /// Makes events of the actor's lines one after the other, for a while, and those by which stages serve what it asks, where nothing
+    /// is in the way. By default, one step.
+    fn actor_stretch<R: Wait>(&self, rt: &R, mine: &mut ActorShare<L>) -> ActorStep
+        ensures { GoesOn mine.old mine.new }
+    {
+        self.actor_step(rt, mine)
+    }
 }

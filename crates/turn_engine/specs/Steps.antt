@@ -1,5 +1,5 @@
 -- What an actor's step and a stage's step make of a script run.
-use Rattle.std.specs.Prelude.{◌≡◌, ◌≢◌, ◌⊎◌, ℕ, Bool, true, false, List, [], ◌∷◌, Option, None, Some, IsSomeAnd, slice_get}
+use Rattle.std.specs.Prelude.{◌≡◌, ◌≢◌, ◌⊎◌, ℕ, Bool, true, false, List, [], ◌∷◌, Option, None, Some, is_some, IsSomeAnd, slice_get}
 use Rattle.stamp_base.specs.declared.stage.Stage.{Stage}
 use Rattle.stamp_base.specs.declared.stage.Stage.TheVariants.{Request}
 use Rattle.history_book.specs.declared.item.Actor.{Actor}
@@ -34,6 +34,10 @@ place_of r actor = place_in (seat_of (reached_by r).seats actor)
 -- the actor has no line left
 abbrev pub HasEnded : Ran → Actor → Type 0
 HasEnded r actor = slice_get (lines_of r.script actor) (place_of r actor) ≡ None
+
+-- the node's stage has a turn to make of the session's request as it stands
+abbrev pub has_turn : State → ℕ → Stage → ℕ → Bool
+has_turn w node stage session = is_some (stage_turn stage node session (session_view w session))
 
 -- ---- an actor's step
 -- the node that items ask

@@ -8,7 +8,7 @@ ghost use Rattle.turn_rules.specs.declared.ahead.Ahead.TheVariants.{Passes};
 ghost use Rattle.turn_rules.specs.Carried.{ahead_at, aimed_node, own_ahead, event_of, made_by, name_posted};
 ghost use Rattle.turn_rules.specs.Lawful as lawful;
 ghost use Rattle.turn_engine.specs.Run.{reached_by};
-ghost use Rattle.turn_engine.specs.Steps.{HasEnded, IsStageHeld, state_of, place_of, IsServable};
+ghost use Rattle.turn_engine.specs.Steps.{HasEnded, IsStageHeld, state_of, place_of, has_turn, IsServable};
 
 use crate::ScriptRun;
 use crate::making::is_lacking;
@@ -116,6 +116,14 @@ impl ScriptRun {
             }
             found => found,
         }
+    }
+
+    /// Whether the node's stage has a turn to make of the session's request as it stands.
+    pub fn has_turn(&self, node: NodeNo, stage: Stage, session: SessionNo) -> bool
+        ensures { result ≡ has_turn (state_of self.now) node stage session }
+    {
+        let view = self.planned.view(Actor::Session(session));
+        stage_turn(stage, node, session, &view).is_some()
     }
 
     /// The event of a stage's turn.

@@ -8,6 +8,8 @@ mod refused;
 #[cfg(test)]
 mod splits;
 #[cfg(test)]
+mod stretches;
+#[cfg(test)]
 mod stuck;
 #[cfg(test)]
 mod threads;

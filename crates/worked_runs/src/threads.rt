@@ -168,7 +168,7 @@ fn free() -> &'static [&'static str] {
 }
 
 /// All of these, and those that once stuck.
-fn scripts(alloc: Global) -> Result<Vec<String>, AllocError> {
+pub fn scripts(alloc: Global) -> Result<Vec<String>, AllocError> {
     let mut scripts = stuck(alloc)?;
     for script in free() {
         scripts.push(script.to_string(alloc)?)?;
