@@ -7,6 +7,9 @@ use std::test::Fail;
 use std::thread::Threads;
 use worked_calls::{Gate, GatePlace, call, is_isolated, joined, open_sink, open_source};
 
+/// So many bytes are enough for each history.
+const ROOM: usize = 1 << 16;
+
 /// A gate that no step need wait for.
 struct StandingGate;
 
@@ -27,7 +30,7 @@ fn is_run<R: Threads + Wait + Sync>(
 ) -> Result<bool, AllocError> {
     let whole = joined(alloc, &[setup, script])?;
     let mut source = open_source(alloc, &whole, &[])?;
-    let mut sink = open_sink(alloc, 4096, &[])?;
+    let mut sink = open_sink(alloc, ROOM, &[])?;
     let status = call(rt, alloc, &["run"], &mut source, &mut sink, &StandingGate)?;
     Ok(status == 0 && is_isolated(rt, alloc, sink.bytes())?)
 }
