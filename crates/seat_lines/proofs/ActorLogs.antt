@@ -17,10 +17,10 @@ use Rattle.thread_scripts.specs.Actors.{has_lines, actors_of}
 use Rattle.split_stores.specs.declared.seat.Entry.{Entry}
 use Rattle.split_stores.specs.Logs.{Logged, ticks_of, rises_above}
 use Rattle.split_stores.specs.Merging.{logs_of, InTickOrder}
-use Rattle.seat_lines.specs.Follows.{Follows, FollowsLines, AllFollow}
 use Rattle.seat_lines.specs.Laws.{AllRise}
 use Rattle.seat_lines.specs.Owed.{first_standing}
 use Rattle.seat_lines.proofs.ActorList.{Once, once_actors, there_with, gone_without, no_own_lines}
+use Rattle.seat_lines.proofs.OpeningLogs.{FollowsOpened, OpenedLines, AllOpened}
 use Rattle.seat_lines.proofs.OtherLogs.{IsOther, own_lines, others_log}
 use Rattle.seat_lines.proofs.Weaving.{Woven, Rises, Among, counts_of, rises_of, woven}
 
@@ -44,15 +44,15 @@ moved xs ys x p m = let k : Contains ys x = Contains-permutation xs ys x p (cont
 -- it follows the actor's lines, its ticks rise, and all other entries are of others
 pub record OwnLog (script : ScriptData) (actor : Actor) (es : List Entry) : Type 0 where
   pub entries : List Entry
-  pub follows : FollowsLines script.lines actor entries
+  pub follows : OpenedLines script.lines actor entries
   pub rises : Rises 1 entries
   pub among : Among (λ e. IsOther script.setup actor e.event) entries es
 
 -- ---- logs of other actors
-one_other : (script : ScriptData) (who actor : Actor) (log : Logged) → AreLinesOf script.setup script.lines → (who ≡ actor → ⊥) → FollowsLines script.lines who log.entries → (x : Entry) → x ∈ log.entries → IsOther script.setup actor x.event
+one_other : (script : ScriptData) (who actor : Actor) (log : Logged) → AreLinesOf script.setup script.lines → (who ≡ actor → ⊥) → OpenedLines script.lines who log.entries → (x : Entry) → x ∈ log.entries → IsOther script.setup actor x.event
 one_other script who actor log of_script differs follows x m = others_log script.setup who actor first_standing (filter (is_of who) script.lines) log.entries differs (own_lines script.setup who script.lines of_script) follows x m
 
-all_other : (script : ScriptData) (actor : Actor) (actors : List Actor) (logs : List Logged) → AreLinesOf script.setup script.lines → AllFollow script actors logs → (actor ∈ actors → ⊥) → (x : Entry) → x ∈ logs_of logs → IsOther script.setup actor x.event
+all_other : (script : ScriptData) (actor : Actor) (actors : List Actor) (logs : List Logged) → AreLinesOf script.setup script.lines → AllOpened script actors logs → (actor ∈ actors → ⊥) → (x : Entry) → x ∈ logs_of logs → IsOther script.setup actor x.event
 unfolding ◌∈◌
 all_other script actor [] [] of_script follow not x m = absurd m
 all_other script actor [] (log ∷ logs) of_script follow not x m = absurd follow
@@ -63,7 +63,7 @@ all_other script actor (who ∷ actors) (log ∷ logs) of_script follow not x m 
 ]
 
 -- ---- the log of an actor that is there
-log_here : (script : ScriptData) (actor : Actor) (log : Logged) (actors : List Actor) (logs : List Logged) → AreLinesOf script.setup script.lines → FollowsLines script.lines actor log.entries → rises_above 0 (ticks_of log.entries) ≡ true → AllFollow script actors logs → (actor ∈ actors → ⊥) → OwnLog script actor (log.entries ++ logs_of logs)
+log_here : (script : ScriptData) (actor : Actor) (log : Logged) (actors : List Actor) (logs : List Logged) → AreLinesOf script.setup script.lines → OpenedLines script.lines actor log.entries → rises_above 0 (ticks_of log.entries) ≡ true → AllOpened script actors logs → (actor ∈ actors → ⊥) → OwnLog script actor (log.entries ++ logs_of logs)
 log_here script actor log actors logs of_script follows rise follow not = record {
   entries = log.entries;
   follows = follows;
@@ -74,7 +74,7 @@ log_here script actor log actors logs of_script follows rise follow not = record
   };
 }
 
-log_later : (script : ScriptData) (who actor : Actor) (log : Logged) (logs : List Logged) → AreLinesOf script.setup script.lines → (who ≡ actor → ⊥) → FollowsLines script.lines who log.entries → OwnLog script actor (logs_of logs) → OwnLog script actor (log.entries ++ logs_of logs)
+log_later : (script : ScriptData) (who actor : Actor) (log : Logged) (logs : List Logged) → AreLinesOf script.setup script.lines → (who ≡ actor → ⊥) → OpenedLines script.lines who log.entries → OwnLog script actor (logs_of logs) → OwnLog script actor (log.entries ++ logs_of logs)
 log_later script who actor log logs of_script differs follows k = record {
   entries = k.entries;
   follows = k.follows;
@@ -85,12 +85,12 @@ log_later script who actor log logs of_script differs follows k = record {
   };
 }
 
-log_there : (script : ScriptData) (actor : Actor) (actors : List Actor) (logs : List Logged) → AreLinesOf script.setup script.lines → Once actors → AllFollow script actors logs → AllRise logs → actor ∈ actors → OwnLog script actor (logs_of logs)
+log_there : (script : ScriptData) (actor : Actor) (actors : List Actor) (logs : List Logged) → AreLinesOf script.setup script.lines → Once actors → AllOpened script actors logs → AllRise logs → actor ∈ actors → OwnLog script actor (logs_of logs)
 unfolding ◌∈◌ Once
 log_there script actor [] logs of_script once follow rise m = absurd m
 log_there script actor (who ∷ actors) [] of_script once follow rise m = absurd follow
 log_there script actor (who ∷ actors) (log ∷ logs) of_script once follow rise (inl same) =
-    let follows : FollowsLines script.lines actor log.entries = subst (λ (a : Actor). FollowsLines script.lines a log.entries) (sym same) follow.0 in
+    let follows : OpenedLines script.lines actor log.entries = subst (λ (a : Actor). OpenedLines script.lines a log.entries) (sym same) follow.0 in
     let up : rises_above 0 (ticks_of log.entries) ≡ true = All-head (λ (l : Logged). rises_above 0 (ticks_of l.entries) ≡ true) log logs rise in
     log_here script actor log actors logs of_script follows up follow.1 (λ n. once.0 (subst (λ (a : Actor). a ∈ actors) same n))
 log_there script actor (who ∷ actors) (log ∷ logs) of_script once follow rise (inr m) =
@@ -99,8 +99,8 @@ log_there script actor (who ∷ actors) (log ∷ logs) of_script once follow ris
 
 -- ---- any actor
 -- one without lines has no log
-no_log : (script : ScriptData) (actor : Actor) (logs : List Logged) → AreLinesOf script.setup script.lines → AllFollow script (actors_of script) logs → has_lines script actor ≡ false → OwnLog script actor (logs_of logs)
-unfolding Follows Rises ◌∈◌
+no_log : (script : ScriptData) (actor : Actor) (logs : List Logged) → AreLinesOf script.setup script.lines → AllOpened script (actors_of script) logs → has_lines script actor ≡ false → OwnLog script actor (logs_of logs)
+unfolding FollowsOpened Rises ◌∈◌
 no_log script actor logs of_script follow none = record {
   entries = [];
   follows = (no_own_lines script actor none, refl);
@@ -108,7 +108,7 @@ no_log script actor logs of_script follow none = record {
   among = record { inside = λ x m. absurd m; others = λ x m. inr (all_other script actor (actors_of script) logs of_script follow (gone_without script actor none) x m) };
 }
 
-own_log : (script : ScriptData) (actor : Actor) (logs : List Logged) → AreLinesOf script.setup script.lines → AllFollow script (actors_of script) logs → AllRise logs → OwnLog script actor (logs_of logs)
+own_log : (script : ScriptData) (actor : Actor) (logs : List Logged) → AreLinesOf script.setup script.lines → AllOpened script (actors_of script) logs → AllRise logs → OwnLog script actor (logs_of logs)
 own_log script actor logs of_script follow rise = elim (cases_Bool (has_lines script actor)) [
   | inl some ↦ log_there script actor (actors_of script) logs of_script (once_actors script) follow rise (there_with script actor of_script some)
   | inr none ↦ no_log script actor logs of_script follow none
@@ -117,10 +117,10 @@ own_log script actor logs of_script follow rise = elim (cases_Bool (has_lines sc
 -- in the order of ticks the log stands among the entries of others
 pub record WovenLog (script : ScriptData) (actor : Actor) (merged : List Entry) : Type 0 where
   pub entries : List Entry
-  pub follows : FollowsLines script.lines actor entries
+  pub follows : OpenedLines script.lines actor entries
   pub woven : Woven (λ e. IsOther script.setup actor e.event) entries merged
 
-pub woven_log : (script : ScriptData) (actor : Actor) (logs : List Logged) (merged : List Entry) → AreLinesOf script.setup script.lines → AllFollow script (actors_of script) logs → AllRise logs → InTickOrder (logs_of logs) merged → WovenLog script actor merged
+pub woven_log : (script : ScriptData) (actor : Actor) (logs : List Logged) (merged : List Entry) → AreLinesOf script.setup script.lines → AllOpened script (actors_of script) logs → AllRise logs → InTickOrder (logs_of logs) merged → WovenLog script actor merged
 woven_log script actor logs merged of_script follow rise order =
     let k : OwnLog script actor (logs_of logs) = own_log script actor logs of_script follow rise in
     let among : Among (λ e. IsOther script.setup actor e.event) k.entries merged = record {

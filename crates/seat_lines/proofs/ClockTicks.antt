@@ -12,9 +12,10 @@ use Rattle.line_steps.specs.Answers.{same_actor, has_opening, is_of}
 use Rattle.line_steps.specs.Planned.{tick_by, with_tick, ticks_in}
 use Rattle.split_stores.specs.declared.seat.Entry.{Entry}
 use Rattle.split_stores.specs.Orders.{rise_by, rises_in}
-use Rattle.seat_lines.specs.Follows.{first_event, Follows}
+use Rattle.seat_lines.specs.Follows.{first_event}
 use Rattle.seat_lines.specs.Owed.{Standing, gone_on, opened}
 use Rattle.seat_lines.proofs.FirstEvents.{first_rises}
+use Rattle.seat_lines.proofs.OpeningLogs.{FollowsOpened}
 use Rattle.seat_lines.proofs.OtherLogs.{OwnLine, AreOwn, IsOther, other_rise}
 use Rattle.seat_lines.proofs.MadeEntries.{first_rise}
 use Rattle.seat_lines.proofs.Weaving.{Woven}
@@ -49,30 +50,30 @@ line_rises setup line e es ticks own first same =
 
 -- the entries raise the clock as the lines that its log follows
 abbrev RisesBy : SetupNumbers → List Entry → List Entry → Type 0
-RisesBy setup own es = (st : Standing) (lines : List Line) → AreOwn setup Clock lines → Follows Clock st lines own → rises_in es ≡ ticks_in lines
+RisesBy setup own es = (st : Standing) (lines : List Line) → AreOwn setup Clock lines → FollowsOpened Clock st lines own → rises_in es ≡ ticks_in lines
 
 other_step : (setup : SetupNumbers) (own : List Entry) (e : Entry) (es : List Entry) → IsOther setup Clock e.event → RisesBy setup own es → RisesBy setup own (e ∷ es)
 unfolding rises_in
 other_step setup own e es other later st lines are_own follows = none_rises e es (ticks_in lines) (other_rise setup e.event other) (later st lines are_own follows)
 
 own_step : (setup : SetupNumbers) (own : List Entry) (e : Entry) (es : List Entry) → RisesBy setup own es → RisesBy setup (e ∷ own) (e ∷ es)
-unfolding Follows AreOwn rises_in ticks_in
+unfolding FollowsOpened AreOwn rises_in ticks_in
 own_step setup own e es later st [] are_own follows = none_rises e es [] (other_rise setup e.event (inl follows.0)) (later (gone_on Clock st e) [] are_own follows.1)
 own_step setup own e es later st (line ∷ lines) are_own (inl on) = none_rises e es (ticks_in (line ∷ lines)) (other_rise setup e.event (inl on.0)) (later (gone_on Clock st e) (line ∷ lines) are_own on.1)
 own_step setup own e es later st (line ∷ lines) are_own (inr k) = line_rises setup line e es (ticks_in lines) are_own.0 k.1 (later (opened Clock line.verb st e.kept.items) lines are_own.1 k.2)
 
-at_end : (st : Standing) (lines : List Line) → Follows Clock st lines [] → rises_in [] ≡ ticks_in lines
-unfolding Follows rises_in ticks_in
+at_end : (st : Standing) (lines : List Line) → FollowsOpened Clock st lines [] → rises_in [] ≡ ticks_in lines
+unfolding FollowsOpened rises_in ticks_in
 at_end st lines follows = sym (ap ticks_in follows.0)
 
 entries_rise : (setup : SetupNumbers) (own es : List Entry) → Woven (λ e. IsOther setup Clock e.event) own es → RisesBy setup own es
 unfolding Woven
-entries_rise setup own [] woven = λ st lines are_own follows. at_end st lines (subst (λ (xs : List Entry). Follows Clock st lines xs) woven follows)
+entries_rise setup own [] woven = λ st lines are_own follows. at_end st lines (subst (λ (xs : List Entry). FollowsOpened Clock st lines xs) woven follows)
 entries_rise setup [] (e ∷ es) woven = other_step setup [] e es woven.0 (entries_rise setup [] es woven.1)
 entries_rise setup (o ∷ own) (e ∷ es) (inl mine) = subst (λ (x : Entry). RisesBy setup (x ∷ own) (e ∷ es)) mine.0 (own_step setup own e es (entries_rise setup own es mine.1))
 entries_rise setup (o ∷ own) (e ∷ es) (inr other) = other_step setup (o ∷ own) e es other.0 (entries_rise setup (o ∷ own) es other.1)
 
-pub rises_as_lines : (setup : SetupNumbers) (own es : List Entry) (st : Standing) (lines : List Line) → Woven (λ e. IsOther setup Clock e.event) own es → AreOwn setup Clock (filter (is_of Clock) lines) → Follows Clock st (filter (is_of Clock) lines) own → rises_in es ≡ ticks_in lines
+pub rises_as_lines : (setup : SetupNumbers) (own es : List Entry) (st : Standing) (lines : List Line) → Woven (λ e. IsOther setup Clock e.event) own es → AreOwn setup Clock (filter (is_of Clock) lines) → FollowsOpened Clock st (filter (is_of Clock) lines) own → rises_in es ≡ ticks_in lines
 rises_as_lines setup own es st lines woven are_own follows = entries_rise setup own es woven st (filter (is_of Clock) lines) are_own follows ∙ clock_lines lines
 
 -- ---- they are no more than all lines that name a tick

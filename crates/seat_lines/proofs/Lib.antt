@@ -1,5 +1,7 @@
 mod Weaving
 mod FirstEvents
+mod OpeningLogs
+pub mod FirstsAmong
 mod OtherLogs
 mod WalkedItems
 mod MadeEntries

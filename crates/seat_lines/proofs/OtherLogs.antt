@@ -26,9 +26,10 @@ use Rattle.split_parts.specs.declared.event.Event.{Event}
 use Rattle.split_stores.specs.declared.seat.Entry.{Entry}
 use Rattle.split_stores.specs.Merged.{timed_at}
 use Rattle.split_stores.specs.Orders.{rise_by}
-use Rattle.seat_lines.specs.Follows.{opener, first_event, Follows}
+use Rattle.seat_lines.specs.Follows.{opener, first_event}
 use Rattle.seat_lines.specs.Owed.{Standing, gone_on, opened}
 use Rattle.seat_lines.proofs.FirstEvents.{first_is, first_own, none_opens, quiet_rise}
+use Rattle.seat_lines.proofs.OpeningLogs.{FollowsOpened}
 
 -- ---- the lines of an actor
 pub record OwnLine (setup : SetupNumbers) (actor : Actor) (line : Line) : Type 0 where
@@ -84,8 +85,8 @@ followed_by setup who actor line e differs own first = inr (record {
   first = subst (λ (a : Actor). first_event a line.verb ≡ Some e) (sym own.same) first;
 })
 
-pub others_log : (setup : SetupNumbers) (who actor : Actor) (st : Standing) (lines : List Line) (es : List Entry) → (who ≡ actor → ⊥) → AreOwn setup who lines → Follows who st lines es → (x : Entry) → x ∈ es → IsOther setup actor x.event
-unfolding AreOwn Follows ◌∈◌
+pub others_log : (setup : SetupNumbers) (who actor : Actor) (st : Standing) (lines : List Line) (es : List Entry) → (who ≡ actor → ⊥) → AreOwn setup who lines → FollowsOpened who st lines es → (x : Entry) → x ∈ es → IsOther setup actor x.event
+unfolding AreOwn FollowsOpened ◌∈◌
 others_log setup who actor st lines [] differs own follows x m = absurd m
 others_log setup who actor st [] (e ∷ es) differs own follows x (inl is) = inl (ap (λ (y : Entry). opener y.event) is ∙ follows.0)
 others_log setup who actor st [] (e ∷ es) differs own follows x (inr m) = others_log setup who actor (gone_on who st e) [] es differs own follows.1 x m

@@ -16,7 +16,7 @@ use Rattle.line_steps.proofs.Walks.{AllNot, plain_not}
 use Rattle.split_stores.specs.declared.seat.Entry.{Entry}
 use Rattle.split_stores.specs.Merged.{timed_in, played_with, IsReplayed, kept_items}
 use Rattle.served_lines.specs.Ends.{Ends}
-use Rattle.seat_lines.specs.Follows.{opener, first_event, Follows}
+use Rattle.seat_lines.specs.Follows.{opener, first_event}
 use Rattle.seat_lines.specs.Owed.{Standing, is_step, is_paid, with_items, gone_on, opened}
 use Rattle.seat_lines.specs.Served.{Begun, begun_by, HasEnded, AnsweredServed}
 use Rattle.seat_lines.proofs.AskFacts.{MachineLaws}
@@ -24,6 +24,7 @@ use Rattle.seat_lines.proofs.AskPlaces.{Known, client_before}
 use Rattle.seat_lines.proofs.KeptKeys.{KeysKept, keys_later, items_keep, items_take, opened_keep, opened_take}
 use Rattle.seat_lines.proofs.MadeEntries.{IsGood, AllMade, made_good}
 use Rattle.seat_lines.proofs.Moves.{Move, items_of, state_after}
+use Rattle.seat_lines.proofs.OpeningLogs.{FollowsOpened}
 use Rattle.seat_lines.proofs.OtherLogs.{OwnLine, AreOwn, IsOther}
 use Rattle.seat_lines.proofs.ServedItems.{begun_over, shift, walks_over, ComesTo, Moved, comes_past, gone_by, TimedMove, made_of, comes_on, has_ended, OpensLine, comes_open}
 use Rattle.seat_lines.proofs.SinceAsk.{in_not}
@@ -66,10 +67,10 @@ keys_open laws _ v line st moved kept = tt
 -- what the rest of the entries serves, from a state where this is begun and owed
 abbrev pub Serves : ScriptData → Actor → List Entry → List Entry → Played → Type 0
 Serves script actor own es p =
-    Ends p.state p.items → (st : Standing) (begun : Begun) (lines : List Line) → AreOwn script.setup actor lines → Follows actor st lines own → KeysKept actor p.state st.written → ComesTo actor p.state p.items st begun → AnsweredServed actor p.items begun lines (kept_items es)
+    Ends p.state p.items → (st : Standing) (begun : Begun) (lines : List Line) → AreOwn script.setup actor lines → FollowsOpened actor st lines own → KeysKept actor p.state st.written → ComesTo actor p.state p.items st begun → AnsweredServed actor p.items begun lines (kept_items es)
 
-at_end : (actor : Actor) (p : Played) (begun : Begun) (st : Standing) (lines : List Line) → ComesTo actor p.state p.items st begun → Follows actor st lines [] → AnsweredServed actor p.items begun lines []
-unfolding AnsweredServed Follows
+at_end : (actor : Actor) (p : Played) (begun : Begun) (st : Standing) (lines : List Line) → ComesTo actor p.state p.items st begun → FollowsOpened actor st lines [] → AnsweredServed actor p.items begun lines []
+unfolding AnsweredServed FollowsOpened
 at_end actor p begun st lines comes follows = (has_ended actor p.state p.items st begun comes follows.1, follows.0)
 
 -- what is known of a place of the walk: it is good, and so is the place behind it, its entry is replayed, and the rest serves
@@ -108,14 +109,14 @@ other_step laws a at other ends st begun lines are_own follows kept comes =
     (keys_past laws a.actor v st.written moved none kept)
     (comes_past laws a.actor v st begun moved none comes))
 
-go_step : MachineLaws → (a : WalkAt) (st : Standing) (begun : Begun) (lines : List Line) → Stands a → HasBegun a st begun → AreOwn a.script.setup a.actor lines → opener a.entry.event ≡ None → Follows a.actor (gone_on a.actor st a.entry) lines a.own → AnsweredServed a.actor a.played.items begun lines (left_of a)
+go_step : MachineLaws → (a : WalkAt) (st : Standing) (begun : Begun) (lines : List Line) → Stands a → HasBegun a st begun → AreOwn a.script.setup a.actor lines → opener a.entry.event ≡ None → FollowsOpened a.actor (gone_on a.actor st a.entry) lines a.own → AnsweredServed a.actor a.played.items begun lines (left_of a)
 go_step laws a st begun lines at come are_own opens follows =
     let v : Move = move_of a in
     let items : List Item = items_of v in
     let then : Standing = gone_by a.actor st a.entry.event items in
     let moved : Moved v = moved_of laws a at come.ends in
     let none : AllNot a.actor items = subst (λ (xs : List Item). AllNot a.actor xs) at.here (plain_kept a.script a.actor a.played a.entry at.here opens) in
-    let now : Follows a.actor then lines a.own = subst (λ (xs : List Item). Follows a.actor (gone_by a.actor st a.entry.event xs) lines a.own) at.here follows in
+    let now : FollowsOpened a.actor then lines a.own = subst (λ (xs : List Item). FollowsOpened a.actor (gone_by a.actor st a.entry.event xs) lines a.own) at.here follows in
     walk_past a begun lines at.here none
     (at.later moved.l.ends then (begun_over a.actor begun items) lines are_own now
     (keys_on laws a.actor v (is_step a.entry.event) st moved come.kept)
@@ -135,7 +136,7 @@ walk_open a begun line lines here b ended later =
     walks_over actor (h ++ b.first ∷ []) (begun_by line.verb b.first) lines b.rest rest (plain_not actor b.rest b.plain) (shift actor h (begun_over actor (begun_by line.verb b.first) b.rest) lines b.first b.rest rest at) in
     subst (λ (xs : List Item). AnsweredServed actor h begun (line ∷ lines) (xs ++ rest)) (sym b.is) (inl (ended, b.answers, walks))
 
-open_step : MachineLaws → (a : WalkAt) (st : Standing) (begun : Begun) (line : Line) (lines : List Line) → Stands a → HasBegun a st begun → OwnLine a.script.setup a.actor line → AreOwn a.script.setup a.actor lines → is_paid st ≡ true → first_event a.actor line.verb ≡ Some a.entry.event → Follows a.actor (opened a.actor line.verb st a.entry.kept.items) lines a.own →
+open_step : MachineLaws → (a : WalkAt) (st : Standing) (begun : Begun) (line : Line) (lines : List Line) → Stands a → HasBegun a st begun → OwnLine a.script.setup a.actor line → AreOwn a.script.setup a.actor lines → is_paid st ≡ true → first_event a.actor line.verb ≡ Some a.entry.event → FollowsOpened a.actor (opened a.actor line.verb st a.entry.kept.items) lines a.own →
     AnsweredServed a.actor a.played.items begun (line ∷ lines) (left_of a)
 open_step laws a st begun line lines at come mine are_own paid first follows =
     let actor : Actor = a.actor in
@@ -153,21 +154,21 @@ open_step laws a st begun line lines at come mine are_own paid first follows =
       answers = subst (λ (x : Actor). IsAnswer (asks_last p.items) x line.verb b.first) mine.same b.answers;
       is = sym at.here ∙ b.is;
     } in
-    let now : Follows actor (opened actor line.verb st items) lines a.own = subst (λ (xs : List Item). Follows actor (opened actor line.verb st xs) lines a.own) at.here follows in
+    let now : FollowsOpened actor (opened actor line.verb st items) lines a.own = subst (λ (xs : List Item). FollowsOpened actor (opened actor line.verb st xs) lines a.own) at.here follows in
     walk_open a begun line lines at.here b (has_ended actor p.state p.items st begun come.comes paid)
     (at.later moved.l.ends (opened actor line.verb st items) (begun_over actor (begun_by line.verb b.first) b.rest) lines are_own now
     (keys_open laws actor v line.verb st moved come.kept)
     (comes_open laws actor line.verb st b.first b.rest a.entry.event v opens))
 
 own_step : MachineLaws → (a : WalkAt) → Stands a → Serves a.script a.actor (a.entry ∷ a.own) (a.entry ∷ a.entries) a.played
-unfolding Follows AreOwn
+unfolding FollowsOpened AreOwn
 own_step laws a at ends st begun [] are_own follows kept comes = go_step laws a st begun [] at (record { ends = ends; kept = kept; comes = comes }) are_own follows.0 follows.1
 own_step laws a at ends st begun (line ∷ lines) are_own (inl on) kept comes = go_step laws a st begun (line ∷ lines) at (record { ends = ends; kept = kept; comes = comes }) are_own on.0 on.1
 own_step laws a at ends st begun (line ∷ lines) are_own (inr k) kept comes = open_step laws a st begun line lines at (record { ends = ends; kept = kept; comes = comes }) are_own.0 are_own.1 k.0 k.1 k.2
 
 pub entries_serve : MachineLaws → (script : ScriptData) (actor : Actor) (own es : List Entry) (p : Played) → AllMade script es p → Woven (λ e. IsOther script.setup actor e.event) own es → Serves script actor own es p
 unfolding AllMade Woven
-entries_serve laws script actor own [] p made woven = λ ends st begun lines are_own follows kept comes. at_end actor p begun st lines comes (subst (λ (xs : List Entry). Follows actor st lines xs) woven follows)
+entries_serve laws script actor own [] p made woven = λ ends st begun lines are_own follows kept comes. at_end actor p begun st lines comes (subst (λ (xs : List Entry). FollowsOpened actor st lines xs) woven follows)
 entries_serve laws script actor [] (e ∷ es) p made woven =
     other_step laws (walk_at script actor p e es []) (record { good = made.0; next = made_good script es (played_with script p e.event) made.2; here = made.1; later = entries_serve laws script actor [] es (played_with script p e.event) made.2 woven.1 }) woven.0
 entries_serve laws script actor (o ∷ own) (e ∷ es) p made (inl mine) =

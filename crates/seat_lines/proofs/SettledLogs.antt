@@ -22,7 +22,6 @@ use Rattle.split_stores.specs.Logs.{Logged}
 use Rattle.split_stores.specs.Merged.{kept_items, IsSettledAt, Settled}
 use Rattle.split_stores.specs.Merging.{logs_of}
 use Rattle.split_stores.specs.Orders.{rises_in, without_lines, SettledByPlans, SettledIsPlanned}
-use Rattle.seat_lines.specs.Follows.{AllFollow}
 use Rattle.seat_lines.specs.Laws.{AllRise, IsCarried, SettledLogsAnswer, SettledLogsArePlanned, SettledLogsServe}
 use Rattle.seat_lines.specs.Owed.{first_standing}
 use Rattle.seat_lines.specs.Served.{Nothing, AnsweredServed}
@@ -31,6 +30,7 @@ use Rattle.seat_lines.proofs.ActorLogs.{WovenLog, woven_log}
 use Rattle.seat_lines.proofs.ClockTicks.{rises_as_lines, ticks_most}
 use Rattle.seat_lines.proofs.KeptKeys.{KeysKept}
 use Rattle.seat_lines.proofs.MadeEntries.{IsGood, AllMade, all_made}
+use Rattle.seat_lines.proofs.OpeningLogs.{AllOpened, all_opened}
 use Rattle.seat_lines.proofs.OtherLogs.{own_lines}
 use Rattle.seat_lines.proofs.ServedEntries.{entries_serve}
 use Rattle.seat_lines.proofs.WalkedEntries.{entries_answer}
@@ -43,19 +43,20 @@ good_first script carried = record {
   takes = takes_at_first script.setup carried.setup;
 }
 
-rises_settled : (script : ScriptData) (logs : List Logged) (whole : Whole) → IsCarried script → AllFollow script (actors_of script) logs → AllRise logs → (settled : Settled (without_lines script) (logs_of logs) whole) → rises_in settled.merged ≡ ticks_in script.lines
+rises_settled : (script : ScriptData) (logs : List Logged) (whole : Whole) → IsCarried script → AllOpened script (actors_of script) logs → AllRise logs → (settled : Settled (without_lines script) (logs_of logs) whole) → rises_in settled.merged ≡ ticks_in script.lines
 rises_settled script logs whole carried follow rise settled =
     let k : WovenLog script Clock settled.merged = woven_log script Clock logs settled.merged carried.lines follow rise settled.in_order in
     rises_as_lines script.setup k.entries settled.merged first_standing script.lines k.woven (own_lines script.setup Clock script.lines carried.lines) k.follows
 
-all_settled : EventsStayTold → SettledByPlans → (script : ScriptData) (logs : List Logged) (whole : Whole) → IsCarried script → AllFollow script (actors_of script) logs → AllRise logs → (settled : Settled (without_lines script) (logs_of logs) whole) → AllMade script settled.merged (opening_played script)
+all_settled : EventsStayTold → SettledByPlans → (script : ScriptData) (logs : List Logged) (whole : Whole) → IsCarried script → AllOpened script (actors_of script) logs → AllRise logs → (settled : Settled (without_lines script) (logs_of logs) whole) → AllMade script settled.merged (opening_played script)
 all_settled law by_plans script logs whole carried follow rise settled =
     let at : IsSettledAt script settled.merged whole = by_plans script (logs_of logs) whole settled in
     let same : sum (rises_in settled.merged) ≡ sum (ticks_in script.lines) = ap sum (rises_settled script logs whole carried follow rise settled) in
     all_made law script settled.merged (opening_played script) carried.playable.leads (omega (arith, same, ticks_most script.lines, carried.playable.ticks)) (good_first script carried) at.replayed
 
 pub settled_logs_answer : EventsStayTold → SettledByPlans → SettledLogsAnswer
-settled_logs_answer law by_plans script logs whole carried follow rise settled actor =
+settled_logs_answer law by_plans script logs whole carried follow_all rise settled actor =
+    let follow : AllOpened script (actors_of script) logs = all_opened script (actors_of script) logs carried.masters follow_all in
     let k : WovenLog script actor settled.merged = woven_log script actor logs settled.merged carried.lines follow rise settled.in_order in
     let made : AllMade script settled.merged (opening_played script) = all_settled law by_plans script logs whole carried follow rise settled in
     let answers : Answered asks_last actor [] None (filter (is_of actor) script.lines) (kept_items settled.merged) = entries_answer script actor k.entries settled.merged (opening_played script) made k.woven first_standing None (filter (is_of actor) script.lines) (own_lines script.setup actor script.lines carried.lines) k.follows tt in
@@ -63,7 +64,7 @@ settled_logs_answer law by_plans script logs whole carried follow rise settled a
 
 pub settled_logs_are_planned : SettledIsPlanned → SettledLogsArePlanned
 settled_logs_are_planned law script logs whole carried follow rise settled =
-    law script (logs_of logs) whole settled carried.setup carried.playable (rises_settled script logs whole carried follow rise settled)
+    law script (logs_of logs) whole settled carried.setup carried.playable (rises_settled script logs whole carried (all_opened script (actors_of script) logs carried.masters follow) rise settled)
 
 -- before the first entry no session has a transaction open
 keys_first : (script : ScriptData) (actor : Actor) → IsCarried script → KeysKept actor (opening_played script).state []
@@ -74,7 +75,8 @@ keys_first script (Session s) carried = λ c at opened key m.
 keys_first script _ carried = tt
 
 pub settled_logs_serve : MachineLaws → EventsStayTold → SettledByPlans → SettledLogsServe
-settled_logs_serve laws law by_plans script logs whole carried follow rise settled actor =
+settled_logs_serve laws law by_plans script logs whole carried follow_all rise settled actor =
+    let follow : AllOpened script (actors_of script) logs = all_opened script (actors_of script) logs carried.masters follow_all in
     let k : WovenLog script actor settled.merged = woven_log script actor logs settled.merged carried.lines follow rise settled.in_order in
     let made : AllMade script settled.merged (opening_played script) = all_settled law by_plans script logs whole carried follow rise settled in
     let serves : AnsweredServed actor [] Nothing (filter (is_of actor) script.lines) (kept_items settled.merged) =

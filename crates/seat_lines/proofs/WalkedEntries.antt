@@ -21,10 +21,11 @@ use Rattle.line_steps.proofs.Takes.{last_fits}
 use Rattle.line_steps.proofs.Walks.{AllNot, plain_not}
 use Rattle.split_stores.specs.declared.seat.Entry.{Entry}
 use Rattle.split_stores.specs.Merged.{timed_in, replayed_items, played_with, IsReplayed, kept_items}
-use Rattle.seat_lines.specs.Follows.{opener, first_event, Follows}
+use Rattle.seat_lines.specs.Follows.{opener, first_event}
 use Rattle.seat_lines.specs.Owed.{Standing, is_paid, gone_on, opened}
 use Rattle.seat_lines.proofs.FirstEvents.{first_is, none_opens}
 use Rattle.seat_lines.proofs.MadeEntries.{IsGood, AllMade}
+use Rattle.seat_lines.proofs.OpeningLogs.{FollowsOpened}
 use Rattle.seat_lines.proofs.OtherLogs.{OwnLine, AreOwn, IsOther, other_not}
 use Rattle.seat_lines.proofs.WalkedItems.{IsOwed, none_begun, Walked, walked_past, walked_on, walked_open}
 use Rattle.seat_lines.proofs.Weaving.{Woven}
@@ -84,13 +85,13 @@ walk_on : (a : WalkAt) (begun then : Option ℕ) (lines rest : List Line) → Is
     Answered asks_last a.actor a.played.items begun lines (left_of a)
 walk_on a begun then lines rest here walks later = walks (kept_items a.entries) (subst (λ (xs : List Item). Answered asks_last a.actor (a.played.items ++ xs) then rest (kept_items a.entries)) (sym here) later)
 
-at_end : (actor : Actor) (h : List Item) (begun : Option ℕ) (st : Standing) (lines : List Line) → IsOwed begun st.owed → Follows actor st lines [] → Answered asks_last actor h begun lines []
-unfolding Answered Follows
+at_end : (actor : Actor) (h : List Item) (begun : Option ℕ) (st : Standing) (lines : List Line) → IsOwed begun st.owed → FollowsOpened actor st lines [] → Answered asks_last actor h begun lines []
+unfolding Answered FollowsOpened
 at_end actor h begun st lines owed follows = subst (λ (b : Option ℕ). Answered asks_last actor h b lines []) (sym (none_begun begun st owed follows.1)) (refl, follows.0)
 
 -- what the rest of the entries answers, from a state where this is begun and owed
 abbrev pub Answers : ScriptData → Actor → List Entry → List Entry → Played → Type 0
-Answers script actor own es p = (st : Standing) (begun : Option ℕ) (lines : List Line) → AreOwn script.setup actor lines → Follows actor st lines own → IsOwed begun st.owed → Answered asks_last actor p.items begun lines (kept_items es)
+Answers script actor own es p = (st : Standing) (begun : Option ℕ) (lines : List Line) → AreOwn script.setup actor lines → FollowsOpened actor st lines own → IsOwed begun st.owed → Answered asks_last actor p.items begun lines (kept_items es)
 
 -- what is known of a place of the walk: it is good, its entry is replayed, and the rest answers
 record Stands (a : WalkAt) : Type 0 where
@@ -103,13 +104,13 @@ other_step a at other st begun lines are_own follows owed =
     let k : Walked a.actor a.played.items a.entry.kept.items begun lines lines st.owed = walked_past a.actor a.played.items a.entry.kept.items begun lines st.owed (other_kept a.script a.actor a.played a.entry at.good at.here other) owed in
     walk_on a begun k.then lines lines at.here k.walks (at.later st k.then lines are_own follows k.is_owed)
 
-go_step : (a : WalkAt) (st : Standing) (begun : Option ℕ) (lines : List Line) → Stands a → AreOwn a.script.setup a.actor lines → opener a.entry.event ≡ None → Follows a.actor (gone_on a.actor st a.entry) lines a.own → IsOwed begun st.owed → Answered asks_last a.actor a.played.items begun lines (left_of a)
+go_step : (a : WalkAt) (st : Standing) (begun : Option ℕ) (lines : List Line) → Stands a → AreOwn a.script.setup a.actor lines → opener a.entry.event ≡ None → FollowsOpened a.actor (gone_on a.actor st a.entry) lines a.own → IsOwed begun st.owed → Answered asks_last a.actor a.played.items begun lines (left_of a)
 go_step a st begun lines at are_own none follows owed =
     let now : Standing = gone_on a.actor st a.entry in
     let k : Walked a.actor a.played.items a.entry.kept.items begun lines lines now.owed = walked_on a.actor a.played.items begun st lines a.entry (plain_kept a.script a.actor a.played a.entry at.here none) owed in
     walk_on a begun k.then lines lines at.here k.walks (at.later now k.then lines are_own follows k.is_owed)
 
-open_step : (a : WalkAt) (st : Standing) (begun : Option ℕ) (line : Line) (lines : List Line) → Stands a → OwnLine a.script.setup a.actor line → AreOwn a.script.setup a.actor lines → is_paid st ≡ true → first_event a.actor line.verb ≡ Some a.entry.event → Follows a.actor (opened a.actor line.verb st a.entry.kept.items) lines a.own → IsOwed begun st.owed →
+open_step : (a : WalkAt) (st : Standing) (begun : Option ℕ) (line : Line) (lines : List Line) → Stands a → OwnLine a.script.setup a.actor line → AreOwn a.script.setup a.actor lines → is_paid st ≡ true → first_event a.actor line.verb ≡ Some a.entry.event → FollowsOpened a.actor (opened a.actor line.verb st a.entry.kept.items) lines a.own → IsOwed begun st.owed →
     Answered asks_last a.actor a.played.items begun (line ∷ lines) (left_of a)
 open_step a st begun line lines at mine are_own paid first follows owed =
     let items : List Item = a.entry.kept.items in
@@ -119,7 +120,7 @@ open_step a st begun line lines at mine are_own paid first follows owed =
     subst (λ (b : Option ℕ). Answered asks_last a.actor a.played.items b (line ∷ lines) (left_of a)) (sym (none_begun begun st owed paid)) from
 
 own_step : (a : WalkAt) → Stands a → Answers a.script a.actor (a.entry ∷ a.own) (a.entry ∷ a.entries) a.played
-unfolding Follows AreOwn
+unfolding FollowsOpened AreOwn
 own_step a at st begun [] are_own follows owed = go_step a st begun [] at are_own follows.0 follows.1 owed
 own_step a at st begun (line ∷ lines) are_own (inl on) owed = go_step a st begun (line ∷ lines) at are_own on.0 on.1 owed
 own_step a at st begun (line ∷ lines) are_own (inr k) owed = open_step a st begun line lines at are_own.0 are_own.1 k.0 k.1 k.2 owed
@@ -130,7 +131,7 @@ walk_at script actor p e es own = record { script = script; actor = actor; playe
 
 pub entries_answer : (script : ScriptData) (actor : Actor) (own es : List Entry) (p : Played) → AllMade script es p → Woven (λ e. IsOther script.setup actor e.event) own es → Answers script actor own es p
 unfolding AllMade Woven
-entries_answer script actor own [] p made woven = λ st begun lines are_own follows owed. at_end actor p.items begun st lines owed (subst (λ (xs : List Entry). Follows actor st lines xs) woven follows)
+entries_answer script actor own [] p made woven = λ st begun lines are_own follows owed. at_end actor p.items begun st lines owed (subst (λ (xs : List Entry). FollowsOpened actor st lines xs) woven follows)
 entries_answer script actor [] (e ∷ es) p made woven = other_step (walk_at script actor p e es []) (record { good = made.0; here = made.1; later = entries_answer script actor [] es (played_with script p e.event) made.2 woven.1 }) woven.0
 entries_answer script actor (o ∷ own) (e ∷ es) p made (inl mine) =
     subst (λ (x : Entry). Answers script actor (x ∷ own) (e ∷ es) p) mine.0 (own_step (walk_at script actor p e es own) (record { good = made.0; here = made.1; later = entries_answer script actor own es (played_with script p e.event) made.2 mine.1 }))

@@ -23,13 +23,14 @@ use Rattle.split_stores.specs.Logs.{Logged, IsNew, ticks_of, rises_above}
 use Rattle.split_stores.specs.Merged.{SettleStops, entries_played, played_with, timed_in}
 use Rattle.split_stores.specs.Merging.{logs_of}
 use Rattle.split_stores.specs.Orders.{without_lines}
-use Rattle.seat_lines.specs.Follows.{AllFollow}
+use Rattle.seat_lines.specs.Follows.{AllFollow, AllFollowSome}
 use Rattle.seat_lines.specs.Served.{Served}
+use Rattle.seat_lines.proofs.FirstsAmong.{all_begin}
 use Rattle.seat_lines.specs.Laws.{IsCarried, AllRise, SettledLogsAnswer, SettledLogsServe, SettledLogsArePlanned}
 use Rattle.split_driver.specs.declared.stop.SplitStop.{SplitStop}
 use Rattle.split_driver.specs.declared.stop.SplitStop.TheVariants as stop
 use Rattle.split_driver.specs.Actors.{IsOfAll, SettlesBy, TearsBy}
-use Rattle.split_driver.specs.Splits.{MaySplit, Splits, SplitStops}
+use Rattle.split_driver.specs.Splits.{AreLogs, CarriedOut, MaySplit, Splits, SplitStops}
 
 -- ---- what settling answered
 -- where all seats are handed in, none is missing
@@ -38,19 +39,19 @@ all_given plan seats logs (settle.Missing made given) is all = is.2 (is.1 ∙ al
 all_given plan seats logs (settle.Torn tick kept replayed) is all = tt
 all_given plan seats logs settle.NoMemory is all = tt
 
-stops_by : (script plan : ScriptData) (logs : List Logged) (why : SplitStop) → plan ≡ without_lines script → TearsBy plan (logs_of logs) why → SplitStops script why
-stops_by script plan logs (stop.Torn tick kept replayed) is tears = record { logs = logs; torn = rw (sym is) tears }
-stops_by script plan logs (stop.Spent drawn) is tears = absurd tears
-stops_by script plan logs stop.NoMemory is tears = tt
+stops_by : (script plan : ScriptData) (logs : List Logged) (why : SplitStop) → plan ≡ without_lines script → AreLogs script logs → TearsBy plan (logs_of logs) why → SplitStops script why
+stops_by script plan logs (stop.Torn tick kept replayed) is are tears = record { logs = logs; are = are; torn = rw (sym is) tears }
+stops_by script plan logs (stop.Spent drawn) is are tears = absurd tears
+stops_by script plan logs stop.NoMemory is are tears = tt
 
 -- where the logs follow the lines of all actors
-pub splits_whole : (script plan : ScriptData) (logs : List Logged) (r : Result Whole SplitStop) → plan ≡ without_lines script → AllFollow script (actors_of script) logs → AllRise logs → SettlesBy plan (logs_of logs) r → Splits script r
-splits_whole script plan logs (Ok whole) is follow rise settled = record { logs = logs; follow = follow; rise = rise; settled = rw (sym is) settled }
-splits_whole script plan logs (Err why) is follow rise tears = stops_by script plan logs why is tears
+pub splits_whole : (script plan : ScriptData) (logs : List Logged) (r : Result Whole SplitStop) → plan ≡ without_lines script → AllFollow script (actors_of script) logs → AreLogs script logs → SettlesBy plan (logs_of logs) r → Splits script r
+splits_whole script plan logs (Ok whole) is follow are settled = record { logs = logs; follow = follow; rise = are.rise; settled = rw (sym is) settled }
+splits_whole script plan logs (Err why) is follow are tears = stops_by script plan logs why is are tears
 
--- where it stops, whether they follow the lines or not
-pub splits_not : (script plan : ScriptData) (logs : List Logged) (why : SplitStop) (r : Result Whole SplitStop) → plan ≡ without_lines script → SettlesBy plan (logs_of logs) r → r ≡ Err why → SplitStops script why
-splits_not script plan logs why r is settled stopped = stops_by script plan logs why is (subst (λ (x : Result Whole SplitStop). SettlesBy plan (logs_of logs) x) stopped settled)
+-- where it stops, whether they follow the lines to their end or not
+pub splits_not : (script plan : ScriptData) (logs : List Logged) (why : SplitStop) (r : Result Whole SplitStop) → plan ≡ without_lines script → AreLogs script logs → SettlesBy plan (logs_of logs) r → r ≡ Err why → SplitStops script why
+splits_not script plan logs why r is are settled stopped = stops_by script plan logs why is are (subst (λ (x : Result Whole SplitStop). SettlesBy plan (logs_of logs) x) stopped settled)
 
 -- ---- no lines
 -- empty logs are none
@@ -62,7 +63,9 @@ no_entries word (log ∷ logs) new =
 
 pub splits_nothing : (script plan : ScriptData) (word : TableId) (logs : List Logged) (r : Result Whole SplitStop) → plan ≡ without_lines script → actors_of script ≡ [] → All (IsNew word) logs → SettlesBy plan (logs_of logs) r → Splits script r
 splits_nothing script plan word logs r is none new settled =
-    splits_whole script plan [] r is (subst (λ (actors : List Actor). AllFollow script actors []) (sym none) tt) (All-nil (λ (log : Logged). rises_above 0 (ticks_of log.entries) ≡ true))
+    let rise : AllRise [] = All-nil (λ (log : Logged). rises_above 0 (ticks_of log.entries) ≡ true) in
+    let fronts : AllFollowSome script (actors_of script) [] = subst (λ (actors : List Actor). AllFollowSome script actors []) (sym none) tt in
+    splits_whole script plan [] r is (subst (λ (actors : List Actor). AllFollow script actors []) (sym none) tt) (record { fronts = fronts; rise = rise })
     (subst (λ (es : List Entry). SettlesBy plan es r) (no_entries word logs new) settled)
 
 -- ---- the setup
@@ -77,6 +80,11 @@ pub split_setup : (script : ScriptData) (r : Result Whole SplitStop) → Splits 
 split_setup script (Ok whole) s =
     ap (λ (w : State). w.setup) s.settled.settled.state ∙ setup_after (without_lines script) s.settled.merged (opening_played (without_lines script))
 split_setup script (Err why) s = tt
+
+-- ---- each line
+pub split_carried : (script : ScriptData) (r : Result Whole SplitStop) → Splits script r → IfOk r (CarriedOut script)
+split_carried script (Ok whole) s = record { logs = s.logs; all = all_begin script (actors_of script) s.logs s.follow; settled = s.settled }
+split_carried script (Err why) s = tt
 
 -- ---- what the laws say
 is_carried : (script : ScriptData) → IsSound script → length script.lines ≤ 131072 → MaySplit script → All (λ (line : Line). SessionIsThere line.actor) script.lines → IsCarried script

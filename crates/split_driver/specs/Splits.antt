@@ -1,5 +1,5 @@
 -- What a script that is carried out over split stores comes to.
-use Rattle.std.specs.Prelude.{◌≡◌, ℕ, ◌≤◌, false, List, Option, Result, Ok, MatchResult}
+use Rattle.std.specs.Prelude.{◌≡◌, ℕ, ◌≤◌, false, List, length, slice_get, Option, Some, Result, Ok, MatchResult}
 use Rattle.tick_word.specs.Rule.{seat_limit}
 use Rattle.history_book.specs.declared.item.Item.{Item}
 use Rattle.script_data.specs.Data.{ScriptData}
@@ -11,7 +11,7 @@ use Rattle.split_stores.specs.Logs.{Logged}
 use Rattle.split_stores.specs.Merged.{Settled, IsTornInOrder}
 use Rattle.split_stores.specs.Merging.{logs_of}
 use Rattle.split_stores.specs.Orders.{without_lines}
-use Rattle.seat_lines.specs.Follows.{AllFollow}
+use Rattle.seat_lines.specs.Follows.{AllBegin, AllFollow, AllFollowSome}
 use Rattle.seat_lines.specs.Laws.{NameNoMaster, AllRise}
 use Rattle.split_runs.specs.Runs.{RiseInBounds}
 use Rattle.split_driver.specs.declared.stop.SplitStop.{SplitStop}
@@ -38,15 +38,38 @@ pub record SplitsTo (script : ScriptData) (whole : Whole) : Type 0 where
   pub rise : AllRise logs
   pub settled : Settled (without_lines script) (logs_of logs) whole
 
--- the tick is the first at which an entry of some logs kept something else than its event appends
+-- what it has come to is settled from logs in which each line of the script has its first event, once and in the order of its actor's
+-- lines: also a line that appends no item. A collect alone may have none, where nothing is there to collect.
+pub record CarriedOut (script : ScriptData) (whole : Whole) : Type 0 where
+  pub logs : List Logged
+  pub all : AllBegin script (actors_of script) logs
+  pub settled : Settled (without_lines script) (logs_of logs) whole
+
+-- the logs of all actors with lines, each of which is of a front of its actor's lines, in rising ticks
+pub record AreLogs (script : ScriptData) (logs : List Logged) : Type 0 where
+  pub fronts : AllFollowSome script (actors_of script) logs
+  pub rise : AllRise logs
+
+-- the tick is the first at which an entry of such logs kept something else than its event appends
 pub record TearsAt (script : ScriptData) (tick : ℕ) (kept replayed : Option Item) : Type 0 where
   pub logs : List Logged
+  pub are : AreLogs script logs
   pub torn : IsTornInOrder (without_lines script) (logs_of logs) tick kept replayed
+
+-- one of such logs has so many entries, which are all the ticks that a seat may draw
+pub record IsSpentAt (script : ScriptData) (drawn : ℕ) : Type 0 where
+  pub logs : List Logged
+  pub are : AreLogs script logs
+  pub place : ℕ
+  pub log : Logged
+  pub there : slice_get logs place ≡ Some log
+  pub entries : drawn ≡ length log.entries
+  pub all : seat_limit ≤ drawn
 
 -- why none comes: logs are torn, or an actor has drawn all its ticks
 abbrev pub SplitStops : ScriptData → SplitStop → Type 0
 SplitStops script (stop.Torn tick kept replayed) = TearsAt script tick kept replayed
-SplitStops script (stop.Spent drawn) = seat_limit ≤ drawn
+SplitStops script (stop.Spent drawn) = IsSpentAt script drawn
 SplitStops script stop.NoMemory = Unit {0}
 
 abbrev pub Splits : ScriptData → Result Whole SplitStop → Type 0

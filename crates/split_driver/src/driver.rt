@@ -8,11 +8,14 @@ ghost use Rattle.line_steps.specs.Planned.{Planned};
 ghost use Rattle.planned_cluster.specs.Fitting.{SessionIsThere};
 ghost use Rattle.thread_scripts.specs.Actors.{actors_of};
 ghost use Rattle.seat_lines.specs.Served.{Served};
-ghost use Rattle.split_driver.specs.Splits.{MaySplit, Splits, SplitStops, SplitsTo};
+ghost use Rattle.script_data.specs.Data.{ScriptData};
+ghost use Rattle.split_driver.specs.Splits.{CarriedOut, MaySplit, Splits, SplitStops, SplitsTo};
+ghost use Rattle.split_driver.specs.Waits.{Waited};
 
 use crate::SplitStop;
-use crate::ending::{finish, settle};
+use crate::ending::{finish, settle, wait_for_ever};
 use crate::playing::{jobs_of, play_all};
+use crate::waits::all_waited;
 use cluster_core::Cluster;
 use planned_cluster::see_session;
 use script_data::Line;
@@ -25,8 +28,8 @@ use std::thread::Threads;
 use thread_scripts::actors_with_lines;
 
 /// Carries a script out over split stores, where each event passes the gate under the locks of its parts: the cluster that the logs
-/// settle into. Its history answers the script, serves it, and is as the script plans. That it ends is not promised: an actor may
-/// wait for what never comes.
+/// settle into. Each line was carried out, and one that awaits a name behind the line that posts it; the history answers the script,
+/// serves it, and is as the script plans. That it ends is not promised: an actor may wait for what never comes.
 pub fn run_split<R: Threads + Wait + Sync, G: PartGate>(
     rt: &R,
     alloc: Global,
@@ -37,13 +40,38 @@ pub fn run_split<R: Threads + Wait + Sync, G: PartGate>(
     requires may_split { MaySplit (data_of script.now) }
     ensures split { IfOk result (SplitsTo (data_of script.now)) }
     ensures answers { IfOk result (λ cluster. Answers (data_of script.now) cluster.history) }
+    ensures carried { IfOk result (CarriedOut (data_of script.now)) }
+    ensures waited { IfOk result (λ cluster. Waited cluster.history) }
     ensures served { IfOk result (λ cluster. Served (data_of script.now) cluster.history) }
     ensures planned { IfOk result (λ cluster. Planned (data_of script.now) cluster.history) }
     ensures setup { IfOk result (λ cluster. cluster.state.setup ≡ numbers_of script.now.setup) }
     ensures stopped { IfErr result (SplitStops (data_of script.now)) }
 {
     let split = carry_out(rt, alloc, script, gate);
-    answering(script, split)
+    let waited = keep_waited(rt, alloc, split);
+    answering(script, waited)
+}
+
+// No clause reaches what an actor finds posted, so the history tells it. Where a name were awaited before its post, nobody is there who
+// sets it right.
+fn keep_waited<R: Wait>(
+    rt: &R,
+    alloc: Global,
+    split: Result<Cluster, SplitStop>,
+) -> Result<Cluster, SplitStop>
+    ensures splits { (script : ScriptData) → Splits script split → Splits script result }
+    ensures waited { IfOk result (λ cluster. Waited cluster.history) }
+{
+    match split {
+        Ok(cluster) => {
+            if all_waited(alloc, cluster.history())? {
+                Ok(cluster)
+            } else {
+                wait_for_ever(rt)
+            }
+        }
+        Err(stop) => Err(stop),
+    }
 }
 
 // What the logs settle into answers the script, serves it, and is as it plans.
@@ -51,8 +79,11 @@ fn answering(script: &Script, split: Result<Cluster, SplitStop>) -> Result<Clust
     requires few { vec_len script.now.lines ≤ LINE_LIMIT }
     requires may_split { MaySplit (data_of script.now) }
     requires split { Splits (data_of script.now) split }
+    requires waited { IfOk split (λ cluster. Waited cluster.history) }
     ensures split { IfOk result (SplitsTo (data_of script.now)) }
     ensures answers { IfOk result (λ cluster. Answers (data_of script.now) cluster.history) }
+    ensures carried { IfOk result (CarriedOut (data_of script.now)) }
+    ensures waited { IfOk result (λ cluster. Waited cluster.history) }
     ensures served { IfOk result (λ cluster. Served (data_of script.now) cluster.history) }
     ensures planned { IfOk result (λ cluster. Planned (data_of script.now) cluster.history) }
     ensures setup { IfOk result (λ cluster. cluster.state.setup ≡ numbers_of script.now.setup) }
@@ -89,9 +120,9 @@ fn carry_out<R: Threads + Wait + Sync, G: PartGate>(
         return settle_nothing(alloc, script);
     }
     let (split, seats) = Split::open(alloc, script, actors.len())?;
-    let mut jobs = jobs_of(alloc, &split, actors, seats)?;
-    play_all(rt, alloc, &split, &script.lines, &mut jobs, gate);
-    finish(rt, alloc, script, split, jobs)
+    let jobs = jobs_of(alloc, &split, actors, seats)?;
+    let played = play_all(rt, alloc, &split, script, jobs, gate)?;
+    finish(rt, alloc, script, split, played)
 }
 
 // Where no actor has lines, one log stays empty.

@@ -1,5 +1,5 @@
 // What comes of the logs once all actors have ended.
-ghost use Rattle.std.specs.Prelude.{◌≡◌, ℕ, List, All, IfErr, IfOk, length, map};
+ghost use Rattle.std.specs.Prelude.{◌≡◌, ℕ, List, All, IfOk, length, map};
 ghost use Rattle.std.specs.List.{AllZip};
 ghost use Rattle.script_data.specs.Data.{ScriptData};
 ghost use Rattle.session_script.specs.Script.{data_of};
@@ -9,8 +9,9 @@ ghost use Rattle.split_stores.specs.Makes.{planned_by};
 ghost use Rattle.split_stores.specs.Merged.{SettleStops};
 ghost use Rattle.split_stores.specs.Merging.{logs_of};
 ghost use Rattle.split_stores.specs.Orders.{without_lines};
-ghost use Rattle.split_driver.specs.Actors.{DrewAll, IsOfAll, IsPlayedOf, IsSpentSo, IsThrough, SettlesBy, TearsBy};
-ghost use Rattle.split_driver.specs.Splits.{Splits};
+ghost use Rattle.split_driver.specs.Actors.{IsOfAll, IsPlayedOf, IsSpentBy, IsSpentFrom, IsThrough, SettlesBy, TearsBy};
+ghost use Rattle.split_driver.specs.Splits.{AreLogs, Splits};
+ghost use Rattle.split_driver.specs.Waits.{Waited};
 
 use crate::SplitStop;
 use crate::playing::Job;
@@ -36,9 +37,8 @@ pub(crate) enum End {
 impl End {
     /// With one actor more, which ended so. That ticks are spent goes before want of memory, and this before an actor that gave up.
     fn then(self, answer: &Result<(), PlayStop>) -> End
-        requires { IfErr answer.now DrewAll }
         ensures whole { result ≡ End.Whole → (self ≡ End.Whole) × IsThrough answer.now }
-        ensures spent { IsSpentSo self → IsSpentSo result }
+        ensures spent { IsSpentFrom self answer.now result }
     {
         match (self, answer) {
             (End::Spent { drawn }, _) => End::Spent { drawn },
@@ -73,9 +73,8 @@ pub(crate) fn finish<R: Wait>(
 
 // How all actors together have ended.
 fn end_of(played: &[Job]) -> End
-    requires { All (λ p. IfErr p.answer DrewAll) played.now }
     ensures whole { result ≡ End.Whole → All (λ p. IsThrough p.answer) played.now }
-    ensures spent { IsSpentSo result }
+    ensures spent { IsSpentBy played.now result }
 {
     let mut end = End::Whole;
     for one in played {
@@ -121,7 +120,7 @@ fn settle_torn<R: Wait>(
 
 #[tactic(auto, using(crate::proofs::SettleLemmas::splits_not))]
 fn give_up<R: Wait>(rt: &R, settled: &Result<Cluster, SplitStop>) -> Result<Cluster, SplitStop>
-    ensures { (script plan : ScriptData) (logs : List Logged) → plan ≡ without_lines script → SettlesBy plan (logs_of logs) settled.now → Splits script result }
+    ensures { (script plan : ScriptData) (logs : List Logged) → plan ≡ without_lines script → AreLogs script logs → SettlesBy plan (logs_of logs) settled.now → Splits script result }
 {
     match settled {
         Ok(_) => wait_for_ever(rt),
@@ -129,8 +128,10 @@ fn give_up<R: Wait>(rt: &R, settled: &Result<Cluster, SplitStop>) -> Result<Clus
     }
 }
 
-fn wait_for_ever<R: Wait>(rt: &R) -> Result<Cluster, SplitStop>
-    ensures { (script : ScriptData) → Splits script result }
+/// Nobody is there who goes on.
+pub(crate) fn wait_for_ever<R: Wait>(rt: &R) -> Result<Cluster, SplitStop>
+    ensures splits { (script : ScriptData) → Splits script result }
+    ensures waited { IfOk result (λ cluster. Waited cluster.history) }
 {
     let parker = Parker::new();
     for _ in rt.forever() {

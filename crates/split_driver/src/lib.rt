@@ -6,6 +6,8 @@ mod ending;
 mod laws;
 mod playing;
 mod stop;
+mod threads;
+mod waits;
 
 pub use driver::run_split;
 pub use laws::split_scripts_may_split;

@@ -1,15 +1,17 @@
 // The actors of a script, each on a thread of its own.
-ghost use Rattle.std.specs.Prelude.{◌≡◌, ◌≤◌, All, IfOk, length, vec_len};
+ghost use Rattle.std.specs.Prelude.{◌≡◌, ◌≤◌, All, IfOk, vec_len};
 ghost use Rattle.std.specs.List.{AllZip};
+ghost use Rattle.std.specs.Vec.{vec_capacity};
 ghost use Rattle.stamp_base.specs.declared.limits.TheConstants.{LINE_LIMIT};
 ghost use Rattle.split_stores.specs.Logs.{IsNew};
 ghost use Rattle.seat_lines.specs.Laws.{NameNoMaster};
 ghost use Rattle.split_runs.specs.Runs.{RiseInBounds};
 ghost use Rattle.split_driver.specs.Actors.{IsJobOf, IsPlayedBy};
 
+use crate::threads::{join_all, start_all};
 use history_book::Actor;
-use script_data::Line;
-use split_runs::{PlayStop, Posting, play_lines};
+use session_script::Script;
+use split_runs::{PlayStop, Posting};
 use split_stores::{ActorSeat, PartGate, Split};
 use stamp_base::NoMemory;
 use std::alloc::Global;
@@ -51,60 +53,61 @@ pub(crate) fn jobs_of(
     Ok(jobs)
 }
 
-/// Each actor carries out its lines on a thread of its own. Where one cannot be made, actors go on one after another there. It takes
-/// no memory, so that no actor waits for one that was left out.
+/// Each actor carries out its lines on a thread of its own, and nothing is carried out on this one. Where a thread cannot be made, or
+/// the gate refuses it, no further one is started and those that run are joined: an actor that was left out would be waited for.
 pub(crate) fn play_all<R: Threads + Wait + Sync, G: PartGate>(
     rt: &R,
     alloc: Global,
     split: &Split,
-    lines: &[Line],
-    jobs: &mut [Job],
+    script: &Script,
+    jobs: Vec<Job>,
     gate: &G,
-)
-    requires jobs { All (λ job. IsNew split.now.id job.seat) jobs.old }
-    requires few { length lines.now ≤ LINE_LIMIT }
-    requires ticks { RiseInBounds lines.now }
-    requires masters { NameNoMaster lines.now }
-    ensures { AllZip (IsPlayedBy lines.now) jobs.old jobs.new }
+) -> Result<Vec<Job>, NoMemory>
+    requires jobs { All (λ job. IsNew split.now.id job.seat) jobs.items }
+    requires few { vec_len script.now.lines ≤ LINE_LIMIT }
+    requires ticks { RiseInBounds script.now.lines.items }
+    requires masters { NameNoMaster script.now.lines.items }
+    ensures { IfOk result (λ played. AllZip (IsPlayedBy script.now.lines.items) jobs.items played.items) }
 {
     let posting = Posting::new();
-    let threads = jobs.len().max(1);
-    thread::for_each_mut(
-        rt,
-        jobs,
-        threads,
-        &|_, job: &mut Job|
-            requires { IsNew split.now.id job.now.seat × (length lines.now ≤ LINE_LIMIT) × RiseInBounds lines.now × NameNoMaster lines.now }
-            ensures { IsPlayedBy lines.entry.now job.entry.now job.exit.now }
-        { play(rt, alloc, split, &posting, lines, job, gate) },
-    );
+    run_all(rt, alloc, split, &posting, script, jobs, gate)
 }
 
-// What the thread of an actor does.
-fn play<R: Wait, G: PartGate>(
+// The room for all threads and for what they give back is made before the first starts.
+fn run_all<R: Threads + Wait + Sync, G: PartGate>(
     rt: &R,
     alloc: Global,
     split: &Split,
     posting: &Posting,
-    lines: &[Line],
-    job: &mut Job,
+    script: &Script,
+    jobs: Vec<Job>,
     gate: &G,
-)
-    requires new { IsNew split.now.id job.old.seat }
-    requires few { length lines.now ≤ LINE_LIMIT }
-    requires ticks { RiseInBounds lines.now }
-    requires masters { NameNoMaster lines.now }
-    ensures { IsPlayedBy lines.now job.old job.new }
+) -> Result<Vec<Job>, NoMemory>
+    requires jobs { All (λ job. IsNew split.now.id job.seat) jobs.items }
+    requires few { vec_len script.now.lines ≤ LINE_LIMIT }
+    requires ticks { RiseInBounds script.now.lines.items }
+    requires masters { NameNoMaster script.now.lines.items }
+    ensures { IfOk result (λ played. AllZip (IsPlayedBy script.now.lines.items) jobs.items played.items) }
 {
-    job.answer = play_lines(
+    let threads = Vec::with_capacity(alloc, jobs.len())?;
+    let played = Vec::with_capacity(alloc, jobs.len())?;
+    thread::scope(
+        thread::scope_env(),
         rt,
-        alloc,
-        split,
-        posting,
-        &mut job.seat,
-        job.actor,
-        lines,
-        gate,
-    );
-    job.seat.rises();
+        move |scope| -> Result<Vec<Job>, NoMemory>
+            requires { All (λ job. IsNew split.now.id job.seat) jobs.items × (vec_len script.now.lines ≤ LINE_LIMIT) × RiseInBounds script.now.lines.items × NameNoMaster script.now.lines.items
+                × (vec_len threads ≡ 0) × (vec_len jobs ≤ vec_capacity threads) × (vec_len played ≡ 0) × (vec_len jobs ≤ vec_capacity played) }
+            ensures { IfOk result (λ played. AllZip (IsPlayedBy script.entry.now.lines.items) jobs.items played.items) }
+        {
+            let started = start_all(
+                scope, rt, alloc, split, posting, script, gate, jobs, threads,
+            );
+            let played = join_all(rt, started.threads, played);
+            if started.all {
+                Ok(played)
+            } else {
+                Err(NoMemory)
+            }
+        },
+    )
 }

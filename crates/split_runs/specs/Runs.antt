@@ -1,20 +1,23 @@
 -- How far the log of an actor follows the lines of a script while they are carried out.
-use Rattle.std.specs.Prelude.{◌≡◌, ◌+◌, ◌≤◌, true, List, [], ◌∷◌, ◌++◌, All, filter, length, Option, None, Result, MatchResult}
+use Rattle.std.specs.Prelude.{◌≡◌, ◌+◌, ◌≤◌, ◌⊎◌, true, List, [], ◌∷◌, ◌++◌, All, filter, length, Option, None, Some, Result, MatchResult}
 use Rattle.tick_word.specs.Rule.{seat_limit}
 use Rattle.history_book.specs.declared.item.Actor.{Actor}
 use Rattle.script_data.specs.declared.line.Line.{Line}
 use Rattle.script_data.specs.declared.line.Verb.{Verb}
 use Rattle.script_data.specs.declared.line.Verb.TheVariants as verb
 use Rattle.script_data.specs.Ticks.{tick_of}
-use Rattle.line_steps.specs.Answers.{is_of}
 use Rattle.line_steps.specs.declared.point.Halt.{Halt}
+use Rattle.line_steps.specs.declared.point.Point.{Point}
+use Rattle.line_steps.specs.declared.point.Point.TheVariants.{Opens}
+use Rattle.machine.specs.declared.event.Event as timed
+use Rattle.machine.specs.declared.event.Event.TheVariants as timed_event
 use Rattle.split_parts.specs.declared.event.Event.{Event}
 use Rattle.split_parts.specs.declared.event.Event.TheVariants as event
 use Rattle.split_stores.specs.declared.seat.Entry.{Entry}
-use Rattle.split_stores.specs.Logs.{Logged, CanRise, risen_by}
+use Rattle.split_stores.specs.Logs.{Logged, SameLog, CanRise, risen_by}
 use Rattle.split_stores.specs.Makes.{AddsOne}
 use Rattle.seat_lines.specs.Owed.{Standing, first_standing, is_paid}
-use Rattle.seat_lines.specs.Follows.{opener, Follows}
+use Rattle.seat_lines.specs.Follows.{TellsNoFirst, IsLater, Follows, FollowsFront, is_own}
 use Rattle.split_runs.specs.declared.choosing.Choice.{Choice}
 use Rattle.split_runs.specs.declared.choosing.Choice.TheVariants as choice
 use Rattle.split_runs.specs.declared.stop.PlayStop.{PlayStop}
@@ -40,9 +43,14 @@ abbrev pub TellsDrawn : List Entry → PlayStop → Type 0
 TellsDrawn entries (stop.Spent drawn) = (drawn ≡ length entries) × (seat_limit ≤ drawn)
 TellsDrawn entries _ = Unit {0}
 
+-- the actor stops with one entry of the event more, or with none
+pub record StopsAt (e : Event) (old new : Logged) (why : PlayStop) : Type 0 where
+  pub adds : AddsOne e old new ⊎ SameLog old new
+  pub told : TellsDrawn new.entries why
+
 -- one entry of the event was added, unless the actor stops
 abbrev pub Enters : Event → Logged → Logged → Result (Option Halt) PlayStop → Type 0
-Enters e old new result = MatchResult result (λ _. AddsOne e old new) (TellsDrawn new.entries)
+Enters e old new result = MatchResult result (λ _. AddsOne e old new) (StopsAt e old new)
 
 -- the last entry is this one, of the event
 pub record IsNewest (e : Event) (old new : Logged) (entry : Entry) : Type 0 where
@@ -58,9 +66,10 @@ pub record Stand : Type 0 where
 abbrev pub stand : Logged → Standing → Stand
 stand log st = record { entries = log.entries; standing = st }
 
--- what follows the lines that are left from here on, follows all lines
-abbrev pub IsFollowedTo : Actor → List Line → Stand → List Line → Type 0
-IsFollowedTo actor all at left = (later : List Entry) → Follows actor at.standing left later → Follows actor first_standing all (at.entries ++ later)
+-- what follows the lines that are left from here on, follows all lines, and what follows a front of them, a front of all
+pub record IsFollowedTo (actor : Actor) (all : List Line) (at : Stand) (left : List Line) : Type 0 where
+  pub whole : (later : List Entry) → Follows actor at.standing left later → Follows actor first_standing all (at.entries ++ later)
+  pub front : (later : List Entry) → FollowsFront actor at.standing left later → FollowsFront actor first_standing all (at.entries ++ later)
 
 -- the log goes on, and opens no line
 pub record GoesOn (actor : Actor) (old new : Stand) : Type 0 where
@@ -72,14 +81,44 @@ pub record OpensLine (actor : Actor) (verb : Verb) (old new : Stand) : Type 0 wh
   pub followed : (all left : List Line) (line : Line) → line.verb ≡ verb → IsFollowedTo actor all old (line ∷ left) → IsFollowedTo actor all new left
   pub risen : risen_by new.entries ≤ risen_by old.entries + tick_of verb
 
--- the log goes on over the line, which is passed over where it is another actor's, or of a form that opens nothing
+-- the log goes on over the line, which is passed over where it is another actor's
 pub record PlaysLine (actor : Actor) (line : Line) (old new : Stand) : Type 0 where
-  pub followed : (all left : List Line) → IsFollowedTo actor all old (filter (is_of actor) (line ∷ left)) → IsFollowedTo actor all new (filter (is_of actor) left)
+  pub followed : (all left : List Line) → IsFollowedTo actor all old (filter (is_own actor) (line ∷ left)) → IsFollowedTo actor all new (filter (is_own actor) left)
   pub paid : is_paid new.standing ≡ true
   pub risen : risen_by new.entries ≤ risen_by old.entries + tick_of line.verb
 
--- the event opens no line, and where nothing is left to do nothing is owed
-abbrev pub MayGoOn : Standing → Choice → Type 0
-MayGoOn st (choice.Event e) = opener e ≡ None
-MayGoOn st choice.Over = is_paid st ≡ true
-MayGoOn st choice.Stuck = Unit {0}
+-- ---- stopping
+-- the actor stops while it goes on: the log is of a front of the lines
+abbrev pub StopsOn : Actor → Stand → List Entry → Type 0
+StopsOn actor old entries = (all left : List Line) → IsFollowedTo actor all old left → FollowsFront actor first_standing all entries
+
+-- so too where it stops in the event that opens a line
+abbrev pub StopsOpening : Actor → Verb → Stand → List Entry → Type 0
+StopsOpening actor verb old entries = (all left : List Line) (line : Line) → line.verb ≡ verb → IsFollowedTo actor all old (line ∷ left) → FollowsFront actor first_standing all entries
+
+-- and where it stops in the line, which may be another actor's
+abbrev pub StopsIn : Actor → Line → Stand → List Entry → Type 0
+StopsIn actor line old entries = (all left : List Line) → IsFollowedTo actor all old (filter (is_own actor) (line ∷ left)) → FollowsFront actor first_standing all entries
+
+-- ---- choices
+-- a line is run from its opening on where its form tells no first event, and else from behind that event
+abbrev pub MayRun : Actor → Verb → Point → Type 0
+MayRun actor verb Opens = TellsNoFirst actor verb
+MayRun actor verb point = Unit {0}
+
+-- the event of the parts that an event of the machine is, behind the first of a line: without what the clock tells
+abbrev pub later_of : timed.Event → Option Event
+later_of (timed_event.Extend node) = Some (event.Extend node)
+later_of (timed_event.Accept node session reading) = Some (event.Accept node session)
+later_of (timed_event.Decide node session) = Some (event.Decide node session)
+later_of (timed_event.Put node session) = Some (event.Put node session)
+later_of (timed_event.Answer node session) = Some (event.Answer node session)
+later_of (timed_event.Step session) = Some (event.Step session)
+later_of timed_event.SweepStep = Some event.SweepStep
+later_of e = None
+
+-- the event is one of the actor's behind a line's first, and where nothing is left to do nothing is owed
+abbrev pub MayGoOn : Actor → Standing → Choice → Type 0
+MayGoOn actor st (choice.Event e) = IsLater actor e
+MayGoOn actor st choice.Over = is_paid st ≡ true
+MayGoOn actor st choice.Stuck = Unit {0}

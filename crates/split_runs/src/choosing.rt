@@ -1,21 +1,20 @@
 // The next event of a line.
-ghost use Rattle.std.specs.Prelude.{◌≡◌, ◌^◌, IfSome, None};
+ghost use Rattle.std.specs.Prelude.{◌≡◌, ◌^◌, IfSome};
 ghost use Rattle.line_steps.specs.Clocks.{TicksWithin};
-ghost use Rattle.seat_lines.specs.Follows.{opener};
+ghost use Rattle.seat_lines.specs.Follows.{IsLater};
 ghost use Rattle.seat_lines.specs.Owed.{Standing};
-ghost use Rattle.split_runs.specs.Runs.{MayGoOn};
+ghost use Rattle.split_runs.specs.Runs.{MayGoOn, MayRun};
+ghost use Rattle.split_runs.specs.Sights.{IsSightOf};
 
 use crate::account::Account;
 use crate::later::later_event;
+use crate::looking::Sight;
 use history_book::Actor;
 use line_steps::{Point, View, next_event};
-use machine::Doing;
-use oracle_parts::{Place, Request};
 use script_data::Line;
 use seat_lines::Owed;
-use split_stores::{Event, Split};
+use split_stores::Event;
 use stamp_base::{NodeNo, SessionNo};
-use std::sync::Wait;
 
 /// How a line goes on.
 #[derive(Clone, Copy, Debug, PartialEq, Eq)]
@@ -27,13 +26,15 @@ pub(crate) enum Choice {
     Stuck,
 }
 
-/// How the line goes on from this point: as in file order, by what is seen of its actor; and where that is over before what the
+/// How the line goes on from this point: as in file order, by what was seen of its actor; and where that is over before what the
 /// line owes, by an event that shows what has become of it.
-pub(crate) fn choose(line: &Line, point: Point, view: &View, account: &Account) -> Choice
-    requires { TicksWithin (2 ^ 62) line.now.verb }
-    ensures { MayGoOn account.now result }
+pub(crate) fn choose(line: &Line, point: Point, sight: &Sight, account: &Account) -> Choice
+    requires ticks { TicksWithin (2 ^ 62) line.now.verb }
+    requires sight { IsSightOf line.now.actor sight.now }
+    requires may { MayRun line.now.actor line.now.verb point }
+    ensures { MayGoOn line.now.actor account.now result }
 {
-    match line_event(line, point, view) {
+    match line_event(line, point, &sight.view()) {
         Some(event) => Choice::Event(event),
         None if account.is_paid() => Choice::Over,
         None => owed_event(&line.actor, &account.owed()),
@@ -42,8 +43,9 @@ pub(crate) fn choose(line: &Line, point: Point, view: &View, account: &Account) 
 
 /// The event of the line in file order.
 fn line_event(line: &Line, point: Point, view: &View) -> Option<Event>
-    requires { TicksWithin (2 ^ 62) line.now.verb }
-    ensures { IfSome result (λ e. opener e ≡ None) }
+    requires ticks { TicksWithin (2 ^ 62) line.now.verb }
+    requires may { MayRun line.now.actor line.now.verb point }
+    ensures { IfSome result (IsLater line.now.actor) }
 {
     match &next_event(0, &[], NodeNo::FIRST, line, point, view) {
         Some(event) => later_event(event),
@@ -53,7 +55,7 @@ fn line_event(line: &Line, point: Point, view: &View) -> Option<Event>
 
 /// The event that shows the end of what is owed. A session alone owes something.
 fn owed_event(actor: &Actor, owed: &Owed) -> Choice
-    ensures { (st : Standing) → MayGoOn st result }
+    ensures { (st : Standing) → MayGoOn actor.now st result }
 {
     match actor {
         Actor::Session(session) => Choice::Event(paying_event(*session, owed)),
@@ -63,7 +65,7 @@ fn owed_event(actor: &Actor, owed: &Owed) -> Choice
 
 /// An answer, which is refused where no request is left, and else a step.
 fn paying_event(session: SessionNo, owed: &Owed) -> Event
-    ensures { opener result ≡ None }
+    ensures { IsLater (Actor.Session session) result }
 {
     match owed {
         Owed::Answer { node } => Event::Answer {
@@ -71,36 +73,5 @@ fn paying_event(session: SessionNo, owed: &Owed) -> Event
             session,
         },
         _ => Event::Step { session },
-    }
-}
-
-/// What the run of an actor's line looks at.
-pub(crate) fn look<R: Wait>(rt: &R, split: &Split, actor: Actor) -> View {
-    match actor {
-        Actor::Session(session) => look_at_session(rt, split, session),
-        Actor::Janitor => seen(Doing::Gone, None, split.sweeping(rt)),
-        Actor::Clock | Actor::Node(_) => seen(Doing::Gone, None, false),
-    }
-}
-
-fn look_at_session<R: Wait>(rt: &R, split: &Split, session: SessionNo) -> View {
-    let request = split.request_of(rt, session);
-    seen(split.doing(rt, session), request, false)
-}
-
-fn seen(doing: Doing, request: Option<(NodeNo, Request, Place)>, sweeping: bool) -> View {
-    match request {
-        Some((node, request, place)) => View {
-            doing,
-            request: Some((node, place)),
-            commit: matches!(request, Request::Commit { .. }),
-            sweeping,
-        },
-        None => View {
-            doing,
-            request: None,
-            commit: false,
-            sweeping,
-        },
     }
 }

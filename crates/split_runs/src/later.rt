@@ -1,13 +1,13 @@
 // The events behind a line's first.
-ghost use Rattle.std.specs.Prelude.{◌≡◌, IfSome, None};
-ghost use Rattle.seat_lines.specs.Follows.{opener};
+ghost use Rattle.std.specs.Prelude.{◌≡◌};
+ghost use Rattle.split_runs.specs.Runs.{later_of};
 
 use machine::Event as TimedEvent;
 use split_stores::Event;
 
-/// The event of the parts: as the machine's, but without what the clock tells. None of an event that opens a line.
+/// The event of the parts: as the machine's, but without what the clock tells. None of an event with which a line opens.
 pub(crate) fn later_event(event: &TimedEvent) -> Option<Event>
-    ensures { IfSome result (λ e. opener e ≡ None) }
+    ensures { result ≡ later_of event.now }
 {
     match *event {
         TimedEvent::Extend { node } => Some(Event::Extend { node }),
@@ -16,9 +16,6 @@ pub(crate) fn later_event(event: &TimedEvent) -> Option<Event>
         TimedEvent::Put { node, session } => Some(Event::Put { node, session }),
         TimedEvent::Answer { node, session } => Some(Event::Answer { node, session }),
         TimedEvent::Step { session } => Some(Event::Step { session }),
-        TimedEvent::Heal { session } => Some(Event::Heal { session }),
-        TimedEvent::Abort { session } => Some(Event::Abort { session }),
-        TimedEvent::SweepOpen { node, txn } => Some(Event::SweepOpen { node, txn }),
         TimedEvent::SweepStep => Some(Event::SweepStep),
         _ => None,
     }

@@ -5,9 +5,11 @@
 mod account;
 mod choosing;
 mod later;
+mod looking;
 mod naming;
 mod opening;
 mod owing;
+mod plain;
 mod player;
 mod playing;
 mod posting;

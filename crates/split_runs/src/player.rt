@@ -1,8 +1,8 @@
 // One actor that carries out its lines.
-ghost use Rattle.std.specs.Prelude.{◌≡◌, ◌≤◌, ◌<◌, ◌-◌, [], IfErr, IfOk, OnOk, Some, None, true, false, length, slice_index_or};
+ghost use Rattle.std.specs.Prelude.{◌≡◌, ◌≤◌, ◌<◌, ◌-◌, [], IfErr, IfOk, IfSome, OnOk, Some, None, OnErr, true, false, length, slice_index_or};
 ghost use Rattle.stamp_base.specs.declared.limits.TheConstants.{LINE_LIMIT};
+ghost use Rattle.script_data.specs.declared.line.Verb.{Verb as Form};
 ghost use Rattle.script_data.specs.Ticks.{tick_of};
-ghost use Rattle.line_steps.specs.Answers.{is_of};
 ghost use Rattle.split_stores.specs.declared.seat.Entry.{Entry};
 ghost use Rattle.split_parts.specs.declared.event.Event.{Event};
 ghost use Rattle.split_stores.specs.Logs.{CanRise, Logged, rise_of};
@@ -10,13 +10,15 @@ ghost use Rattle.split_stores.specs.Makes.{Makes};
 ghost use Rattle.seat_lines.specs.Follows as follows;
 ghost use Rattle.seat_lines.specs.Laws.{NamesNoMaster, NameNoMaster};
 ghost use Rattle.seat_lines.specs.Owed.{is_paid, first_standing};
-ghost use Rattle.split_runs.specs.Runs.{CanOpen, Enters, GoesOn, OpensLine, PlaysLine, RisesInBounds, RiseInBounds, TellsDrawn, stand};
+ghost use Rattle.split_runs.specs.Runs.{CanOpen, Enters, GoesOn, MayRun, OpensLine, PlaysLine, RisesInBounds, RiseInBounds, StopsIn, StopsOn, StopsOpening, TellsDrawn, stand};
 
 use crate::account::Account;
-use crate::choosing::{Choice, choose, look};
+use crate::choosing::{Choice, choose};
+use crate::looking::look;
 use crate::naming::{tell, wait_for};
 use crate::opening::first_event;
 use crate::owing::same_actor;
+use crate::plain::plain_event;
 use crate::{PlayStop, Posting};
 use event_parts::Stopped;
 use history_book::{Actor, Cause, Item};
@@ -52,6 +54,7 @@ impl<R: Wait, G: PartGate> Player<'_, R, G> {
         requires masters { NameNoMaster lines.now }
         ensures word { seat.new.word ≡ seat.old.word }
         ensures follows { OnOk result (follows.FollowsLines lines.now self.now.actor seat.new.entries) }
+        ensures front { follows.FollowsSome lines.now self.now.actor seat.new.entries }
         ensures spent { IfErr result (TellsDrawn seat.new.entries) }
     {
         for line in lines {
@@ -74,6 +77,7 @@ impl<R: Wait, G: PartGate> Player<'_, R, G> {
         requires master { NamesNoMaster line.now.verb }
         ensures word { seat.new.word ≡ seat.old.word }
         ensures plays { OnOk result (PlaysLine self.now.actor line.now (stand seat.old account.old) (stand seat.new account.new)) }
+        ensures stops { OnErr result (StopsIn self.now.actor line.now (stand seat.old account.old) seat.new.entries) }
         ensures spent { IfErr result (TellsDrawn seat.new.entries) }
     {
         if !same_actor(&line.actor, &self.actor) {
@@ -81,11 +85,61 @@ impl<R: Wait, G: PartGate> Player<'_, R, G> {
         }
         match first_event(self.actor, &line.verb) {
             Some(event) => self.play_opening(seat, account, line, event),
+            None => self.play_other(seat, account, line),
+        }
+    }
+
+    /// Carries out a line of a form that has no opening item. Where the form tells no first event either, what is seen decides whether
+    /// there is one.
+    fn play_other(
+        &self,
+        seat: &mut ActorSeat,
+        account: &mut Account,
+        line: &Line,
+    ) -> Result<(), PlayStop>
+        requires word { seat.old.word ≡ self.now.split.now.id }
+        requires paid { is_paid account.old ≡ true }
+        requires ticks { RisesInBounds line.now.verb }
+        requires none { follows.first_event self.now.actor line.now.verb ≡ None }
+        requires own { follows.is_own self.now.actor line.now ≡ true }
+        ensures word { seat.new.word ≡ seat.old.word }
+        ensures plays { OnOk result (PlaysLine self.now.actor line.now (stand seat.old account.old) (stand seat.new account.new)) }
+        ensures stops { OnErr result (StopsIn self.now.actor line.now (stand seat.old account.old) seat.new.entries) }
+        ensures spent { IfErr result (TellsDrawn seat.new.entries) }
+    {
+        match plain_event(self.actor, &line.verb) {
+            Some(event) => self.play_plain(seat, account, line, event),
             None => {
                 self.run(seat, account, line, Point::Opens)?;
                 Ok(())
             }
         }
+    }
+
+    /// Carries out a line that begins with this event, which appends no opening item.
+    fn play_plain(
+        &self,
+        seat: &mut ActorSeat,
+        account: &mut Account,
+        line: &Line,
+        event: Event,
+    ) -> Result<(), PlayStop>
+        requires word { seat.old.word ≡ self.now.split.now.id }
+        requires paid { is_paid account.old ≡ true }
+        requires rises { CanRise event seat.old.entries }
+        requires ticks { RisesInBounds line.now.verb }
+        requires first { follows.plain_event self.now.actor line.now.verb ≡ Some event }
+        requires tick { rise_of event ≡ 0 }
+        requires own { follows.is_own self.now.actor line.now ≡ true }
+        ensures word { seat.new.word ≡ seat.old.word }
+        ensures plays { OnOk result (PlaysLine self.now.actor line.now (stand seat.old account.old) (stand seat.new account.new)) }
+        ensures stops { OnErr result (StopsOpening self.now.actor line.now.verb (stand seat.old account.old) seat.new.entries) }
+        ensures spent { IfErr result (TellsDrawn seat.new.entries) }
+    {
+        let halt = self.open_plain(seat, account, event)?;
+        let point = follows(&line.verb, Point::Opens, halt);
+        self.run(seat, account, line, point)?;
+        Ok(())
     }
 
     /// Carries out a line that has an opening item.
@@ -102,9 +156,10 @@ impl<R: Wait, G: PartGate> Player<'_, R, G> {
         requires ticks { RisesInBounds line.now.verb }
         requires first { follows.first_event self.now.actor line.now.verb ≡ Some event }
         requires tick { rise_of event ≤ tick_of line.now.verb }
-        requires own { is_of self.now.actor line.now ≡ true }
+        requires own { follows.is_own self.now.actor line.now ≡ true }
         ensures word { seat.new.word ≡ seat.old.word }
         ensures plays { OnOk result (PlaysLine self.now.actor line.now (stand seat.old account.old) (stand seat.new account.new)) }
+        ensures stops { OnErr result (StopsOpening self.now.actor line.now.verb (stand seat.old account.old) seat.new.entries) }
         ensures spent { IfErr result (TellsDrawn seat.new.entries) }
     {
         if let Err(stop) = wait_for(self.rt, self.split, self.posting, &line.verb) {
@@ -126,9 +181,12 @@ impl<R: Wait, G: PartGate> Player<'_, R, G> {
         from: Point,
     ) -> Result<(), PlayStop>
         requires word { seat.old.word ≡ self.now.split.now.id }
+        requires own { line.now.actor ≡ self.now.actor }
         requires ticks { RisesInBounds line.now.verb }
+        requires may { MayRun self.now.actor line.now.verb from }
         ensures word { seat.new.word ≡ seat.old.word }
         ensures on { OnOk result (GoesOn self.now.actor (stand seat.old account.old) (stand seat.new account.new)) }
+        ensures stops { OnErr result (StopsOn self.now.actor (stand seat.old account.old) seat.new.entries) }
         ensures paid { OnOk result (is_paid account.new ≡ true) }
         ensures spent { IfErr result (TellsDrawn seat.new.entries) }
     {
@@ -151,14 +209,18 @@ impl<R: Wait, G: PartGate> Player<'_, R, G> {
         point: Point,
     ) -> Result<Option<Point>, PlayStop>
         requires word { seat.old.word ≡ self.now.split.now.id }
+        requires own { line.now.actor ≡ self.now.actor }
         requires ticks { RisesInBounds line.now.verb }
+        requires may { MayRun self.now.actor line.now.verb point }
         ensures word { seat.new.word ≡ seat.old.word }
         ensures on { OnOk result (GoesOn self.now.actor (stand seat.old account.old) (stand seat.new account.new)) }
+        ensures stops { OnErr result (StopsOn self.now.actor (stand seat.old account.old) seat.new.entries) }
+        ensures may { IfOk result (λ then. IfSome then (MayRun self.now.actor line.now.verb)) }
         ensures paid { IfOk result (λ then. then ≡ None → is_paid account.new ≡ true) }
         ensures spent { IfErr result (TellsDrawn seat.new.entries) }
     {
-        let view = look(self.rt, self.split, self.actor);
-        match choose(line, point, &view, account) {
+        let sight = look(self.rt, self.split, self.actor);
+        match choose(line, point, &sight, account) {
             Choice::Event(event) => {
                 let halt = self.go_on(seat, account, event)?;
                 Ok(Some(follows(&line.verb, point, halt)))
@@ -183,11 +245,37 @@ impl<R: Wait, G: PartGate> Player<'_, R, G> {
         requires tick { rise_of event ≤ tick_of verb.now }
         ensures word { seat.new.word ≡ seat.old.word }
         ensures opens { OnOk result (OpensLine self.now.actor verb.now (stand seat.old account.old) (stand seat.new account.new)) }
+        ensures stops { OnErr result (StopsOpening self.now.actor verb.now (stand seat.old account.old) seat.new.entries) }
         ensures spent { IfErr result (TellsDrawn seat.new.entries) }
     {
         let halt = self.make(seat, event)?;
         let entry = newest(seat);
         account.open(&self.actor, verb, entry)?;
+        if is_lost(entry, halt, account.is_paid()) {
+            return Err(PlayStop::GaveUp);
+        }
+        Ok(halt)
+    }
+
+    /// Makes the event with which a line opens that has no opening item.
+    fn open_plain(
+        &self,
+        seat: &mut ActorSeat,
+        account: &mut Account,
+        event: Event,
+    ) -> Result<Option<Halt>, PlayStop>
+        requires word { seat.old.word ≡ self.now.split.now.id }
+        requires paid { is_paid account.old ≡ true }
+        requires rises { CanRise event seat.old.entries }
+        requires tick { rise_of event ≡ 0 }
+        ensures word { seat.new.word ≡ seat.old.word }
+        ensures opens { OnOk result ((verb : Form) → follows.plain_event self.now.actor verb ≡ Some event → OpensLine self.now.actor verb (stand seat.old account.old) (stand seat.new account.new)) }
+        ensures stops { OnErr result ((verb : Form) → follows.plain_event self.now.actor verb ≡ Some event → StopsOpening self.now.actor verb (stand seat.old account.old) seat.new.entries) }
+        ensures spent { IfErr result (TellsDrawn seat.new.entries) }
+    {
+        let halt = self.make(seat, event)?;
+        let entry = newest(seat);
+        account.go_on(&self.actor, entry)?;
         if is_lost(entry, halt, account.is_paid()) {
             return Err(PlayStop::GaveUp);
         }
@@ -202,9 +290,10 @@ impl<R: Wait, G: PartGate> Player<'_, R, G> {
         event: Event,
     ) -> Result<Option<Halt>, PlayStop>
         requires word { seat.old.word ≡ self.now.split.now.id }
-        requires later { follows.opener event ≡ None }
+        requires later { follows.IsLater self.now.actor event }
         ensures word { seat.new.word ≡ seat.old.word }
         ensures on { OnOk result (GoesOn self.now.actor (stand seat.old account.old) (stand seat.new account.new)) }
+        ensures stops { OnErr result (StopsOn self.now.actor (stand seat.old account.old) seat.new.entries) }
         ensures spent { IfErr result (TellsDrawn seat.new.entries) }
     {
         let halt = self.make(seat, event)?;

@@ -1,7 +1,7 @@
 // The lines of an actor, carried out over split stores.
 ghost use Rattle.std.specs.Prelude.{◌≡◌, ◌≤◌, [], IfErr, OnOk, length};
 ghost use Rattle.stamp_base.specs.declared.limits.TheConstants.{LINE_LIMIT};
-ghost use Rattle.seat_lines.specs.Follows.{FollowsLines};
+ghost use Rattle.seat_lines.specs.Follows.{FollowsLines, FollowsSome};
 ghost use Rattle.seat_lines.specs.Laws.{NameNoMaster};
 ghost use Rattle.split_runs.specs.Runs.{RiseInBounds, TellsDrawn};
 
@@ -15,8 +15,8 @@ use std::alloc::Global;
 use std::sync::Wait;
 
 /// Carries out those of a script's lines that are the actor's, one after the other, each to its end; an `await` waits until its name
-/// is posted. What is logged follows these lines. Where the actor stops before the end, all that wait are woken, and stop too. That
-/// the lines come to an end is not promised.
+/// is posted. What is logged follows these lines, and a front of them where the actor stops before the end. Then all that wait are woken,
+/// and stop too. That the lines come to an end is not promised.
 pub fn play_lines<R: Wait, G: PartGate>(
     rt: &R,
     alloc: Global,
@@ -34,6 +34,7 @@ pub fn play_lines<R: Wait, G: PartGate>(
     requires masters { NameNoMaster lines.now }
     ensures word { seat.new.word ≡ seat.old.word }
     ensures follows { OnOk result (FollowsLines lines.now actor seat.new.entries) }
+    ensures front { FollowsSome lines.now actor seat.new.entries }
     ensures spent { IfErr result (TellsDrawn seat.new.entries) }
 {
     let player = Player {

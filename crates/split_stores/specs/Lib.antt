@@ -5,3 +5,4 @@ pub mod Merged
 pub mod Orders
 pub mod Locks
 pub mod Makes
+pub mod Seen

@@ -1,67 +1,44 @@
-// What the parts hold when their locks are taken. No clause reaches that: whoever chooses by it may find it changed.
+// What the parts hold when their locks are taken. What each look sees is exact; that a lock is that of this part, and what stands there
+// when it is taken, no clause says: whoever chooses by it may find it changed.
 ghost use Rattle.std.specs.Prelude.{◌≡◌};
-ghost use Rattle.machine.specs.Readers as read;
+ghost use Rattle.split_stores.specs.Seen.{IsSearched};
 
 use crate::Split;
-use client_parts::State;
-use event_parts::Client;
-use machine::Doing;
-use oracle_parts::{Place, Request};
-use stamp_base::{Name, NodeNo, SessionNo};
+use crate::searching::SeenRequest;
+use crate::seen::{SeenDoing, SeenSweep};
+use stamp_base::{Name, SessionNo};
 use std::sync::Wait;
-use takeover_core::Post;
 
 impl Split {
     /// What the session is doing.
-    pub fn doing<R: Wait>(&self, rt: &R, session: SessionNo) -> Doing {
-        doing_of(self.sessions[session.index()].lock(rt).client())
+    pub fn doing<R: Wait>(&self, rt: &R, session: SessionNo) -> SeenDoing
+        ensures { result.session ≡ session }
+    {
+        SeenDoing::at(session, &self.sessions[session.index()].lock(rt))
     }
 
-    /// The first node that holds a request of the session, with the request and the place where that stands.
-    pub fn request_of<R: Wait>(
-        &self,
-        rt: &R,
-        session: SessionNo,
-    ) -> Option<(NodeNo, Request, Place)> {
+    /// The request of the session: the nodes are looked at in their order, up to the first that holds it.
+    pub fn request_of<R: Wait>(&self, rt: &R, session: SessionNo) -> SeenRequest
+        ensures session { result.session ≡ session }
+        ensures searched { IsSearched result }
+    {
+        let mut seen = SeenRequest::none(session);
         for node in &self.nodes {
-            let part = node.lock(rt);
-            if let Some((request, place)) = request_at(part.post(), session) {
-                return Some((part.node(), request, place));
+            seen.look(&node.lock(rt));
+            if seen.found().is_some() {
+                return seen;
             }
         }
-        None
+        seen
     }
 
     /// Whether a sweep is open.
-    pub fn sweeping<R: Wait>(&self, rt: &R) -> bool {
-        self.janitor.lock(rt).sweep().is_some()
+    pub fn sweeping<R: Wait>(&self, rt: &R) -> SeenSweep {
+        SeenSweep::at(&self.janitor.lock(rt))
     }
 
     /// Whether the name is posted.
     pub fn posted<R: Wait>(&self, rt: &R, name: &Name) -> bool {
         self.names.lock(rt).contains(name)
-    }
-}
-
-fn doing_of(client: &Client) -> Doing
-    ensures { result ≡ read.client_doing client.now }
-{
-    match client.state() {
-        State::Free => Doing::Free,
-        State::Asking | State::Committing => Doing::Waiting,
-        State::Open if client.is_reading() => Doing::Reading,
-        State::Open => Doing::Open,
-        State::Placing => Doing::Placing,
-        State::OpenOutcome => Doing::OpenOutcome,
-        State::Completing { .. } => Doing::Completing,
-        State::Gone => Doing::Gone,
-    }
-}
-
-/// The request of the session that a node holds, and where it stands.
-fn request_at(post: &Post, session: SessionNo) -> Option<(Request, Place)> {
-    match &post.instance {
-        Some(instance) => instance.request_of(session),
-        None => None,
     }
 }

@@ -13,3 +13,5 @@ mod meeting;
 mod orders;
 #[cfg(test)]
 mod reading;
+#[cfg(test)]
+mod refusing;

@@ -1,22 +1,11 @@
-use Rattle.std.proofs.Common.{◌≡◌, ℕ, List, ◌++◌, length, take, sym, subst, ap, arith}
-use Rattle.std.specs.Prelude.{All}
+use Rattle.std.proofs.Common.{List, length, ap, subst, arith}
 use Rattle.std.specs.List.{AllZip}
-use Rattle.std.proofs.Math.Seq.{take-append_seam}
 use Rattle.history_book.specs.declared.item.Actor.{Actor}
-use Rattle.script_data.specs.declared.line.Line.{Line}
 use Rattle.session_script.specs.Script.{data_of}
 use Rattle.thread_scripts.specs.Actors.{actors_of}
-use Rattle.seat_lines.specs.Laws.{NameNoMaster}
-use Rattle.split_runs.specs.Runs.{RiseInBounds}
-use Rattle.split_stores.specs.Logs.{IsNew}
-use Rattle.split_driver.specs.declared.playing.Job.{Job}
-use Rattle.split_driver.specs.Actors.{IsPlayedBy, IsPlayedOf}
+use Rattle.split_driver.specs.Actors.{IsPlayedOf}
 use Rattle.split_driver.proofs.ActorLemmas.{all_new, all_played}
 use Rattle.split_driver.proofs.driver.carry_out.Goals as goal
-
--- what is written back over a list of that length is all of it
-front : {A : Type 0} (n : ℕ) (xs ys : List A) → length xs ≡ n → take n (xs ++ ys) ≡ xs
-front n xs ys long = subst (λ k. take k (xs ++ ys) ≡ xs) long (take-append_seam xs ys)
 
 pub jobs_of-requires-clause-paired : goal.jobs_of-requires-clause-paired
 jobs_of-requires-clause-paired g c = omega (arith, c.in_ok-split.ensures.all.0, c.in_ok-split.seats.ok.0, c.len.ensures)
@@ -25,16 +14,13 @@ pub jobs_of-requires-clause-seats : goal.jobs_of-requires-clause-seats
 jobs_of-requires-clause-seats g c = c.in_ok-split.ensures.seats
 
 pub play_all-requires-clause-jobs : goal.play_all-requires-clause-jobs
-play_all-requires-clause-jobs g c κs within = subst (λ (jobs : List Job). All (λ (job : Job). IsNew c.in_ok-split.split.id job.seat) jobs) (sym c.deref_mut.ensures.value) (all_new c.in_ok-split.split.id c.in_ok-actors.actors.items c.in_ok-jobs.jobs.items c.in_ok-jobs.ensures)
-
-pub play_all-requires-clause-few : goal.play_all-requires-clause-few
-play_all-requires-clause-few g c = omega (arith, c.requires.few, c.args.script.now.lines.ok.0, ap length c.deref.ensures.value)
+play_all-requires-clause-jobs g c κs within = all_new c.in_ok-split.split.id c.in_ok-actors.actors.items c.in_ok-jobs.jobs.items c.in_ok-jobs.ensures
 
 pub play_all-requires-clause-ticks : goal.play_all-requires-clause-ticks
-play_all-requires-clause-ticks g c κs within = subst (λ (l : List Line). RiseInBounds l) (sym c.deref.ensures.value) c.requires.may_split.ticks
+play_all-requires-clause-ticks g c κs within = c.requires.may_split.ticks
 
 pub play_all-requires-clause-masters : goal.play_all-requires-clause-masters
-play_all-requires-clause-masters g c κs within = subst (λ (l : List Line). NameNoMaster l) (sym c.deref.ensures.value) c.requires.may_split.masters
+play_all-requires-clause-masters g c κs within = c.requires.may_split.masters
 
 pub finish-requires-clause-plan : goal.finish-requires-clause-plan
 finish-requires-clause-plan g c = c.in_ok-split.ensures.plan
@@ -50,10 +36,5 @@ finish-requires-clause-played g c =
     let word = c.in_ok-split.split.id in
     let actors = c.in_ok-actors.actors.items in
     let jobs = c.in_ok-jobs.jobs.items in
-    let played = c.play_all.new.jobs in
-    let lines = c.deref.result.now in
-    let met : AllZip (IsPlayedBy lines) jobs played = subst (λ (jobs : List Job). AllZip (IsPlayedBy lines) jobs played) c.deref_mut.ensures.value c.play_all.ensures in
-    let long : length played ≡ c.in_ok-jobs.jobs.len = omega (arith, c.play_all.auto.jobs, ap length c.deref_mut.ensures.value, c.in_ok-jobs.jobs.ok.0) in
-    let all : AllZip (IsPlayedOf word script.lines) (actors_of script) played = subst (λ (who : List Actor). AllZip (IsPlayedOf word script.lines) who played) c.in_ok-actors.ensures.actors
-    (subst (λ (l : List Line). AllZip (IsPlayedOf word l) actors played) c.deref.ensures.value (all_played word lines actors jobs played c.in_ok-jobs.ensures met)) in
-    subst (λ (now : List Job). AllZip (IsPlayedOf word script.lines) (actors_of script) now) (sym (front c.in_ok-jobs.jobs.len played _ long)) all
+    let played = c.in_ok-played.played.items in
+    subst (λ (who : List Actor). AllZip (IsPlayedOf word script.lines) who played) c.in_ok-actors.ensures.actors (all_played word script.lines actors jobs played c.in_ok-jobs.ensures c.in_ok-played.ensures)

@@ -1,9 +1,10 @@
+use Rattle.std.proofs.Common.{List, subst}
 use Rattle.session_script.specs.Script.{data_of}
-use Rattle.thread_scripts.specs.Actors.{actors_of}
-use Rattle.split_driver.proofs.ActorLemmas.{all_drew}
+use Rattle.split_driver.specs.declared.ending.End.TheVariants.{Spent}
+use Rattle.split_driver.specs.declared.playing.Job.{Job}
+use Rattle.split_driver.specs.Actors.{IsSpentBy}
+use Rattle.split_driver.proofs.ActorLemmas.{seats_spent}
 use Rattle.split_driver.proofs.ending.finish.Goals as goal
 
-pub end_of-requires : goal.end_of-requires
-end_of-requires g c =
-    let script = data_of c.args.script.now in
-    rw c.deref.ensures.value (all_drew c.args.split.id script.lines (actors_of script) c.args.played.items c.requires.played)
+pub returns-in-Spent : goal.returns-in-Spent
+returns-in-Spent g c = seats_spent c.args.split.id (data_of c.args.script.now) c.args.played.items c.in-Spent.drawn c.requires.played (subst (λ (p : List Job). IsSpentBy p (Spent c.in-Spent.drawn)) c.deref.ensures.value (c.in-Spent.ensures.spent))

@@ -1,6 +1,6 @@
 use Rattle.session_script.specs.Script.{data_of}
 use Rattle.thread_scripts.specs.Actors.{actors_of}
-use Rattle.split_driver.proofs.ActorLemmas.{seats_of_word, seats_there, seats_rise, seats_follow}
+use Rattle.split_driver.proofs.ActorLemmas.{seats_of_word, seats_there, seats_are, seats_follow}
 use Rattle.split_driver.proofs.SettleLemmas.{splits_whole}
 use Rattle.split_driver.proofs.ending.settle_whole.Goals as goal
 
@@ -20,5 +20,5 @@ returns c =
     let logs = c.in_ok-seats.seats.items in
     splits_whole script c.args.split.plan logs c.settle.result c.requires.plan
     (seats_follow c.args.split.id script.lines (actors_of script) c.args.played.items logs c.requires.played c.in_ok-seats.ensures c.requires.whole)
-    (seats_rise c.args.split.id script.lines (actors_of script) c.args.played.items logs c.requires.played c.in_ok-seats.ensures)
+    (seats_are c.args.split.id script c.args.played.items logs c.requires.played c.in_ok-seats.ensures)
     c.settle.ensures

@@ -1,0 +1,79 @@
+// What is seen of a part while it is locked. Each value is made by a look at a part alone.
+ghost use Rattle.std.specs.Prelude.{◌≡◌};
+ghost use Rattle.machine.specs.Readers as read;
+ghost use Rattle.split_stores.specs.Seen.{doing_seen, sweep_seen};
+
+use client_parts::State;
+use event_parts::Client;
+use machine::Doing;
+use split_parts::{JanitorPart, SessionPart};
+use stamp_base::SessionNo;
+
+/// What a session was doing when its part was looked at.
+#[derive(Clone, Copy, Debug, PartialEq, Eq)]
+pub struct SeenDoing {
+    session: SessionNo,
+    doing: Doing,
+}
+
+impl SeenDoing {
+    /// By the part of this session.
+    pub(crate) fn at(session: SessionNo, part: &SessionPart) -> SeenDoing
+        ensures { result ≡ doing_seen session part.now }
+    {
+        SeenDoing {
+            session,
+            doing: doing_of(part.client()),
+        }
+    }
+
+    /// Of which session it was seen.
+    pub fn session(&self) -> SessionNo
+        ensures { result ≡ self.now.session }
+    {
+        self.session
+    }
+
+    pub fn doing(&self) -> Doing
+        ensures { result ≡ self.now.doing }
+    {
+        self.doing
+    }
+}
+
+/// Whether a sweep was open when the janitor's part was looked at.
+#[derive(Clone, Copy, Debug, PartialEq, Eq)]
+pub struct SeenSweep {
+    is_open: bool,
+}
+
+impl SeenSweep {
+    pub(crate) fn at(part: &JanitorPart) -> SeenSweep
+        ensures { result ≡ sweep_seen part.now }
+    {
+        SeenSweep {
+            is_open: part.sweep().is_some(),
+        }
+    }
+
+    pub fn is_open(&self) -> bool
+        ensures { result ≡ self.now.is_open }
+    {
+        self.is_open
+    }
+}
+
+fn doing_of(client: &Client) -> Doing
+    ensures { result ≡ read.client_doing client.now }
+{
+    match client.state() {
+        State::Free => Doing::Free,
+        State::Asking | State::Committing => Doing::Waiting,
+        State::Open if client.is_reading() => Doing::Reading,
+        State::Open => Doing::Open,
+        State::Placing => Doing::Placing,
+        State::OpenOutcome => Doing::OpenOutcome,
+        State::Completing { .. } => Doing::Completing,
+        State::Gone => Doing::Gone,
+    }
+}
