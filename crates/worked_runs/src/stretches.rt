@@ -58,7 +58,7 @@ fn what_sessions_place_themselves_is_isolated(rt: HostRuntime) -> Result<(), Fai
 #[test]
 fn what_once_stuck_ends_where_sessions_serve(rt: HostRuntime) -> Result<(), Fail> {
     for script in &stuck(rt.alloc())? {
-        for _again in 0..100 {
+        for _again in 0..30 {
             assert!(rt; is_run(&rt, rt.alloc(), "", script)?, "{script}");
         }
     }
