@@ -6,3 +6,4 @@ pub mod Steps
 pub mod Operations
 pub mod Events
 pub mod Trace
+pub mod FaultText
