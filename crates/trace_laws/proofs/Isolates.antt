@@ -1,4 +1,4 @@
--- Stamps that rise between neighbours rise along each whole list, and so isolate.
+-- Stamps that rise between neighbours rise along each whole list, and so isolate. For crates that check stamps.
 use Rattle.std.proofs.Common.{◌≡◌, ◌≢◌, ℕ, zero, suc, ◌<◌, ◌≤◌, ◌⊎◌, List, [], ◌∷◌, Option, None, Some, slice_get, inl, inr, refl, sym, subst, arith}
 use Rattle.std.proofs.lemmas.Bool.{cases_eq}
 use Rattle.std.proofs.lemmas.Option.{same_Some}
