@@ -20,6 +20,10 @@ orders_of (w ∷ ws) k = kept (w.key == k) w.txn (orders_of ws k)
 abbrev pub stamps_of : ℕ → List ℕ → Stamping
 stamps_of n numbers = record { start = λ t. slice_index numbers t * (n + n) + t; commit = λ t. slice_index numbers (n + t) * (n + n) + (n + t) }
 
+-- the number of each transaction, spread so that all are different
+abbrev pub places_of : ℕ → List ℕ → ℕ → ℕ
+places_of n numbers t = slice_index numbers t * n + t
+
 -- each committed transaction's start has a lower number than its commit
 abbrev pub OwnRise : Trace → ℕ → List ℕ → Type 0
 OwnRise trace n numbers = (t : ℕ) → Done trace t → slice_index numbers t < slice_index numbers (n + t)

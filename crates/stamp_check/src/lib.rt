@@ -3,8 +3,8 @@
 
 ghost use Rattle.std.specs.Prelude.{◌≡◌, ◌+◌, ◌<◌, ◌≤◌, ℕ, List, true, Some, length, slice_get, slice_index};
 ghost use Rattle.trace_rules.specs.declared.trace.Operation.{Operation};
-ghost use Rattle.trace_rules.specs.declared.wanted.Level.TheVariants.{Snapshot};
-ghost use Rattle.trace_rules.specs.Trace.{committed_in};
+ghost use Rattle.trace_rules.specs.declared.wanted.Level.TheVariants.{Snapshot, Serializable};
+ghost use Rattle.trace_rules.specs.Trace.{Trace, committed_in};
 ghost use Rattle.trace_rules.specs.Stamping.{Stampable};
 ghost use Rattle.trace_rules.specs.Wants.{no_wants};
 ghost use Rattle.outer_reads.specs.declared.writings.Writing.{Writing};
@@ -33,6 +33,14 @@ pub fn are_stamps(
         return false;
     }
     reads_rise(readings, places, order, count, numbers)
+}
+
+/// Whether the numbers of the transactions, by place, are places in a serial order: they rise along all edges between neighbours
+/// of the order. The places are those that `are_stamps` is given.
+pub fn are_serial(readings: &[Reading], places: &[usize], order: &[Writing], numbers: &[usize]) -> bool
+    ensures { result ≡ true → (trace : Trace) → AreKnown trace readings.now order.now → Stampable Serializable no_wants trace }
+{
+    nexts_rise(order, 0, numbers) && reads_rise(readings, places, order, 0, numbers)
 }
 
 fn own_rise(transactions: &[Transaction], numbers: &[usize]) -> bool
