@@ -17,8 +17,8 @@ INSTALL = "apt-get install postgresql python3-psycopg2"
 # What each level shall be found to be: the words of omid_check, and the status.
 EXPECTED = {
     "read committed": [("snapshot", 7)],
-    "repeatable read": [("snapshot", 0), ("snapshot real-time", 0), ("serializable", 7)],
-    "serializable": [("snapshot", 0), ("serializable", 0), ("serializable session", 0)],
+    "repeatable read": [("snapshot", 0), ("serializable", 7)],
+    "serializable": [("snapshot", 0), ("serializable", 0)],
 }
 
 
