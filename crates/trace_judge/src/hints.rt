@@ -32,16 +32,18 @@ pub fn hints_of(alloc: Global, readings: &[Reading], order: &[Writing]) -> Resul
         let next = behind(reading.answer, place);
         let heir = heirs.heir_of(*reading, order, next);
         hints.places.push(place)?;
-        hints.next.push(hint_at(&readers, order, next))?;
-        hints.heirs.push(hint_at(&readers, order, heir))?;
+        let own = place_in(&stands, (reading.txn, reading.key), order.len());
+        hints.next.push(hint_at(&readers, order, next, own))?;
+        hints.heirs.push(hint_at(&readers, order, heir, own))?;
     }
     Ok(hints)
 }
 
-fn hint_at(readers: &HashMap<(usize, u64), usize>, order: &[Writing], next: usize) -> Hint {
+fn hint_at(readers: &HashMap<(usize, u64), usize>, order: &[Writing], next: usize, own: usize) -> Hint {
     Hint {
         next,
         witness: witness_of(readers, order, next),
+        own,
     }
 }
 
