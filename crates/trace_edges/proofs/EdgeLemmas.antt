@@ -7,7 +7,7 @@ use Rattle.trace_rules.specs.declared.trace.Version.{Version}
 use Rattle.trace_rules.specs.declared.wanted.Level.{Level}
 use Rattle.trace_rules.specs.declared.wanted.Level.TheVariants.{Snapshot, Serializable}
 use Rattle.trace_rules.specs.Trace.{Trace, Done, Writer, OuterRead, committed_in}
-use Rattle.trace_rules.specs.Stamping.{Point, Start, Commit}
+use Rattle.trace_rules.specs.Stamping.{Conflict, Point, Start, Commit}
 use Rattle.trace_rules.specs.Below.{Below, Own, ReadsFrom, Misses, MissesAll, Parts, Then}
 use Rattle.trace_rules.specs.Wants.{no_wants}
 use Rattle.rising_numbers.specs.declared.Edge.{Edge}
@@ -16,7 +16,7 @@ use Rattle.outer_reads.specs.declared.writings.Writing.{Writing}
 use Rattle.outer_reads.specs.declared.readings.Reading.{Reading}
 use Rattle.outer_reads.specs.Sources.{AreKnown, trace_of}
 use Rattle.outer_reads.proofs.ListLemmas.{get_push_cases}
-use Rattle.trace_edges.specs.Edges.{starts_of, pick, point_of, AreForced, AreLaid, IsSure, OfRead, OfMissed, IsWitnessed, ReadsSame, MayLay, LeftOut, LaidOn}
+use Rattle.trace_edges.specs.Edges.{starts_of, pick, point_of, AreForced, AreLaid, IsSure, OfRead, OfMissed, OfApart, IsWitnessed, ReadsSame, MayLay, LeftOut, LaidOn}
 
 done_within : (trace : Trace) (t : ℕ) → Done trace t → t < length trace.transactions
 done_within trace t done = by (slice_get trace.transactions t) refl
@@ -96,6 +96,15 @@ module _ (level : Level) (trace : Trace) (starts : ℕ) (is : starts ≡ starts_
       by Snapshot some = subst (λ (x : Point). Below Snapshot no_wants trace x (Commit t)) (sym (start_point (length trace.transactions) t (done_within trace t done))) (Own done)
       by Serializable some = absurd (omega (arith, some))
 
+-- two that wrote one key
+both_wrote : (level : Level) (trace : Trace) (t u k v w : ℕ) → Writer trace t k v → Writer trace u k w → Conflict level trace t u
+both_wrote Snapshot trace t u k v w one two = record { key = k; value = v; other = w; first = one; second = two }
+both_wrote Serializable trace t u k v w one two = record { first = one.done; second = two.done }
+
+module _ (level : Level) (trace : Trace) (starts : ℕ) (is : starts ≡ starts_of level (length trace.transactions)) where
+  pub apart_forced : (t u k v w : ℕ) → t ≢ u → Writer trace t k v → Writer trace u k w → Below level no_wants trace (Start t) (Commit u) → Below level no_wants trace (point_of starts (starts + t)) (point_of starts u)
+  apart_forced t u k v w other one two below = from_commit level trace starts is t u (at_start level trace starts is u (Commit t) two.done (Parts other (both_wrote level trace t u k v w one two) below))
+
 -- ---- edges laid
 pub none_laid : (transactions : List Transaction) (readings : List Reading) (order : List Writing) (starts nodes : ℕ) → AreLaid transactions readings order starts nodes []
 none_laid transactions readings order starts nodes = record {
@@ -154,6 +163,21 @@ module _ (transactions : List Transaction) (readings : List Reading) (order : Li
         w.from
         (subst (λ (k : ℕ). Writer (trace_of transactions operations) b.txn k b.value) key (known.wrote.wrote next b at_b))
 
+  start_below : (level : Level) (operations : List Operation) (i next : ℕ) (r : Reading) (b : Writing) (answer : Option Version) → AreKnown (trace_of transactions operations) readings order →
+    slice_get readings i ≡ Some r → slice_get order next ≡ Some b → b.key ≡ r.key → r.answer ≡ answer → IsWitnessed readings answer b → Below level no_wants (trace_of transactions operations) (Start r.txn) (Commit b.txn)
+  start_below level operations i next r b None known at_r at_b key answer witnessed =
+      MissesAll r.key b.value (outer_read operations i r None known at_r answer) (subst (λ (k : ℕ). Writer (trace_of transactions operations) b.txn k b.value) key (known.wrote.wrote next b at_b))
+  start_below level operations i next r b (Some found) known at_r at_b key answer w =
+      Misses r.key b.value found (outer_read operations i r (Some found) known at_r answer)
+        (subst (λ (k : ℕ). Writer (trace_of transactions operations) b.txn k b.value) key (known.wrote.wrote next b at_b))
+        (subst (λ (f : ℕ). Below level no_wants (trace_of transactions operations) (Commit f) (Start b.txn)) w.from
+          (ReadsFrom r.key w.same (subst (λ (t : ℕ). OuterRead (trace_of transactions operations) t r.key (Some w.same)) w.txn
+            (subst (λ (k : ℕ). OuterRead (trace_of transactions operations) w.reading.txn k (Some w.same)) (w.key ∙ key) (outer_read operations w.place w.reading (Some w.same) known w.stands w.answer)))))
+
+  own_writer : (operations : List Operation) (mine : ℕ) (r : Reading) (own : Writing) → AreKnown (trace_of transactions operations) readings order → slice_get order mine ≡ Some own → own.key ≡ r.key → own.txn ≡ r.txn → Writer (trace_of transactions operations) r.txn r.key own.value
+  own_writer operations mine r own known at key txn =
+      subst (λ (t : ℕ). Writer (trace_of transactions operations) t r.key own.value) txn (subst (λ (k : ℕ). Writer (trace_of transactions operations) own.txn k own.value) key (known.wrote.wrote mine own at))
+
   sure_below : (level : Level) (operations : List Operation) → starts ≡ starts_of level (length transactions) → AreKnown (trace_of transactions operations) readings order → IsSure readings order starts edge →
     Below level no_wants (trace_of transactions operations) (point_of starts edge.from) (point_of starts edge.to)
   sure_below level operations is known (OfRead i r found at answer from to) =
@@ -164,6 +188,13 @@ module _ (transactions : List Transaction) (readings : List Reading) (order : Li
       subst (λ (x : ℕ). Below level no_wants (trace_of transactions operations) (point_of starts x) (point_of starts edge.to)) (sym from)
       (subst (λ (y : ℕ). Below level no_wants (trace_of transactions operations) (point_of starts r.txn) (point_of starts y)) (sym to)
       (missed_below level operations i next r b r.answer is known at_r at_b key other refl witnessed))
+
+  sure_below level operations is known (OfApart i next mine r b own at_r at_b at_own key other own_key own_txn witnessed from to) =
+      subst (λ (x : ℕ). Below level no_wants (trace_of transactions operations) (point_of starts x) (point_of starts edge.to)) (sym from)
+      (subst (λ (y : ℕ). Below level no_wants (trace_of transactions operations) (point_of starts (starts + r.txn)) (point_of starts y)) (sym to)
+      (apart_forced level (trace_of transactions operations) starts is r.txn b.txn r.key own.value b.value (λ same. other (sym same)) (own_writer operations mine r own known at_own own_key own_txn)
+        (subst (λ (k : ℕ). Writer (trace_of transactions operations) b.txn k b.value) key (known.wrote.wrote next b at_b))
+        (start_below level operations i next r b r.answer known at_r at_b key refl witnessed)))
 
   pub sure_laid : IsSure readings order starts edge → AreLaid transactions readings order starts nodes new
   sure_laid sure = may_laid (λ level operations is known. sure_below level operations is known sure)

@@ -60,6 +60,8 @@ IsOf answer from = (same : Version) × (answer ≡ Some same) × (same.from ≡ 
 pub data IsSure (readings : List Reading) (order : List Writing) (starts : ℕ) (edge : Edge) : Type 0 where
   OfRead : (i : ℕ) (r : Reading) (found : Version) → slice_get readings i ≡ Some r → r.answer ≡ Some found → edge.from ≡ starts + found.from → edge.to ≡ r.txn → IsSure readings order starts edge
   OfMissed : (i next : ℕ) (r : Reading) (b : Writing) → slice_get readings i ≡ Some r → slice_get order next ≡ Some b → b.key ≡ r.key → b.txn ≢ r.txn → IsWitnessed readings r.answer b → edge.from ≡ r.txn → edge.to ≡ starts + b.txn → IsSure readings order starts edge
+  -- where the reader wrote the key too, neither of the two begins before the other is committed
+  OfApart : (i next mine : ℕ) (r : Reading) (b own : Writing) → slice_get readings i ≡ Some r → slice_get order next ≡ Some b → slice_get order mine ≡ Some own → b.key ≡ r.key → b.txn ≢ r.txn → own.key ≡ r.key → own.txn ≡ r.txn → IsWitnessed readings r.answer b → edge.from ≡ starts + r.txn → edge.to ≡ b.txn → IsSure readings order starts edge
 
 -- the edge is laid, or left out where it is not between nodes
 pub data MayLay (nodes : ℕ) (edge : Edge) (old new : List Edge) : Type 0 where

@@ -13,17 +13,20 @@ use rising_numbers::Edge;
 use std::alloc::{AllocError, Global};
 use trace_rules::{Transaction, Version};
 
-/// Where a reading stands to the order of versions. Both are hints, which are tested where they are used.
+/// Where a reading stands to the order of versions. All are hints, which are tested where they are used.
 #[derive(Clone, Copy, Debug, PartialEq, Eq)]
 pub struct Hint {
     /// The place in the order of the version behind what was read; where nothing was, of the key's first version.
     pub next: usize,
     /// Among the readings the one by which the next version's writer read the same.
     pub witness: usize,
+    /// The place in the order of the reader's own version of the key.
+    pub own: usize,
 }
 
 /// The edges that hold in all stamps: of each transaction's own start and commit, where there are starts; from what was read to the
-/// reader; and from the reader to the next version's writer, where this read the same version or the reader read none.
+/// reader; from the reader to the next version's writer, where this read the same version or the reader read none; and from
+/// the reader's commit to that writer's start, where the reader wrote the key too.
 pub fn forced_edges(
     alloc: Global,
     transactions: &[Transaction],
@@ -44,13 +47,14 @@ pub fn forced_edges(
     }
     for i in 0..readings.len() {
         lay_missed(&mut edges, readings, order, hint_at(hints, i), starts, nodes, i)?;
+        lay_apart(&mut edges, readings, order, hint_at(hints, i), starts, nodes, i)?;
     }
     Ok(edges)
 }
 
 fn hint_at(hints: &[Hint], i: usize) -> Hint {
     match hints.get(i) {
-        None => Hint { next: 0, witness: 0 },
+        None => Hint { next: 0, witness: 0, own: 0 },
         Some(hint) => *hint,
     }
 }
@@ -97,6 +101,68 @@ fn lay_missed(
     match missed_edge(readings, order, hint, starts, i) {
         None => Ok(()),
         Some(edge) => lay(edges, nodes, edge),
+    }
+}
+
+fn lay_apart(
+    edges: &mut Vec<Edge>,
+    readings: &[Reading],
+    order: &[Writing],
+    hint: Hint,
+    starts: usize,
+    nodes: usize,
+    i: usize,
+) -> Result<(), AllocError>
+    requires { i < length readings.now }
+    ensures { OnOk result ((transactions : List Transaction) →
+        AreLaid transactions readings.now order.now starts nodes edges.old.items → AreLaid transactions readings.now order.now starts nodes edges.new.items) }
+{
+    match apart_edge(readings, order, hint, starts, i) {
+        None => Ok(()),
+        Some(edge) => lay(edges, nodes, edge),
+    }
+}
+
+/// From the commit of a reader that wrote the key to the start of the next version's writer.
+fn apart_edge(readings: &[Reading], order: &[Writing], hint: Hint, starts: usize, i: usize) -> Option<Edge>
+    requires { i < length readings.now }
+    ensures { IfSome result (λ edge. IsSure readings.now order.now starts edge) }
+{
+    let reading = readings[i];
+    match version_at(order, hint.own) {
+        None => None,
+        Some(own) => {
+            if own.key != reading.key || own.txn != reading.txn {
+                return None;
+            }
+            later_edge(readings, order, hint, starts, i, own)
+        }
+    }
+}
+
+fn later_edge(
+    readings: &[Reading],
+    order: &[Writing],
+    hint: Hint,
+    starts: usize,
+    i: usize,
+    own: Writing,
+) -> Option<Edge>
+    requires reading { i < length readings.now }
+    requires own { slice_get order.now hint.own ≡ Some own }
+    requires key { (r : Reading) → slice_get readings.now i ≡ Some r → own.key ≡ r.key }
+    requires txn { (r : Reading) → slice_get readings.now i ≡ Some r → own.txn ≡ r.txn }
+    ensures { IfSome result (λ edge. IsSure readings.now order.now starts edge) }
+{
+    let reading = readings[i];
+    match version_at(order, hint.next) {
+        None => None,
+        Some(next) => {
+            if next.key != reading.key || next.txn == reading.txn || !is_witnessed(readings, hint.witness, reading.answer, next) {
+                return None;
+            }
+            edge_of(starts.checked_add(reading.txn), Some(next.txn))
+        }
     }
 }
 

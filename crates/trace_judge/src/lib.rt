@@ -118,7 +118,7 @@ fn forced_order(
     let starts = starts_of(level, transactions.len());
     let nodes = starts.saturating_add(transactions.len());
     let hints = hints_of(alloc, readings, order)?;
-    let edges = forced_edges(alloc, transactions, readings, order, &hints.next, starts, nodes)?;
+    let edges = forced_edges(alloc, transactions, readings, order, &hints.heirs, starts, nodes)?;
     match numbered(alloc, nodes, &edges)? {
         Order::Rising(numbers) => Ok(Forced::Rising(numbers)),
         Order::Cycle(places) => Ok(Forced::Cycle(edges_at(alloc, &edges, &places)?)),
@@ -139,7 +139,7 @@ fn try_order(
     let starts = starts_of(level, transactions.len());
     let nodes = starts.saturating_add(transactions.len());
     let hints = hints_of(alloc, readings, order)?;
-    let mut edges = forced_edges(alloc, transactions, readings, order, &hints.next, starts, nodes)?;
+    let mut edges = forced_edges(alloc, transactions, readings, order, &hints.heirs, starts, nodes)?;
     lay_tried(&mut edges, readings, order, &hints.next, starts, nodes)?;
     match numbered(alloc, nodes, &edges)? {
         Order::Cycle(_) => Ok(Verdict::Undecided),
