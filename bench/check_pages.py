@@ -53,6 +53,7 @@ COMMANDS = [
     ('docs/PICTURES.md', HISTORY % 'write_skew_strict', 0, None),
     ('docs/PICTURES.md', '(cd crates/omid_view && rt try -- explain < /tmp/history)', 0, 'page'),
     ('docs/PICTURES.md', '(cd crates/omid_view && rt try -- explain < ../../examples/lost_update.history)', 7, 'page'),
+    ('docs/PICTURES.md', '(cd crates/omid_view && rt try -- breach < ../../examples/lost_update.history) > /tmp/breach.svg', 7, 'examples/pictures/lost_update.svg'),
 ]
 # The other pictures are made as the page tells of the takeover's.
 for other in ('vanished', 'crash', 'write_skew', 'write_skew_strict'):
