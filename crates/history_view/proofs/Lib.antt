@@ -1,1 +1,2 @@
-mod TextLemmas
+mod SignLemmas
+pub mod TextLemmas

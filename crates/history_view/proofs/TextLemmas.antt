@@ -1,9 +1,7 @@
--- A text that grows piece by piece.
+-- A text that grows piece by piece. For breach_reasons and omid_view too.
 use Rattle.std.proofs.Common.{◌≡◌, ℕ, ◌+◌, ◌<◌, List, ◌∷◌, ◌++◌, append_assoc, ap, ◌∙◌, refl, sym, drop, length, get_or, add-one}
 use Rattle.std.proofs.Math.Seq.{drop-cons}
-use Rattle.history_lanes.specs.declared.sign.Sign.{Sign}
-use Rattle.history_view.specs.Page.{line_text, lines_text, signs_text}
-use Rattle.history_view.specs.Marks.{sign_text}
+use Rattle.history_view.specs.Words.{each_text}
 
 -- one piece more, or some
 pub then_one : (old mid new words a : List ℕ) → mid ≡ old ++ words → new ≡ mid ++ a → new ≡ old ++ (words ++ a)
@@ -18,20 +16,12 @@ then_between old mid new words a b c so next = then_one old ((mid ++ a) ++ b) ne
 pub then_two : (old mid new words a b c d : List ℕ) → mid ≡ old ++ words → new ≡ (((mid ++ a) ++ b) ++ c) ++ d → new ≡ old ++ ((((words ++ a) ++ b) ++ c) ++ d)
 then_two old mid new words a b c d so next = then_one old (((mid ++ a) ++ b) ++ c) new (((words ++ a) ++ b) ++ c) d (then_between old mid (((mid ++ a) ++ b) ++ c) words a b c so refl) next
 
-pub one_line : (old new : List ℕ) (count row : ℕ) (lanes : List ℕ) (d : ℕ) → row < length lanes → new ≡ old ++ line_text count row (get_or lanes row d)
-    → new ++ lines_text count (row + 1) (drop (row + 1) lanes) ≡ old ++ lines_text count row (drop row lanes)
-unfolding lines_text
-one_line old new count row lanes d within is =
-    let parts : drop row lanes ≡ get_or lanes row d ∷ drop (row + 1) lanes = rw add-one (drop-cons lanes row d within) in
-    ap (λ text. text ++ lines_text count (row + 1) (drop (row + 1) lanes)) is
-    ∙ (append_assoc old (line_text count row (get_or lanes row d)) (lines_text count (row + 1) (drop (row + 1) lanes))
-    ∙ ap (λ rest. old ++ lines_text count row rest) (sym parts))
-
-pub one_sign : (old new : List ℕ) (first place : ℕ) (signs : List Sign) (d : Sign) → place < length signs → new ≡ old ++ sign_text (first + place) place (get_or signs place d)
-    → new ++ signs_text first (place + 1) (drop (place + 1) signs) ≡ old ++ signs_text first place (drop place signs)
-unfolding signs_text
-one_sign old new first place signs d within is =
-    let parts : drop place signs ≡ get_or signs place d ∷ drop (place + 1) signs = rw add-one (drop-cons signs place d within) in
-    ap (λ text. text ++ signs_text first (place + 1) (drop (place + 1) signs)) is
-    ∙ (append_assoc old (sign_text (first + place) place (get_or signs place d)) (signs_text first (place + 1) (drop (place + 1) signs))
-    ∙ ap (λ rest. old ++ signs_text first place rest) (sym parts))
+-- a piece for each
+pub one_each : {X : Type 0} (piece : ℕ → X → List ℕ) (old new : List ℕ) (number : ℕ) (xs : List X) (d : X) → number < length xs → new ≡ old ++ piece number (get_or xs number d)
+    → new ++ each_text piece (number + 1) (drop (number + 1) xs) ≡ old ++ each_text piece number (drop number xs)
+unfolding each_text
+one_each piece old new number xs d within is =
+    let parts : drop number xs ≡ get_or xs number d ∷ drop (number + 1) xs = rw add-one (drop-cons xs number d within) in
+    ap (λ text. text ++ each_text piece (number + 1) (drop (number + 1) xs)) is
+    ∙ (append_assoc old (piece number (get_or xs number d)) (each_text piece (number + 1) (drop (number + 1) xs))
+    ∙ ap (λ rest. old ++ each_text piece number rest) (sym parts))

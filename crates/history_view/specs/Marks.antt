@@ -1,107 +1,56 @@
--- The text of one sign: its bar, its arrow, the sign itself, and a short label.
-use Rattle.std.specs.Prelude.{ℕ, ◌+◌, ◌-◌, ◌*◌, ◌%◌, ◌==◌, ltb, if◌then◌else◌, min, List, [], ◌++◌, Option, None, Some, codes, decimal}
+-- The text of one sign, in three layers: its bar, its arrow, and over them the sign itself with a short label.
+use Rattle.std.specs.Prelude.{ℕ, ◌+◌, ◌-◌, ◌*◌, ◌%◌, ◌==◌, Bool, true, false, ◌||◌, ltb, if◌then◌else◌, min, take, List, [], ◌++◌, Option, None, Some, codes, decimal}
+use Rattle.history_book.specs.declared.item.Found.{Found}
 use Rattle.history_book.specs.declared.item.Item.{Item}
 use Rattle.history_book.specs.declared.item.Item.TheVariants as item
-use Rattle.history_lanes.specs.declared.bar.Bar.{Bar}
-use Rattle.history_lanes.specs.declared.bar.BarKind.{BarKind}
-use Rattle.history_lanes.specs.declared.bar.BarKind.TheVariants as kind
-use Rattle.history_lanes.specs.declared.earlier.EarlierBar.{EarlierBar}
-use Rattle.history_lanes.specs.declared.sign.Link.{Link}
-use Rattle.history_lanes.specs.declared.sign.Sign.{Sign}
+use Rattle.history_view.specs.declared.bar.Bar.{Bar}
+use Rattle.history_view.specs.declared.earlier.EarlierBar.{EarlierBar}
+use Rattle.history_view.specs.declared.glyph.Glyph.{Glyph}
+use Rattle.history_view.specs.declared.glyph.Glyph.TheVariants as glyph
+use Rattle.history_view.specs.declared.sign.Link.{Link}
+use Rattle.history_view.specs.declared.sign.Sign.{Sign}
 use Rattle.history_text.specs.Text.{body_of}
+use Rattle.history_view.specs.Glyphs.{class_text, glyph_of, kind_text, letter}
 use Rattle.history_view.specs.Words.{escaped}
 
--- where a place and a row stand; what is past the last of them stands at the edge
-abbrev pub place_x : ℕ → ℕ
-place_x place = 60 + 16 * min place 2000
+-- how far apart columns stand: a wide picture has room for values
+abbrev pub pitch : Bool → ℕ
+pitch wide = if wide then 64 else 16
+
+-- where a column and a row stand; what is past the last of them stands at the edge
+abbrev pub column_x : Bool → ℕ → ℕ
+column_x wide column = 96 + min (pitch wide * min column 2000) 32000
 
 abbrev pub row_y : ℕ → ℕ
-row_y row = 66 + 38 * min row 26
+row_y row = 78 + 38 * min row 26
 
--- the class of a bar, by which it has its colour
-abbrev pub kind_text : BarKind → List ℕ
-kind_text kind.Committed = codes "committed"
-kind_text kind.Refused = codes "refused"
-kind_text kind.Aborted = codes "aborted"
-kind_text kind.Dead = codes "dead"
-kind_text kind.Open = codes "open"
-kind_text kind.Lease = codes "lease"
+-- ---- bars
+unfoldable pub rect_text : ℕ → ℕ → ℕ → List ℕ
+rect_text x y width = codes "<rect x='" ++ decimal x ++ codes "' y='" ++ decimal y ++ codes "' width='" ++ decimal width ++ codes "' height='22' rx='7'/>"
 
--- the letter and the class of a sign
-abbrev pub letter : Item → List ℕ
-letter (item.Tick to) = codes "t"
-letter (item.Note actor note) = codes "n"
-letter (item.Take node reading term epoch until ceiling) = codes "T"
-letter (item.Renew node reading term until) = codes "N"
-letter (item.Extend node term ceiling) = codes "E"
-letter (item.AskBegin session node) = codes "b"
-letter (item.AskCommit session node start) = codes "c"
-letter (item.Accept session node term reading) = codes "a"
-letter (item.Draw session node term start commit) = codes "d"
-letter (item.Begin session start) = codes "B"
-letter (item.Write session start key value) = codes "W"
-letter (item.Read session start key answer) = codes "R"
-letter (item.Placed start commit) = codes "P"
-letter (item.Committed session start commit) = codes "C"
-letter (item.Mark actor start) = codes "M"
-letter (item.Step actor what) = codes "s"
-letter (item.End session start how) = codes "D"
-letter (item.Refused actor cause) = codes "!"
-letter (item.Fault actor store) = codes "F"
-letter (item.Crash node term) = codes "X"
-letter (item.Vanish session) = codes "V"
+-- the number and the words of an item, which a reader sees over what is drawn of it
+unfoldable pub title_text : List ℕ → ℕ → Item → List ℕ
+title_text class number item = codes "<g class='" ++ class ++ codes "'><title>" ++ decimal number ++ codes ": " ++ escaped (body_of item) ++ codes "</title>"
 
-abbrev pub class_text : Item → List ℕ
-class_text (item.Take node reading term epoch until ceiling) = codes "grant"
-class_text (item.Renew node reading term until) = codes "grant"
-class_text (item.Extend node term ceiling) = codes "grant"
-class_text (item.Begin session start) = codes "own"
-class_text (item.Write session start key value) = codes "own"
-class_text (item.Read session start key answer) = codes "own"
-class_text (item.Placed start commit) = codes "done"
-class_text (item.Committed session start commit) = codes "done"
-class_text (item.End session start how) = codes "own"
-class_text (item.Refused actor cause) = codes "bad"
-class_text (item.Mark actor start) = codes "mark"
-class_text (item.Fault actor store) = codes "bad"
-class_text (item.Crash node term) = codes "bad"
-class_text (item.Vanish session) = codes "bad"
-class_text _ = codes "step"
+-- a bar goes round its first sign and its last
+unfoldable pub bar_text : Bool → ℕ → Sign → Bar → List ℕ
+bar_text wide column sign bar =
+    title_text (kind_text bar.kind) sign.number sign.item
+    ++ rect_text (column_x wide column - 7) (row_y sign.row - 11) (column_x wide bar.to - column_x wide column + 14) ++ codes "</g>\n"
 
--- the number below a sign: a clock's time, a term, a stamp or a key
-abbrev pub stamp_text : ℕ → Option ℕ → List ℕ
-stamp_text start None = decimal start
-stamp_text start (Some commit) = decimal commit
-
-abbrev pub label : Item → List ℕ
-label (item.Tick to) = decimal to
-label (item.Take node reading term epoch until ceiling) = codes "t" ++ decimal term
-label (item.Draw session node term start commit) = stamp_text start commit
-label (item.Begin session start) = decimal start
-label (item.Placed start commit) = decimal commit
-label (item.Write session start key value) = codes "k" ++ decimal key
-label (item.Read session start key answer) = codes "k" ++ decimal key
-label _ = []
-
-unfoldable pub rect_text : List ℕ → ℕ → ℕ → ℕ → List ℕ
-rect_text class x y width =
-    codes "<rect class='" ++ class ++ codes "'" ++ codes " x='" ++ decimal x ++ codes "' y='" ++ decimal y
-    ++ codes "' width='" ++ decimal width ++ codes "' height='22' rx='4'/>"
-
-abbrev pub bar_text : ℕ → ℕ → Option Bar → List ℕ
-bar_text place row None = []
-bar_text place row (Some bar) = rect_text (kind_text bar.kind) (place_x place) (row_y row - 11) (place_x bar.to - place_x place)
+abbrev pub any_bar_text : Bool → ℕ → Sign → Option Bar → List ℕ
+any_bar_text wide column sign None = []
+any_bar_text wide column sign (Some bar) = bar_text wide column sign bar
 
 -- a bar that goes on from before the first sign: it begins left of it, and has the words of the item that opened it
-unfoldable pub opener_text : Item → List ℕ
-opener_text opener = codes "<g><title>before: " ++ escaped (body_of opener) ++ codes "</title>"
+unfoldable pub opener_text : List ℕ → Item → List ℕ
+opener_text class opener = codes "<g class='" ++ class ++ codes "'><title>before: " ++ escaped (body_of opener) ++ codes "</title>"
 
-abbrev pub onward_text : ℕ → Bar → List ℕ
-onward_text row bar = rect_text (kind_text bar.kind) 48 (row_y row - 11) (place_x bar.to - 48)
+unfoldable pub earlier_bar_text : Bool → EarlierBar → List ℕ
+earlier_bar_text wide earlier =
+    opener_text (kind_text earlier.bar.kind) earlier.opener ++ rect_text 82 (row_y earlier.row - 11) (column_x wide earlier.bar.to - 75) ++ codes "</g>\n"
 
-unfoldable pub earlier_bar_text : EarlierBar → List ℕ
-earlier_bar_text earlier = opener_text earlier.opener ++ onward_text earlier.row earlier.bar ++ codes "</g>\n"
-
+-- ---- arrows
 -- beside the lane to which a curve goes, so far from it: between it and the lane before
 abbrev pub beside : ℕ → ℕ → ℕ → ℕ
 beside gap y to_y = if ltb to_y y then to_y + gap else to_y - gap
@@ -109,7 +58,7 @@ beside gap y to_y = if ltb to_y y then to_y + gap else to_y - gap
 -- a curve that leaves its sign across the lane, goes along at a height, and from near the other sign's lane straight to that
 unfoldable pub bent_text : ℕ → ℕ → ℕ → ℕ → ℕ → ℕ → List ℕ
 bent_text x y along near to_x to_y =
-    codes "<path d='M" ++ decimal x ++ codes " " ++ decimal y ++ codes "C" ++ decimal x ++ codes " " ++ decimal along
+    codes "M" ++ decimal x ++ codes " " ++ decimal y ++ codes "C" ++ decimal x ++ codes " " ++ decimal along
     ++ codes " " ++ decimal to_x ++ codes " " ++ decimal along ++ codes " " ++ decimal to_x ++ codes " " ++ decimal near
     ++ codes "V" ++ decimal to_y
 
@@ -117,42 +66,78 @@ bent_text x y along near to_x to_y =
 abbrev pub curve_text : ℕ → ℕ → ℕ → ℕ → List ℕ
 curve_text x y to_x to_y = bent_text x y (beside 22 y to_y) (beside 14 y to_y) to_x to_y
 
--- an arrow over more than a hundred places is faint
-abbrev pub end_text : ℕ → ℕ → List ℕ
-end_text from to = if ltb 100 (to - from) then codes "' class='far'/>" else codes "'/>"
+-- to a refusal it is red; over more than a hundred columns it is faint
+abbrev pub is_bad : Glyph → Bool
+is_bad glyph.Refused = true
+is_bad _ = false
+
+abbrev pub arrow_class : Bool → Bool → List ℕ
+arrow_class bad far = if bad then (if far then codes "bad far" else codes "bad") else if far then codes "link far" else codes "link"
 
 -- an arrow from the sign that shows this one
-unfoldable pub link_text : ℕ → ℕ → Option Link → List ℕ
-link_text place row None = []
-link_text place row (Some link) = curve_text (place_x link.place) (row_y link.row) (place_x place) (row_y row) ++ end_text link.place place
+unfoldable pub arrow_text : Bool → ℕ → Sign → Link → List ℕ
+arrow_text wide column sign link =
+    codes "<path class='" ++ arrow_class (is_bad (glyph_of sign.item)) (ltb 100 (column - link.column)) ++ codes "' d='"
+    ++ curve_text (column_x wide link.column) (row_y link.row) (column_x wide column) (row_y sign.row) ++ codes "'/>\n"
 
--- each tenth sign has its number at the top
-unfoldable pub number_text : ℕ → ℕ → List ℕ
-number_text number place =
-    if number % 10 == 0 then codes "<text class='n' x='" ++ decimal (place_x place) ++ codes "' y='40'>" ++ decimal number ++ codes "</text>" else []
+abbrev pub any_arrow_text : Bool → ℕ → Sign → Option Link → List ℕ
+any_arrow_text wide column sign None = []
+any_arrow_text wide column sign (Some link) = arrow_text wide column sign link
+
+-- ---- signs
+-- the number below a sign: a clock's time, a term, a stamp or a key; in a wide picture a value besides, up to its eighth byte
+abbrev pub stamp_text : ℕ → Option ℕ → List ℕ
+stamp_text start None = decimal start
+stamp_text start (Some commit) = decimal commit
+
+abbrev pub value_text : Bool → List ℕ → List ℕ
+value_text wide value = if wide then codes " " ++ escaped (take 8 value) else []
+
+abbrev pub found_text : Bool → Option Found → List ℕ
+found_text wide None = if wide then codes " none" else []
+found_text wide (Some found) = value_text wide found.value
+
+abbrev pub label : Bool → Item → List ℕ
+label wide (item.Tick to) = decimal to
+label wide (item.Take node reading term epoch until ceiling) = codes "t" ++ decimal term
+label wide (item.Draw session node term start commit) = stamp_text start commit
+label wide (item.Begin session start) = decimal start
+label wide (item.Placed start commit) = decimal commit
+label wide (item.Write session start key value) = codes "k" ++ decimal key ++ value_text wide value
+label wide (item.Read session start key answer) = codes "k" ++ decimal key ++ found_text wide answer
+label wide _ = []
+
+unfoldable pub label_text : Bool → ℕ → ℕ → Item → List ℕ
+label_text wide x y item = codes "<text class='n' x='" ++ decimal x ++ codes "' y='" ++ decimal (y + 21) ++ codes "'>" ++ label wide item ++ codes "</text>"
+
+-- each tenth item has its number at the top, in a wide picture each
+unfoldable pub number_text : Bool → ℕ → ℕ → List ℕ
+number_text wide x number =
+    if wide || (number % 10 == 0) then codes "<text class='n' x='" ++ decimal x ++ codes "' y='56'>" ++ decimal number ++ codes "</text>" else []
+
+unfoldable pub circle_text : ℕ → ℕ → ℕ → List ℕ
+circle_text x y radius = codes "<circle cx='" ++ decimal x ++ codes "' cy='" ++ decimal y ++ codes "' r='" ++ decimal radius ++ codes "'/>"
 
 -- a circle with a letter in it
-unfoldable pub dot_text : ℕ → ℕ → List ℕ → List ℕ
-dot_text x y word =
-    codes "<circle cx='" ++ decimal x ++ codes "' cy='" ++ decimal y ++ codes "' r='7'/><text x='" ++ decimal x ++ codes "' y='" ++ decimal (y + 4)
-    ++ codes "'>" ++ word ++ codes "</text>"
+unfoldable pub letter_text : ℕ → ℕ → List ℕ → List ℕ
+letter_text x y word = circle_text x y 7 ++ codes "<text x='" ++ decimal x ++ codes "' y='" ++ decimal (y + 4) ++ codes "'>" ++ word ++ codes "</text>"
 
--- the label below it
-unfoldable pub label_text : ℕ → ℕ → Item → List ℕ
-label_text x y item = codes "<text class='n' x='" ++ decimal x ++ codes "' y='" ++ decimal (y + 20) ++ codes "'>" ++ label item ++ codes "</text>"
+abbrev pub dot_text : ℕ → ℕ → Glyph → List ℕ
+dot_text x y glyph.Dot = circle_text x y 3
+dot_text x y glyph = letter_text x y (letter glyph)
 
--- the number and the words of an item, which a reader sees over its sign
-unfoldable pub title_text : ℕ → Item → List ℕ
-title_text number item =
-    codes "<g class='" ++ class_text item ++ codes "'>" ++ codes "<title>" ++ decimal number ++ codes ": " ++ escaped (body_of item) ++ codes "</title>"
+unfoldable pub ring_text : ℕ → ℕ → List ℕ
+ring_text x y = codes "<g class='ring'>" ++ circle_text x y 13 ++ codes "</g>"
 
--- what is drawn over bars and arrows
-unfoldable pub front_text : ℕ → ℕ → Sign → List ℕ
-front_text number place sign =
-    dot_text (place_x place) (row_y sign.row) (letter sign.item) ++ label_text (place_x place) (row_y sign.row) sign.item
-    ++ number_text number place ++ codes "</g>\n"
+abbrev pub any_ring_text : ℕ → ℕ → Bool → List ℕ
+any_ring_text x y true = ring_text x y
+any_ring_text x y false = []
 
--- the sign at the place, whose item has this number
-abbrev pub sign_text : ℕ → ℕ → Sign → List ℕ
-sign_text number place sign =
-    title_text number sign.item ++ bar_text place sign.row sign.bar ++ link_text place sign.row sign.link ++ front_text number place sign
+-- the sign in its column
+unfoldable pub sign_text : Bool → ℕ → Sign → List ℕ
+sign_text wide column sign =
+    title_text (class_text (glyph_of sign.item)) sign.number sign.item
+    ++ any_ring_text (column_x wide column) (row_y sign.row) sign.ringed
+    ++ dot_text (column_x wide column) (row_y sign.row) (glyph_of sign.item)
+    ++ label_text wide (column_x wide column) (row_y sign.row) sign.item
+    ++ number_text wide (column_x wide column) sign.number ++ codes "</g>\n"

@@ -1,115 +1,148 @@
--- The text of a picture: its page and style, its lanes, its signs and its legend.
-use Rattle.std.specs.Prelude.{ℕ, zero, suc, ◌+◌, ◌-◌, ◌*◌, ◌/◌, ltb, ◌==◌, if◌then◌else◌, max, List, [], ◌∷◌, ◌++◌, length, codes, decimal}
+-- The text of a picture: its page and style, its caption, its lanes, its signs and its legend.
+use Rattle.std.specs.Prelude.{ℕ, zero, suc, ◌+◌, ◌-◌, ◌*◌, ◌/◌, ltb, ◌==◌, Bool, if◌then◌else◌, max, min, List, [], ◌∷◌, ◌++◌, length, codes, decimal}
 use Rattle.std.specs.List.{flat_map}
-use Rattle.history_text.specs.Words.{node_text, session_text}
-use Rattle.history_lanes.specs.declared.earlier.EarlierBar.{EarlierBar}
-use Rattle.history_lanes.specs.declared.sign.Sign.{Sign}
-use Rattle.history_view.specs.Marks.{earlier_bar_text, place_x, row_y, sign_text}
+use Rattle.history_text.specs.Words.{node_text}
+use Rattle.history_view.specs.declared.earlier.EarlierBar.{EarlierBar}
+use Rattle.history_view.specs.declared.glyph.Key.{Key}
+use Rattle.history_view.specs.declared.glyph.Key.TheVariants as key
+use Rattle.history_view.specs.declared.picture.Frame.{Frame}
+use Rattle.history_view.specs.declared.sign.Sign.{Sign}
+use Rattle.history_view.specs.Glyphs.{class_text, keys_for, kind_text, meaning}
+use Rattle.history_view.specs.Marks.{any_arrow_text, any_bar_text, column_x, dot_text, earlier_bar_text, row_y, sign_text}
+use Rattle.history_view.specs.Style.{style_text}
+use Rattle.history_view.specs.Words.{each_text, escaped}
 
 -- ---- how large the page is
-abbrev pub page_width : ℕ → ℕ
-page_width count = max 900 (place_x count + 30)
+abbrev pub page_width : Bool → ℕ → ℕ → ℕ
+page_width wide count keys = max (max 480 (column_x wide count + 30)) (24 + 104 * min keys 64)
 
 abbrev pub page_height : ℕ → ℕ
-page_height rows = row_y rows + 70
+page_height rows = row_y rows + 40
 
 -- ---- its head
 unfoldable pub open_text : ℕ → ℕ → List ℕ
 open_text width height =
     codes "<svg xmlns='http://www.w3.org/2000/svg' width='" ++ decimal width ++ codes "' height='" ++ decimal height
+    ++ codes "' viewBox='0 0 " ++ decimal width ++ codes " " ++ decimal height
     ++ codes "' font-family='sans-serif' font-size='11' text-anchor='middle'>\n"
 
--- colours by day and, where the reader has set so, by night
-unfoldable pub bars_text : List ℕ
-bars_text =
-    codes "<style>svg{background:#fff;fill:#222}.committed{fill:#cfe8cf}.refused{fill:#f4c7c3}.aborted{fill:#e3e3e3}\n"
-    ++ codes ".dead{fill:#d9c3ea}.open{fill:#fbe7b5}.lease{fill:#cfdff5}line{stroke:#ddd}path{fill:none;stroke:#889;opacity:.8}\n"
+unfoldable pub ground_text : ℕ → ℕ → List ℕ
+ground_text width height = codes "<rect class='page' width='" ++ decimal width ++ codes "' height='" ++ decimal height ++ codes "'/>\n"
 
-unfoldable pub circles_text : List ℕ
-circles_text =
-    codes "circle{fill:#999}.own circle{fill:#24598f}.done circle{fill:#1f7a33}.grant circle{fill:#6a4a9c}.bad circle{fill:#c0281f}\n"
-    ++ codes ".mark circle{fill:#b05f00}circle+text{fill:#fff}.bad path{stroke:#c0281f}.lane{text-anchor:start;font-weight:bold}\n"
+-- ---- its caption, and which items it shows: those of these numbers, and how many of them it leaves out
+unfoldable pub caption_text : List ℕ → List ℕ
+caption_text caption = codes "<text class='caption' x='12' y='20'>" ++ escaped caption ++ codes "</text>\n"
 
--- where the reader has set so
-unfoldable pub night_text : List ℕ
-night_text =
-    codes ".n{font-size:8px}.again{font-size:8px;fill:#777}.far{opacity:.2}@media(prefers-color-scheme:dark){svg{background:#16181d;fill:#ddd}line{stroke:#333}\n"
-    ++ codes ".committed{fill:#23462a}.refused{fill:#5c2622}.aborted{fill:#3c3c3c}.dead{fill:#43305a}.open{fill:#574715}.lease{fill:#22375a}}\n"
+abbrev pub left_out : Frame → ℕ → ℕ
+left_out frame shown = (frame.last + 1) - frame.first - shown
 
-unfoldable pub arrow_text : List ℕ
-arrow_text =
-    codes "path{marker-end:url(#tip)}marker path{fill:#889;stroke:none;marker-end:none}</style>\n"
-    ++ codes "<defs><marker id='tip' viewBox='0 0 8 8' refX='15' refY='4' markerWidth='7' markerHeight='7' orient='auto'>"
-    ++ codes "<path d='M0 0L8 4L0 8z'/></marker></defs>\n"
+unfoldable pub left_text : ℕ → List ℕ
+left_text zero = []
+left_text (suc n) = codes ", " ++ decimal (suc n) ++ codes " of them left out"
 
-abbrev pub style_text : List ℕ
-style_text = bars_text ++ circles_text ++ night_text ++ arrow_text
+unfoldable pub frame_text : Frame → ℕ → List ℕ
+frame_text frame left =
+    codes "<text class='lane n' x='12' y='36'>items " ++ decimal frame.first ++ codes " to " ++ decimal frame.last ++ codes " of " ++ decimal frame.total
+    ++ left_text left ++ codes "</text>\n"
 
 -- ---- its lanes
 -- a node's and a session's lane have their names; the others are the clock's, the commit table's and the janitor's
 abbrev pub lane_text : ℕ → List ℕ
 lane_text lane =
     if lane == 0 then codes "clock"
-    else if ltb lane 9 then node_text (lane - 1)
-    else if lane == 9 then codes "table"
-    else if ltb lane 26 then session_text (lane - 10)
+    else if ltb lane 9 then codes "node " ++ node_text (lane - 1)
+    else if lane == 9 then codes "commit table"
+    else if ltb lane 26 then codes "session " ++ decimal (lane - 10)
     else codes "janitor"
 
 -- a line across the page, with the name of the lane
 unfoldable pub rule_text : ℕ → ℕ → List ℕ
-rule_text width y = codes "<line x1='48' x2='" ++ decimal width ++ codes "' y1='" ++ decimal y ++ codes "' y2='" ++ decimal y ++ codes "'/>"
+rule_text width y = codes "<line x1='92' x2='" ++ decimal width ++ codes "' y1='" ++ decimal y ++ codes "' y2='" ++ decimal y ++ codes "'/>"
 
-unfoldable pub caption_text : ℕ → ℕ → List ℕ
-caption_text y lane = codes "<text class='lane' x='4' y='" ++ decimal (y + 4) ++ codes "'>" ++ lane_text lane ++ codes "</text>\n"
+unfoldable pub name_text : ℕ → ℕ → List ℕ
+name_text y lane = codes "<text class='lane' x='6' y='" ++ decimal (y + 4) ++ codes "'>" ++ lane_text lane ++ codes "</text>\n"
 
 -- the name again, above the line
 unfoldable pub again_text : ℕ → ℕ → ℕ → List ℕ
 again_text x y lane = codes "<text class='lane again' x='" ++ decimal x ++ codes "' y='" ++ decimal y ++ codes "'>" ++ lane_text lane ++ codes "</text>\n"
 
--- at each fiftieth place, so many of them
-unfoldable pub names_text : ℕ → ℕ → ℕ → List ℕ
-names_text y lane zero = []
-names_text y lane (suc names) = names_text y lane names ++ again_text (place_x (50 * (names + 1))) (y - 12) lane
+-- at each fiftieth column, so many of them
+unfoldable pub names_text : Bool → ℕ → ℕ → ℕ → List ℕ
+names_text wide y lane zero = []
+names_text wide y lane (suc names) = names_text wide y lane names ++ again_text (column_x wide (50 * (names + 1))) (y - 13) lane
 
 -- on a page of so many signs
-abbrev pub line_text : ℕ → ℕ → ℕ → List ℕ
-line_text count row lane = rule_text (page_width count) (row_y row) ++ caption_text (row_y row) lane ++ names_text (row_y row) lane (count / 50)
+abbrev pub line_text : Bool → ℕ → ℕ → ℕ → ℕ → List ℕ
+line_text wide width count row lane = rule_text width (row_y row) ++ name_text (row_y row) lane ++ names_text wide (row_y row) lane (count / 50)
 
-unfoldable pub lines_text : ℕ → ℕ → List ℕ → List ℕ
-lines_text count row [] = []
-lines_text count row (lane ∷ lanes) = line_text count row lane ++ lines_text count (row + 1) lanes
+abbrev pub lines_text : Bool → ℕ → ℕ → List ℕ → List ℕ
+lines_text wide width count lanes = each_text (λ row lane. line_text wide width count row lane) 0 lanes
 
--- ---- the bars that go on from before its first sign
-abbrev pub earlier_text : List EarlierBar → List ℕ
-earlier_text bars = flat_map earlier_bar_text bars
+-- ---- its signs, in three layers: bars, arrows, and the signs themselves, one for each, in order
+abbrev pub earlier_text : Bool → List EarlierBar → List ℕ
+earlier_text wide bars = flat_map (λ bar. earlier_bar_text wide bar) bars
 
--- ---- its signs, one for each, in order; the first has this number
-unfoldable pub signs_text : ℕ → ℕ → List Sign → List ℕ
-signs_text first place [] = []
-signs_text first place (sign ∷ signs) = sign_text (first + place) place sign ++ signs_text first (place + 1) signs
+abbrev pub bars_text : Bool → List Sign → List ℕ
+bars_text wide signs = each_text (λ column sign. any_bar_text wide column sign sign.bar) 0 signs
 
--- ---- its legend
-unfoldable pub key_text : ℕ → List ℕ → List ℕ → List ℕ
-key_text x kind words =
-    codes "<rect class='" ++ kind ++ codes "'" ++ codes " x='" ++ decimal x ++ codes "' y='8' width='14' height='14' rx='3'/><text class='lane' x='" ++ decimal (x + 18)
-    ++ codes "' y='19'>" ++ words ++ codes "</text>\n"
+abbrev pub arrows_text : Bool → List Sign → List ℕ
+arrows_text wide signs = each_text (λ column sign. any_arrow_text wide column sign sign.link) 0 signs
 
-abbrev pub ends_text : List ℕ
-ends_text =
-    key_text 60 (codes "committed") (codes "committed or read-only") ++ key_text 240 (codes "refused") (codes "refused")
-    ++ key_text 330 (codes "aborted") (codes "aborted") ++ key_text 420 (codes "dead") (codes "dead")
+abbrev pub signs_text : Bool → List Sign → List ℕ
+signs_text wide signs = each_text (λ column sign. sign_text wide column sign) 0 signs
 
-abbrev pub keys_text : List ℕ
-keys_text = ends_text ++ key_text 490 (codes "open") (codes "open or left") ++ key_text 610 (codes "lease") (codes "lease of a term, by the base clock")
+-- ---- its legend: what occurs in it, in one line, again behind each two hundred columns
+unfoldable pub bar_key_text : ℕ → ℕ → List ℕ → List ℕ
+bar_key_text x y class =
+    codes "<g class='" ++ class ++ codes "'>" ++ codes "<rect x='" ++ decimal (x - 9) ++ codes "' y='" ++ decimal (y - 7)
+    ++ codes "' width='18' height='14' rx='5'/></g>"
 
-unfoldable pub legend_text : ℕ → List ℕ
-legend_text y =
-    codes "<text class='lane' x='4' y='" ++ decimal y ++ codes "'>b asks to begin, c to commit, a accept, d draw, B begin, W write, R read, P placed, C committed, D ended otherwise, s step, n note"
-    ++ codes "</text><text class='lane' x='4' y='" ++ decimal (y + 18)
-    ++ codes "'>T take, N renew, E extend, t tick, M mark, ! refused, F fault, X crash, V vanish. Arrows lead from what shows a read or a refusal.</text></svg>\n"
+unfoldable pub sign_key_text : ℕ → ℕ → List ℕ → List ℕ → List ℕ
+sign_key_text x y class dot = codes "<g class='" ++ class ++ codes "'>" ++ dot ++ codes "</g>"
 
--- ---- the whole, of signs whose first has this number
-abbrev pub picture_text : List ℕ → List EarlierBar → ℕ → List Sign → List ℕ
-picture_text lanes earlier first signs =
-    open_text (page_width (length signs)) (page_height (length lanes)) ++ style_text ++ keys_text
-    ++ lines_text (length signs) 0 lanes ++ earlier_text earlier ++ signs_text first 0 signs ++ legend_text (row_y (length lanes) + 20)
+abbrev pub key_sign_text : ℕ → ℕ → Key → List ℕ
+key_sign_text x y (key.Bar kind) = bar_key_text x y (kind_text kind)
+key_sign_text x y (key.Sign glyph) = sign_key_text x y (class_text glyph) (dot_text x y glyph)
+
+abbrev pub key_words : Key → List ℕ
+key_words (key.Bar kind) = kind_text kind
+key_words (key.Sign glyph) = meaning glyph
+
+unfoldable pub words_text : ℕ → ℕ → List ℕ → List ℕ
+words_text x y words = codes "<text class='lane n' x='" ++ decimal (x + 13) ++ codes "' y='" ++ decimal (y + 4) ++ codes "'>" ++ words ++ codes "</text>\n"
+
+-- the x of a legend's number in its line
+abbrev pub key_x : ℕ → ℕ → ℕ
+key_x base number = base + 104 * min number 64
+
+abbrev pub key_text : ℕ → ℕ → ℕ → Key → List ℕ
+key_text base y number it = key_sign_text (key_x base number) y it ++ words_text (key_x base number) y (key_words it)
+
+abbrev pub legend_text : ℕ → ℕ → List Key → List ℕ
+legend_text base y keys = each_text (λ number it. key_text base y number it) 0 keys
+
+unfoldable pub legends_text : Bool → ℕ → List Key → ℕ → List ℕ
+legends_text wide y keys zero = []
+legends_text wide y keys (suc n) = legends_text wide y keys n ++ legend_text (column_x wide (200 * n) - 72) y keys
+
+-- ---- the whole
+abbrev pub body_text : Frame → ℕ → List ℕ → List EarlierBar → List Sign → List ℕ
+body_text frame width lanes earlier signs =
+    lines_text frame.wide width (length signs) lanes ++ earlier_text frame.wide earlier
+    ++ bars_text frame.wide signs ++ arrows_text frame.wide signs ++ signs_text frame.wide signs
+
+abbrev pub sized_head_text : Frame → List ℕ → ℕ → ℕ → ℕ → List ℕ
+sized_head_text frame caption width height shown =
+    open_text width height ++ style_text ++ ground_text width height ++ caption_text caption ++ frame_text frame (left_out frame shown)
+
+abbrev pub head_text : Frame → List ℕ → ℕ → ℕ → ℕ → List ℕ
+head_text frame caption shown rows keys = sized_head_text frame caption (page_width frame.wide shown keys) (page_height rows) shown
+
+abbrev pub page_text : Frame → List ℕ → List ℕ → List EarlierBar → List Sign → List Key → List ℕ
+page_text frame caption lanes earlier signs keys =
+    head_text frame caption (length signs) (length lanes) (length keys)
+    ++ body_text frame (page_width frame.wide (length signs) (length keys)) lanes earlier signs
+    ++ legends_text frame.wide (row_y (length lanes) + 16) keys (length signs / 200 + 1) ++ codes "</svg>\n"
+
+abbrev pub picture_text : Frame → List ℕ → List ℕ → List EarlierBar → List Sign → List ℕ
+picture_text frame caption lanes earlier signs = page_text frame caption lanes earlier signs (keys_for earlier signs)

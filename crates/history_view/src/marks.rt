@@ -1,145 +1,186 @@
-// The text of one sign.
-ghost use Rattle.std.specs.Prelude.{◌≡◌, ◌≤◌, ◌++◌, Some, OnOk, decimal};
-ghost use Rattle.history_view.specs.Marks.{bar_text, bent_text, beside, class_text, curve_text, dot_text, earlier_bar_text, end_text, front_text, kind_text, label, label_text, letter, link_text, number_text, onward_text, opener_text, place_x, rect_text, row_y, sign_text, stamp_text, title_text};
+// The text of one sign, in three layers.
+ghost use Rattle.std.specs.Prelude.{◌≡◌, ◌≤◌, ◌++◌, Some, None, OnOk, codes, decimal};
+ghost use Rattle.history_view.specs.Marks.{any_arrow_text, any_bar_text, any_ring_text, arrow_class, arrow_text, bar_text, bent_text, beside, circle_text, column_x, curve_text, dot_text, earlier_bar_text, found_text, is_bad, label, label_text, letter_text, number_text, opener_text, pitch, rect_text, ring_text, row_y, sign_text, stamp_text, title_text, value_text};
 
+use crate::bar::Bar;
+use crate::earlier::EarlierBar;
+use crate::glyph::{Glyph, class_of, glyph_of, kind_word, letter};
+use crate::sign::{Link, Sign};
 use crate::text::Text;
-use history_book::Item;
-use history_lanes::{Bar, BarKind, EarlierBar, Link, Sign};
-use stamp_base::{NoMemory, Stamp};
+use history_book::{Found, Item};
+use stamp_base::{NoMemory, Stamp, Value};
 
-/// Where a place stands. What is past the last place stands at the edge.
-pub fn place_x(place: usize) -> u64
-    ensures x { result ≡ place_x place }
-    ensures within { (60 ≤ result) × (result ≤ 32060) }
+/// How far apart columns stand: a wide picture has room for values.
+fn pitch(wide: bool) -> u64
+    ensures pitch { result ≡ pitch wide }
+    ensures few { result ≤ 64 }
 {
-    60 + 16 * place.min(2000) as u64
+    if wide { 64 } else { 16 }
+}
+
+/// Where a column stands. What is past the last column stands at the edge.
+pub fn column_x(wide: bool, column: usize) -> u64
+    ensures x { result ≡ column_x wide column }
+    ensures within { (96 ≤ result) × (result ≤ 32096) }
+{
+    96 + (pitch(wide) * column.min(2_000) as u64).min(32_000)
 }
 
 /// Where a row stands.
 pub fn row_y(row: usize) -> u64
     ensures y { result ≡ row_y row }
-    ensures within { (66 ≤ result) × (result ≤ 1054) }
+    ensures within { (78 ≤ result) × (result ≤ 1066) }
 {
-    66 + 38 * row.min(26) as u64
+    78 + 38 * row.min(26) as u64
 }
 
-/// Adds the sign at the place, whose item has this number.
-pub fn print_sign(text: &mut Text, number: u64, place: usize, sign: &Sign) -> Result<(), NoMemory>
-    ensures { OnOk result (text.new ≡ text.old ++ sign_text number place sign.now) }
+// ---- bars
+
+/// Adds the bar that the sign in the column opens.
+pub fn print_any_bar(
+    text: &mut Text,
+    wide: bool,
+    column: usize,
+    sign: &Sign,
+) -> Result<(), NoMemory>
+    ensures { OnOk result (text.new ≡ text.old ++ any_bar_text wide column sign.now sign.now.bar) }
 {
-    print_title(text, number, &sign.item)?;
-    print_bar(text, place, sign.row, sign.bar)?;
-    print_link(text, place, sign.row, sign.link)?;
-    print_front(text, number, place, sign)
+    match sign.bar {
+        Some(bar) => print_bar(text, wide, column, sign, bar),
+        None => Ok(()),
+    }
+}
+
+#[tactic(auto, unfolding(crate::specs::Marks::bar_text))]
+fn print_bar(
+    text: &mut Text,
+    wide: bool,
+    column: usize,
+    sign: &Sign,
+    bar: Bar,
+) -> Result<(), NoMemory>
+    ensures { OnOk result (text.new ≡ text.old ++ bar_text wide column sign.now bar) }
+{
+    let x = column_x(wide, column);
+    let width = column_x(wide, bar.to).saturating_sub(x) + 14;
+    print_title(text, kind_word(bar.kind), sign.number, &sign.item)?;
+    print_rect(text, x - 7, row_y(sign.row) - 11, width)?;
+    text.push(b"</g>\n")
 }
 
 /// Adds a bar that goes on from before the first sign, with the words of the item that opened it.
 #[tactic(auto, unfolding(crate::specs::Marks::earlier_bar_text))]
-pub fn print_earlier_bar(text: &mut Text, earlier: &EarlierBar) -> Result<(), NoMemory>
-    ensures { OnOk result (text.new ≡ text.old ++ earlier_bar_text earlier.now) }
+pub fn print_earlier_bar(text: &mut Text, wide: bool, earlier: &EarlierBar) -> Result<(), NoMemory>
+    ensures { OnOk result (text.new ≡ text.old ++ earlier_bar_text wide earlier.now) }
 {
-    print_opener(text, &earlier.opener)?;
-    print_onward(text, earlier.row, earlier.bar)?;
+    print_opener(text, kind_word(earlier.bar.kind), &earlier.opener)?;
+    print_rect(
+        text,
+        82,
+        row_y(earlier.row) - 11,
+        column_x(wide, earlier.bar.to) - 75,
+    )?;
     text.push(b"</g>\n")
 }
 
-fn print_opener(text: &mut Text, opener: &Item) -> Result<(), NoMemory>
-    ensures { OnOk result (text.new ≡ text.old ++ opener_text opener.now) }
+#[tactic(auto, unfolding(crate::specs::Marks::opener_text))]
+fn print_opener(text: &mut Text, class: &[u8], opener: &Item) -> Result<(), NoMemory>
+    ensures { OnOk result (text.new ≡ text.old ++ opener_text class.now opener.now) }
 {
-    text.push(b"<g><title>before: ")?;
+    text.push_between(b"<g class='", class, b"'><title>before: ")?;
     text.push_item(opener)?;
-    text.push(b"</title>")?;
-    Ok(())
+    text.push(b"</title>")
 }
 
-/// A bar from the left of the first sign on.
-fn print_onward(text: &mut Text, row: usize, bar: Bar) -> Result<(), NoMemory>
-    ensures { OnOk result (text.new ≡ text.old ++ onward_text row bar) }
-{
-    print_rect(
-        text,
-        kind_word(bar.kind),
-        48,
-        row_y(row) - 11,
-        place_x(bar.to) - 48,
-    )
-}
-
+/// Adds the start of a group of that class, with the number and the words of its item.
 #[tactic(auto, unfolding(crate::specs::Marks::title_text))]
-fn print_title(text: &mut Text, number: u64, item: &Item) -> Result<(), NoMemory>
-    ensures { OnOk result (text.new ≡ text.old ++ title_text number item.now) }
+fn print_title(text: &mut Text, class: &[u8], number: u64, item: &Item) -> Result<(), NoMemory>
+    ensures { OnOk result (text.new ≡ text.old ++ title_text class.now number item.now) }
 {
-    text.push_between(b"<g class='", class_of(item), b"'>")?;
-    text.push_field(b"<title>", number)?;
+    text.push_between(b"<g class='", class, b"'><title>")?;
+    text.push_number(number)?;
     text.push(b": ")?;
     text.push_item(item)?;
     text.push(b"</title>")
 }
 
-/// What is drawn over bars and arrows.
-#[tactic(auto, unfolding(crate::specs::Marks::front_text))]
-fn print_front(text: &mut Text, number: u64, place: usize, sign: &Sign) -> Result<(), NoMemory>
-    ensures { OnOk result (text.new ≡ text.old ++ front_text number place sign.now) }
+fn print_rect(text: &mut Text, x: u64, y: u64, width: u64) -> Result<(), NoMemory>
+    ensures { OnOk result (text.new ≡ text.old ++ rect_text x y width) }
 {
-    print_dot(text, place_x(place), row_y(sign.row), letter_of(&sign.item))?;
-    print_label(text, place_x(place), row_y(sign.row), &sign.item)?;
-    print_number(text, number, place)?;
-    text.push(b"</g>\n")
-}
-
-fn print_bar(text: &mut Text, place: usize, row: usize, bar: Option<Bar>) -> Result<(), NoMemory>
-    ensures { OnOk result (text.new ≡ text.old ++ bar_text place row bar) }
-{
-    match bar {
-        Some(bar) => print_rect(
-            text,
-            kind_word(bar.kind),
-            place_x(place),
-            row_y(row) - 11,
-            place_x(bar.to).saturating_sub(place_x(place)),
-        ),
-        None => Ok(()),
-    }
-}
-
-fn print_rect(text: &mut Text, class: &[u8], x: u64, y: u64, width: u64) -> Result<(), NoMemory>
-    ensures { OnOk result (text.new ≡ text.old ++ rect_text class.now x y width) }
-{
-    text.push_between(b"<rect class='", class, b"'")?;
-    text.push_two(b" x='", x, b"' y='", y)?;
+    text.push_two(b"<rect x='", x, b"' y='", y)?;
     text.push_field(b"' width='", width)?;
-    text.push(b"' height='22' rx='4'/>")?;
+    text.push(b"' height='22' rx='7'/>")?;
     Ok(())
 }
 
-#[tactic(auto, unfolding(crate::specs::Marks::link_text))]
-fn print_link(text: &mut Text, place: usize, row: usize, link: Option<Link>) -> Result<(), NoMemory>
-    ensures { OnOk result (text.new ≡ text.old ++ link_text place row link) }
+// ---- arrows
+
+/// Adds the arrow to the sign in the column from the one that shows it.
+pub fn print_any_arrow(
+    text: &mut Text,
+    wide: bool,
+    column: usize,
+    sign: &Sign,
+) -> Result<(), NoMemory>
+    ensures { OnOk result (text.new ≡ text.old ++ any_arrow_text wide column sign.now sign.now.link) }
 {
-    match link {
-        Some(link) => print_arrow(text, place, row, link),
+    match sign.link {
+        Some(link) => print_arrow(text, wide, column, sign, link),
         None => Ok(()),
     }
 }
 
-#[tactic(auto, unfolding(crate::specs::Marks::link_text))]
-fn print_arrow(text: &mut Text, place: usize, row: usize, link: Link) -> Result<(), NoMemory>
-    ensures { OnOk result (text.new ≡ text.old ++ link_text place row (Some link)) }
+#[tactic(auto, unfolding(crate::specs::Marks::arrow_text))]
+fn print_arrow(
+    text: &mut Text,
+    wide: bool,
+    column: usize,
+    sign: &Sign,
+    link: Link,
+) -> Result<(), NoMemory>
+    ensures { OnOk result (text.new ≡ text.old ++ arrow_text wide column sign.now link) }
 {
+    let far = 100 < column.saturating_sub(link.column);
+    text.push_between(
+        b"<path class='",
+        arrow_class(is_bad(glyph_of(&sign.item)), far),
+        b"' d='",
+    )?;
     print_curve(
         text,
-        place_x(link.place),
+        column_x(wide, link.column),
         row_y(link.row),
-        place_x(place),
-        row_y(row),
+        column_x(wide, column),
+        row_y(sign.row),
     )?;
-    text.push(end_of(link.place, place))
+    text.push(b"'/>\n")
+}
+
+fn is_bad(glyph: Glyph) -> bool
+    ensures { result ≡ is_bad glyph }
+{
+    match glyph {
+        Glyph::Refused => true,
+        _ => false,
+    }
+}
+
+/// To a refusal an arrow is red. One over more than a hundred columns is faint.
+fn arrow_class(bad: bool, far: bool) -> &'static [u8]
+    ensures { result.now ≡ arrow_class bad far }
+{
+    match (bad, far) {
+        (true, true) => b"bad far",
+        (true, false) => b"bad",
+        (false, true) => b"link far",
+        (false, false) => b"link",
+    }
 }
 
 /// A curve that leaves its sign across the lane, goes along beside the other lane, and comes to its sign across that. The point of
 /// its arrow stands on the straight part at the end.
 fn print_curve(text: &mut Text, x: u64, y: u64, to_x: u64, to_y: u64) -> Result<(), NoMemory>
-    requires lane { (66 ≤ to_y) × (to_y ≤ 1054) }
+    requires lane { (78 ≤ to_y) × (to_y ≤ 1066) }
     ensures { OnOk result (text.new ≡ text.old ++ curve_text x y to_x to_y) }
 {
     print_bent(
@@ -153,6 +194,7 @@ fn print_curve(text: &mut Text, x: u64, y: u64, to_x: u64, to_y: u64) -> Result<
     )
 }
 
+#[tactic(auto, unfolding(crate::specs::Marks::bent_text))]
 fn print_bent(
     text: &mut Text,
     x: u64,
@@ -164,82 +206,165 @@ fn print_bent(
 ) -> Result<(), NoMemory>
     ensures { OnOk result (text.new ≡ text.old ++ bent_text x y along near to_x to_y) }
 {
-    text.push_two(b"<path d='M", x, b" ", y)?;
+    text.push_two(b"M", x, b" ", y)?;
     text.push_two(b"C", x, b" ", along)?;
     text.push_two(b" ", to_x, b" ", along)?;
     text.push_two(b" ", to_x, b" ", near)?;
-    text.push_field(b"V", to_y)?;
-    Ok(())
+    text.push_field(b"V", to_y)
 }
 
 /// Beside the lane to which a curve goes, so far from it.
 fn beside(gap: u64, y: u64, to_y: u64) -> u64
-    requires { (gap ≤ 66) × (66 ≤ to_y) × (to_y ≤ 1054) }
+    requires { (gap ≤ 66) × (78 ≤ to_y) × (to_y ≤ 1066) }
     ensures { result ≡ beside gap y to_y }
 {
     if to_y < y { to_y + gap } else { to_y - gap }
 }
 
-/// The end of an arrow's words. One over more than a hundred places is faint.
-fn end_of(from: usize, to: usize) -> &'static [u8]
-    ensures { result.now ≡ end_text from to }
+// ---- signs
+
+/// Adds the sign in the column, over bars and arrows.
+#[tactic(auto, unfolding(crate::specs::Marks::sign_text))]
+pub fn print_sign(text: &mut Text, wide: bool, column: usize, sign: &Sign) -> Result<(), NoMemory>
+    ensures { OnOk result (text.new ≡ text.old ++ sign_text wide column sign.now) }
 {
-    if 100 < to.saturating_sub(from) {
-        b"' class='far'/>"
-    } else {
-        b"'/>"
+    let glyph = glyph_of(&sign.item);
+    let x = column_x(wide, column);
+    let y = row_y(sign.row);
+    print_title(text, class_of(glyph), sign.number, &sign.item)?;
+    print_ring(text, x, y, sign.ringed)?;
+    print_dot(text, x, y, glyph)?;
+    print_label(text, wide, x, y, &sign.item)?;
+    print_number(text, wide, x, sign.number)?;
+    text.push(b"</g>\n")
+}
+
+/// Adds a circle with a letter in it, or a dot.
+pub fn print_dot(text: &mut Text, x: u64, y: u64, glyph: Glyph) -> Result<(), NoMemory>
+    requires { y ≤ 2000 }
+    ensures { OnOk result (text.new ≡ text.old ++ dot_text x y glyph) }
+{
+    match glyph {
+        Glyph::Dot => print_circle(text, x, y, 3),
+        _ => print_letter(text, x, y, letter(glyph)),
     }
 }
 
-/// A circle with a letter in it.
-fn print_dot(text: &mut Text, x: u64, y: u64, letter: &[u8]) -> Result<(), NoMemory>
-    requires { y ≤ 1054 }
-    ensures { OnOk result (text.new ≡ text.old ++ dot_text x y letter.now) }
+#[tactic(auto, unfolding(crate::specs::Marks::letter_text))]
+fn print_letter(text: &mut Text, x: u64, y: u64, letter: &[u8]) -> Result<(), NoMemory>
+    requires { y ≤ 2000 }
+    ensures { OnOk result (text.new ≡ text.old ++ letter_text x y letter.now) }
 {
-    text.push_two(b"<circle cx='", x, b"' cy='", y)?;
-    text.push_two(b"' r='7'/><text x='", x, b"' y='", y + 4)?;
-    text.push_between(b"'>", letter, b"</text>")?;
+    print_circle(text, x, y, 7)?;
+    text.push_two(b"<text x='", x, b"' y='", y + 4)?;
+    text.push_between(b"'>", letter, b"</text>")
+}
+
+fn print_ring(text: &mut Text, x: u64, y: u64, ringed: bool) -> Result<(), NoMemory>
+    ensures { OnOk result (text.new ≡ text.old ++ any_ring_text x y ringed) }
+{
+    match ringed {
+        true => print_ring_at(text, x, y),
+        false => Ok(()),
+    }
+}
+
+fn print_ring_at(text: &mut Text, x: u64, y: u64) -> Result<(), NoMemory>
+    ensures { OnOk result (text.new ≡ text.old ++ ring_text x y) }
+{
+    text.push(b"<g class='ring'>")?;
+    print_circle(text, x, y, 13)?;
+    text.push(b"</g>")?;
     Ok(())
 }
 
-/// The label below a circle.
-#[tactic(auto, unfolding(crate::specs::Marks::label_text))]
-fn print_label(text: &mut Text, x: u64, y: u64, item: &Item) -> Result<(), NoMemory>
-    requires { y ≤ 1054 }
-    ensures { OnOk result (text.new ≡ text.old ++ label_text x y item.now) }
+fn print_circle(text: &mut Text, x: u64, y: u64, radius: u64) -> Result<(), NoMemory>
+    ensures { OnOk result (text.new ≡ text.old ++ circle_text x y radius) }
 {
-    text.push_two(b"<text class='n' x='", x, b"' y='", y + 20)?;
+    text.push_two(b"<circle cx='", x, b"' cy='", y)?;
+    text.push_field(b"' r='", radius)?;
+    text.push(b"'/>")?;
+    Ok(())
+}
+
+/// The label below a sign.
+#[tactic(auto, unfolding(crate::specs::Marks::label_text))]
+fn print_label(text: &mut Text, wide: bool, x: u64, y: u64, item: &Item) -> Result<(), NoMemory>
+    requires { y ≤ 1066 }
+    ensures { OnOk result (text.new ≡ text.old ++ label_text wide x y item.now) }
+{
+    text.push_two(b"<text class='n' x='", x, b"' y='", y + 21)?;
     text.push(b"'>")?;
-    print_words(text, item)?;
+    print_words(text, wide, item)?;
     text.push(b"</text>")
 }
 
-/// Each tenth sign has its number at the top.
+/// Each tenth item has its number at the top, in a wide picture each.
 #[tactic(auto, unfolding(crate::specs::Marks::number_text))]
-fn print_number(text: &mut Text, number: u64, place: usize) -> Result<(), NoMemory>
-    ensures { OnOk result (text.new ≡ text.old ++ number_text number place) }
+fn print_number(text: &mut Text, wide: bool, x: u64, number: u64) -> Result<(), NoMemory>
+    ensures { OnOk result (text.new ≡ text.old ++ number_text wide x number) }
 {
-    if number % 10 != 0 {
+    if !(wide || number % 10 == 0) {
         return Ok(());
     }
-    text.push_two(b"<text class='n' x='", place_x(place), b"' y='40'>", number)?;
+    text.push_two(b"<text class='n' x='", x, b"' y='56'>", number)?;
     text.push(b"</text>")
 }
 
-/// The number below a sign: a clock's time, a term, a stamp or a key.
-fn print_words(text: &mut Text, item: &Item) -> Result<(), NoMemory>
-    ensures { OnOk result (text.new ≡ text.old ++ label item.now) }
+/// The words below a sign: a clock's time, a term, a stamp or a key, and in a wide picture a value besides.
+fn print_words(text: &mut Text, wide: bool, item: &Item) -> Result<(), NoMemory>
+    ensures { OnOk result (text.new ≡ text.old ++ label wide item.now) }
 {
-    match *item {
-        Item::Tick { to } => text.push_number(to),
+    match item {
+        Item::Tick { to } => text.push_number(*to),
         Item::Take { term, .. } => text.push_field(b"t", term.value()),
-        Item::Draw { start, commit, .. } => text.push_number(drawn(start, commit)),
+        Item::Draw { start, commit, .. } => text.push_number(drawn(*start, *commit)),
         Item::Begin { start, .. } => text.push_number(start.value()),
         Item::Placed { commit, .. } => text.push_number(commit.value()),
-        Item::Write { key, .. } => text.push_field(b"k", key.value()),
-        Item::Read { key, .. } => text.push_field(b"k", key.value()),
+        Item::Write { key, value, .. } => print_written(text, wide, key.value(), value),
+        Item::Read { key, answer, .. } => print_answer(text, wide, key.value(), answer),
         _ => Ok(()),
     }
+}
+
+fn print_written(text: &mut Text, wide: bool, key: u64, value: &Value) -> Result<(), NoMemory>
+    ensures { OnOk result (text.new ≡ text.old ++ codes "k" ++ decimal key ++ value_text wide value.now) }
+{
+    text.push_field(b"k", key)?;
+    print_value(text, wide, value)
+}
+
+fn print_answer(
+    text: &mut Text,
+    wide: bool,
+    key: u64,
+    answer: &Option<Found>,
+) -> Result<(), NoMemory>
+    ensures { OnOk result (text.new ≡ text.old ++ codes "k" ++ decimal key ++ found_text wide answer.now) }
+{
+    text.push_field(b"k", key)?;
+    match answer {
+        Some(found) => print_value(text, wide, &found.value),
+        None => print_none(text, wide),
+    }
+}
+
+fn print_value(text: &mut Text, wide: bool, value: &Value) -> Result<(), NoMemory>
+    ensures { OnOk result (text.new ≡ text.old ++ value_text wide value.now) }
+{
+    if !wide {
+        return Ok(());
+    }
+    let bytes = value.as_slice();
+    let front = &bytes[..bytes.len().min(8)];
+    text.push(b" ")?;
+    text.push_escaped(front)
+}
+
+fn print_none(text: &mut Text, wide: bool) -> Result<(), NoMemory>
+    ensures { OnOk result (text.new ≡ text.old ++ found_text wide None) }
+{
+    if wide { text.push(b" none") } else { Ok(()) }
 }
 
 /// The stamp that was drawn: a start, or the commit of one.
@@ -249,60 +374,5 @@ fn drawn(start: Stamp, commit: Option<Stamp>) -> u64
     match commit {
         Some(commit) => commit.value(),
         None => start.value(),
-    }
-}
-
-fn kind_word(kind: BarKind) -> &'static [u8]
-    ensures { result.now ≡ kind_text kind }
-{
-    match kind {
-        BarKind::Committed => b"committed",
-        BarKind::Refused => b"refused",
-        BarKind::Aborted => b"aborted",
-        BarKind::Dead => b"dead",
-        BarKind::Open => b"open",
-        BarKind::Lease => b"lease",
-    }
-}
-
-fn letter_of(item: &Item) -> &'static [u8]
-    ensures { result.now ≡ letter item.now }
-{
-    match item {
-        Item::Tick { .. } => b"t",
-        Item::Note { .. } => b"n",
-        Item::Take { .. } => b"T",
-        Item::Renew { .. } => b"N",
-        Item::Extend { .. } => b"E",
-        Item::AskBegin { .. } => b"b",
-        Item::AskCommit { .. } => b"c",
-        Item::Accept { .. } => b"a",
-        Item::Draw { .. } => b"d",
-        Item::Begin { .. } => b"B",
-        Item::Write { .. } => b"W",
-        Item::Read { .. } => b"R",
-        Item::Placed { .. } => b"P",
-        Item::Committed { .. } => b"C",
-        Item::Mark { .. } => b"M",
-        Item::Step { .. } => b"s",
-        Item::End { .. } => b"D",
-        Item::Refused { .. } => b"!",
-        Item::Fault { .. } => b"F",
-        Item::Crash { .. } => b"X",
-        Item::Vanish { .. } => b"V",
-    }
-}
-
-fn class_of(item: &Item) -> &'static [u8]
-    ensures { result.now ≡ class_text item.now }
-{
-    match item {
-        Item::Take { .. } | Item::Renew { .. } | Item::Extend { .. } => b"grant",
-        Item::Begin { .. } | Item::Write { .. } | Item::Read { .. } | Item::End { .. } => b"own",
-        Item::Placed { .. } | Item::Committed { .. } => b"done",
-        Item::Refused { .. } | Item::Fault { .. } | Item::Crash { .. } | Item::Vanish { .. } =>
-            b"bad",
-        Item::Mark { .. } => b"mark",
-        _ => b"step",
     }
 }

@@ -1,150 +1,224 @@
-// The page of a picture: its head and style, and its legend.
-ghost use Rattle.std.specs.Prelude.{◌≡◌, ◌+◌, ◌≤◌, ◌++◌, OnOk, codes};
-ghost use Rattle.history_view.specs.Page.{arrow_text, bars_text, circles_text, ends_text, key_text, keys_text, legend_text, night_text, open_text, page_height, page_width, style_text};
+// The page of a picture: its head and caption, and its legend.
+ghost use Rattle.std.specs.Prelude.{◌≡◌, ◌+◌, ◌-◌, ◌≤◌, ◌<◌, ◌++◌, ◌^◌, ◌*◌, OnOk};
+ghost use Rattle.history_view.specs.Page.{bar_key_text, caption_text, frame_text, ground_text, head_text, key_sign_text, key_text, key_words, key_x, left_out, left_text, legend_text, legends_text, open_text, page_height, page_width, sign_key_text, sized_head_text, words_text};
+ghost use Rattle.history_view.specs.Style.{style_text};
 
-use crate::marks::{place_x, row_y};
+use crate::glyph::{Glyph, Key, class_of, kind_word, meaning};
+use crate::marks::{column_x, print_dot, row_y};
+use crate::picture::Frame;
+use crate::style::STYLE;
 use crate::text::Text;
 use stamp_base::NoMemory;
 
-/// How wide the page of so many signs is.
-pub fn page_width(count: usize) -> u64
-    ensures { result ≡ page_width count }
+/// How wide the page of so many signs is, with so many keys in its legend.
+pub fn page_width(wide: bool, count: usize, keys: usize) -> u64
+    ensures { result ≡ page_width wide count keys }
 {
-    (place_x(count) + 30).max(900)
+    (column_x(wide, count) + 30)
+        .max(480)
+        .max(24 + 104 * keys.min(64) as u64)
 }
 
 /// How high the page of so many lanes is.
 pub fn page_height(rows: usize) -> u64
     ensures { result ≡ page_height rows }
 {
-    row_y(rows) + 70
+    row_y(rows) + 40
 }
 
-/// Adds what stands before the lanes.
-pub fn print_head(text: &mut Text, width: u64, height: u64) -> Result<(), NoMemory>
-    ensures { OnOk result (text.new ≡ text.old ++ (open_text width height ++ style_text ++ keys_text)) }
+/// Adds what stands before the lanes, on a page of so many signs, lanes and keys in its legend.
+pub fn print_head(
+    text: &mut Text,
+    frame: &Frame,
+    caption: &[u8],
+    shown: usize,
+    rows: usize,
+    keys: usize,
+) -> Result<(), NoMemory>
+    requires { frame.now.last < 2 ^ 63 }
+    ensures { OnOk result (text.new ≡ text.old ++ head_text frame.now caption.now shown rows keys) }
+{
+    let width = page_width(frame.wide, shown, keys);
+    print_sized_head(text, frame, caption, width, page_height(rows), shown)
+}
+
+fn print_sized_head(
+    text: &mut Text,
+    frame: &Frame,
+    caption: &[u8],
+    width: u64,
+    height: u64,
+    shown: usize,
+) -> Result<(), NoMemory>
+    requires { frame.now.last < 2 ^ 63 }
+    ensures { OnOk result (text.new ≡ text.old ++ sized_head_text frame.now caption.now width height shown) }
 {
     print_open(text, width, height)?;
-    print_style(text)?;
-    print_keys(text)
-}
-
-fn print_style(text: &mut Text) -> Result<(), NoMemory>
-    ensures { OnOk result (text.new ≡ text.old ++ style_text) }
-{
-    print_bars(text)?;
-    print_circles(text)?;
-    print_night(text)?;
-    print_arrow(text)
+    text.push(STYLE.as_bytes())?;
+    print_ground(text, width, height)?;
+    print_caption(text, caption)?;
+    print_frame(text, frame, left_out(frame, shown))
 }
 
 fn print_open(text: &mut Text, width: u64, height: u64) -> Result<(), NoMemory>
     ensures { OnOk result (text.new ≡ text.old ++ open_text width height) }
 {
-    text.push_field(b"<svg xmlns='http://www.w3.org/2000/svg' width='", width)?;
-    text.push_field(b"' height='", height)?;
+    text.push_two(
+        b"<svg xmlns='http://www.w3.org/2000/svg' width='",
+        width,
+        b"' height='",
+        height,
+    )?;
+    text.push_two(b"' viewBox='0 0 ", width, b" ", height)?;
     text.push(b"' font-family='sans-serif' font-size='11' text-anchor='middle'>\n")?;
     Ok(())
 }
 
-/// The colours of bars, by day.
-fn print_bars(text: &mut Text) -> Result<(), NoMemory>
-    ensures { OnOk result (text.new ≡ text.old ++ bars_text) }
+#[tactic(auto, unfolding(crate::specs::Page::ground_text))]
+fn print_ground(text: &mut Text, width: u64, height: u64) -> Result<(), NoMemory>
+    ensures { OnOk result (text.new ≡ text.old ++ ground_text width height) }
 {
-    text.push(
-        b"<style>svg{background:#fff;fill:#222}.committed{fill:#cfe8cf}.refused{fill:#f4c7c3}.aborted{fill:#e3e3e3}\n",
-    )?;
-    text.push(
-        b".dead{fill:#d9c3ea}.open{fill:#fbe7b5}.lease{fill:#cfdff5}line{stroke:#ddd}path{fill:none;stroke:#889;opacity:.8}\n",
-    )?;
+    text.push_two(b"<rect class='page' width='", width, b"' height='", height)?;
+    text.push(b"'/>\n")
+}
+
+#[tactic(auto, unfolding(crate::specs::Page::caption_text))]
+fn print_caption(text: &mut Text, caption: &[u8]) -> Result<(), NoMemory>
+    ensures { OnOk result (text.new ≡ text.old ++ caption_text caption.now) }
+{
+    text.push(b"<text class='caption' x='12' y='20'>")?;
+    text.push_escaped(caption)?;
+    text.push(b"</text>\n")
+}
+
+/// Which items the picture shows, and how many of them it leaves out.
+fn print_frame(text: &mut Text, frame: &Frame, left: u64) -> Result<(), NoMemory>
+    ensures { OnOk result (text.new ≡ text.old ++ frame_text frame.now left) }
+{
+    text.push_field(b"<text class='lane n' x='12' y='36'>items ", frame.first)?;
+    text.push_two(b" to ", frame.last, b" of ", frame.total)?;
+    print_left(text, left)?;
+    text.push(b"</text>\n")?;
     Ok(())
 }
 
-/// The colours of signs.
-#[tactic(auto, unfolding(crate::specs::Page::circles_text))]
-fn print_circles(text: &mut Text) -> Result<(), NoMemory>
-    ensures { OnOk result (text.new ≡ text.old ++ circles_text) }
+fn left_out(frame: &Frame, shown: usize) -> u64
+    requires { frame.now.last < 2 ^ 63 }
+    ensures { result ≡ left_out frame.now shown }
 {
-    text.push(
-        b"circle{fill:#999}.own circle{fill:#24598f}.done circle{fill:#1f7a33}.grant circle{fill:#6a4a9c}.bad circle{fill:#c0281f}\n",
-    )?;
-    text.push(
-        b".mark circle{fill:#b05f00}circle+text{fill:#fff}.bad path{stroke:#c0281f}.lane{text-anchor:start;font-weight:bold}\n",
-    )
+    (frame.last + 1)
+        .saturating_sub(frame.first)
+        .saturating_sub(shown as u64)
 }
 
-/// Colours by night, where the reader has set so.
-fn print_night(text: &mut Text) -> Result<(), NoMemory>
-    ensures { OnOk result (text.new ≡ text.old ++ night_text) }
+#[tactic(auto, unfolding(crate::specs::Page::left_text))]
+fn print_left(text: &mut Text, left: u64) -> Result<(), NoMemory>
+    ensures { OnOk result (text.new ≡ text.old ++ left_text left) }
 {
-    text.push(
-        b".n{font-size:8px}.again{font-size:8px;fill:#777}.far{opacity:.2}@media(prefers-color-scheme:dark){svg{background:#16181d;fill:#ddd}line{stroke:#333}\n",
-    )?;
-    text.push(
-        b".committed{fill:#23462a}.refused{fill:#5c2622}.aborted{fill:#3c3c3c}.dead{fill:#43305a}.open{fill:#574715}.lease{fill:#22375a}}\n",
-    )?;
+    if left == 0 {
+        return Ok(());
+    }
+    text.push_field(b", ", left)?;
+    text.push(b" of them left out")
+}
+
+// ---- the legend
+
+/// Adds the legend at that height: at the left, and again behind each two hundred columns, so many times.
+#[tactic(auto, unfolding(crate::specs::Page::legends_text))]
+pub fn print_legends(
+    text: &mut Text,
+    wide: bool,
+    y: u64,
+    keys: &[Key],
+    times: usize,
+) -> Result<(), NoMemory>
+    requires height { (7 ≤ y) × (y ≤ 1500) }
+    requires few { 200 * times ≤ 2 ^ 64 + 199 }
+    ensures { OnOk result (text.new ≡ text.old ++ legends_text wide y keys.now times) }
+{
+    for number in 0..times {
+        print_legend(text, column_x(wide, 200 * number) - 72, y, keys)?;
+    }
     Ok(())
 }
 
-/// The tip of the arrows.
-#[tactic(auto, unfolding(crate::specs::Page::arrow_text))]
-fn print_arrow(text: &mut Text) -> Result<(), NoMemory>
-    ensures { OnOk result (text.new ≡ text.old ++ arrow_text) }
+#[tactic(auto, unfolding(crate::specs::Words::each_text))]
+fn print_legend(text: &mut Text, base: u64, y: u64, keys: &[Key]) -> Result<(), NoMemory>
+    requires left { (24 ≤ base) × (base ≤ 40000) }
+    requires height { (7 ≤ y) × (y ≤ 1500) }
+    ensures { OnOk result (text.new ≡ text.old ++ legend_text base y keys.now) }
 {
-    text.push(
-        b"path{marker-end:url(#tip)}marker path{fill:#889;stroke:none;marker-end:none}</style>\n",
-    )?;
-    text.push(
-        b"<defs><marker id='tip' viewBox='0 0 8 8' refX='15' refY='4' markerWidth='7' markerHeight='7' orient='auto'>",
-    )?;
-    text.push(b"<path d='M0 0L8 4L0 8z'/></marker></defs>\n")
-}
-
-/// What the colours of bars mean.
-fn print_keys(text: &mut Text) -> Result<(), NoMemory>
-    ensures { OnOk result (text.new ≡ text.old ++ keys_text) }
-{
-    print_ends(text)?;
-    print_key(text, 490, b"open", b"open or left")?;
-    print_key(text, 610, b"lease", b"lease of a term, by the base clock")
-}
-
-fn print_ends(text: &mut Text) -> Result<(), NoMemory>
-    ensures { OnOk result (text.new ≡ text.old ++ ends_text) }
-{
-    print_key(text, 60, b"committed", b"committed or read-only")?;
-    print_key(text, 240, b"refused", b"refused")?;
-    print_key(text, 330, b"aborted", b"aborted")?;
-    print_key(text, 420, b"dead", b"dead")
-}
-
-fn print_key(text: &mut Text, x: u64, kind: &[u8], words: &[u8]) -> Result<(), NoMemory>
-    requires { x ≤ 1000 }
-    ensures { OnOk result (text.new ≡ text.old ++ key_text x kind.now words.now) }
-{
-    text.push_between(b"<rect class='", kind, b"'")?;
-    text.push_two(
-        b" x='",
-        x,
-        b"' y='8' width='14' height='14' rx='3'/><text class='lane' x='",
-        x + 18,
-    )?;
-    text.push_between(b"' y='19'>", words, b"</text>\n")?;
+    for number in 0..keys.len() {
+        print_key(text, base, y, number, &keys[number])?;
+    }
     Ok(())
 }
 
-/// Adds what stands behind the signs: what the letters mean.
-#[tactic(auto, unfolding(crate::specs::Page::legend_text))]
-pub fn print_legend(text: &mut Text, y: u64) -> Result<(), NoMemory>
-    requires { y ≤ 2000 }
-    ensures { OnOk result (text.new ≡ text.old ++ legend_text y) }
+/// The sign and the words of a key, in its place in the line.
+fn print_key(text: &mut Text, base: u64, y: u64, number: usize, key: &Key) -> Result<(), NoMemory>
+    requires left { (24 ≤ base) × (base ≤ 40000) }
+    requires height { (7 ≤ y) × (y ≤ 1500) }
+    ensures { OnOk result (text.new ≡ text.old ++ key_text base y number key.now) }
 {
-    text.push_field(b"<text class='lane' x='4' y='", y)?;
-    text.push(
-        b"'>b asks to begin, c to commit, a accept, d draw, B begin, W write, R read, P placed, C committed, D ended otherwise, s step, n note",
-    )?;
-    text.push_field(b"</text><text class='lane' x='4' y='", y + 18)?;
-    text.push(
-        b"'>T take, N renew, E extend, t tick, M mark, ! refused, F fault, X crash, V vanish. Arrows lead from what shows a read or a refusal.</text></svg>\n",
-    )
+    let x = key_x(base, number);
+    print_key_sign(text, x, y, *key)?;
+    print_key_words(text, x, y, words_of(*key))
+}
+
+fn key_x(base: u64, number: usize) -> u64
+    requires { base ≤ 40000 }
+    ensures x { result ≡ key_x base number }
+    ensures within { (base ≤ result) × (result ≤ 150000) }
+{
+    base + 104 * number.min(64) as u64
+}
+
+fn print_key_sign(text: &mut Text, x: u64, y: u64, key: Key) -> Result<(), NoMemory>
+    requires { (9 ≤ x) × (7 ≤ y) × (y ≤ 1500) }
+    ensures { OnOk result (text.new ≡ text.old ++ key_sign_text x y key) }
+{
+    match key {
+        Key::Bar(kind) => print_bar_key(text, x, y, kind_word(kind)),
+        Key::Sign(glyph) => print_sign_key(text, x, y, glyph),
+    }
+}
+
+fn print_bar_key(text: &mut Text, x: u64, y: u64, class: &[u8]) -> Result<(), NoMemory>
+    requires { (9 ≤ x) × (7 ≤ y) }
+    ensures { OnOk result (text.new ≡ text.old ++ bar_key_text x y class.now) }
+{
+    text.push_between(b"<g class='", class, b"'>")?;
+    text.push_two(b"<rect x='", x - 9, b"' y='", y - 7)?;
+    text.push(b"' width='18' height='14' rx='5'/></g>")?;
+    Ok(())
+}
+
+#[tactic(auto, unfolding(crate::specs::Page::sign_key_text))]
+fn print_sign_key(text: &mut Text, x: u64, y: u64, glyph: Glyph) -> Result<(), NoMemory>
+    requires { y ≤ 1500 }
+    ensures { OnOk result (text.new ≡ text.old ++ key_sign_text x y (Key.Sign glyph)) }
+{
+    text.push_between(b"<g class='", class_of(glyph), b"'>")?;
+    print_dot(text, x, y, glyph)?;
+    text.push(b"</g>")
+}
+
+fn print_key_words(text: &mut Text, x: u64, y: u64, words: &[u8]) -> Result<(), NoMemory>
+    requires { (x ≤ 150000) × (y ≤ 1500) }
+    ensures { OnOk result (text.new ≡ text.old ++ words_text x y words.now) }
+{
+    text.push_two(b"<text class='lane n' x='", x + 13, b"' y='", y + 4)?;
+    text.push_between(b"'>", words, b"</text>\n")?;
+    Ok(())
+}
+
+/// What the legend says of a key.
+fn words_of(key: Key) -> &'static [u8]
+    ensures { result.now ≡ key_words key }
+{
+    match key {
+        Key::Bar(kind) => kind_word(kind),
+        Key::Sign(glyph) => meaning(glyph),
+    }
 }

@@ -1,53 +1,136 @@
 // The whole picture.
-ghost use Rattle.std.specs.Prelude.{◌≡◌, ◌+◌, ◌-◌, ◌^◌, ◌≤◌, ◌++◌, IfOk, OnOk, length};
-ghost use Rattle.history_view.specs.Page.{earlier_text, picture_text, signs_text};
+ghost use Rattle.std.specs.Prelude.{◌≡◌, ◌+◌, ◌/◌, ◌^◌, ◌<◌, ◌++◌, IfOk, OnOk, length};
+ghost use Rattle.history_view.specs.Marks.{row_y};
+ghost use Rattle.history_view.specs.Page.{arrows_text, bars_text, body_text, earlier_text, legends_text, page_text, page_width, picture_text, signs_text};
 
-use crate::lanes::print_lines;
-use crate::marks::{print_earlier_bar, print_sign, row_y};
-use crate::page::{page_height, page_width, print_head, print_legend};
+use crate::earlier::EarlierBar;
+use crate::glyph::{Key, keys_of};
+use crate::lane_lines::print_lines;
+use crate::marks::{print_any_arrow, print_any_bar, print_earlier_bar, print_sign, row_y};
+use crate::page::{page_width, print_head, print_legends};
+use crate::sign::Sign;
 use crate::text::Text;
-use history_lanes::{EarlierBar, Sign};
 use stamp_base::NoMemory;
 use std::alloc::Global;
 
-/// The picture of the signs in these lanes, as one document of SVG. The item of the first sign has this number; the earlier bars
-/// go on from items before it.
+/// What a picture is of.
+#[derive(Clone, Copy)]
+pub struct Frame {
+    /// Columns stand far apart, with room for values.
+    pub wide: bool,
+    /// The numbers of the first and the last item that it is of, counted from 1.
+    pub first: u64,
+    pub last: u64,
+    /// How many items the history has.
+    pub total: u64,
+}
+
+/// The picture of the signs in these lanes, as one document of SVG, below its caption. Those items of the frame that have no sign are
+/// counted as left out. The earlier bars go on from items before the first sign.
 pub fn print_picture(
     alloc: Global,
+    frame: &Frame,
+    caption: &[u8],
     lanes: &[usize],
     earlier: &[EarlierBar],
-    first: u64,
     signs: &[Sign],
 ) -> Result<Text, NoMemory>
-    requires { first + length signs.now ≤ 2 ^ 64 - 1 }
-    ensures { IfOk result (λ text. text ≡ picture_text lanes.now earlier.now first signs.now) }
+    requires { frame.now.last < 2 ^ 63 }
+    ensures { IfOk result (λ text. text ≡ picture_text frame.now caption.now lanes.now earlier.now signs.now) }
 {
+    let keys = keys_of(alloc, earlier, signs)?;
     let mut text = Text::new(alloc);
-    let width = page_width(signs.len());
-    print_head(&mut text, width, page_height(lanes.len()))?;
-    print_lines(&mut text, signs.len(), lanes)?;
-    print_earlier(&mut text, earlier)?;
-    print_signs(&mut text, first, signs)?;
-    print_legend(&mut text, row_y(lanes.len()) + 20)?;
+    print_page(&mut text, frame, caption, lanes, earlier, signs, &keys)?;
     Ok(text)
 }
 
-fn print_earlier(text: &mut Text, bars: &[EarlierBar]) -> Result<(), NoMemory>
-    ensures { OnOk result (text.new ≡ text.old ++ earlier_text bars.now) }
+fn print_page(
+    text: &mut Text,
+    frame: &Frame,
+    caption: &[u8],
+    lanes: &[usize],
+    earlier: &[EarlierBar],
+    signs: &[Sign],
+    keys: &[Key],
+) -> Result<(), NoMemory>
+    requires { frame.now.last < 2 ^ 63 }
+    ensures { OnOk result (text.new ≡ text.old ++ page_text frame.now caption.now lanes.now earlier.now signs.now keys.now) }
+{
+    print_head(text, frame, caption, signs.len(), lanes.len(), keys.len())?;
+    print_body(text, frame, keys.len(), lanes, earlier, signs)?;
+    print_foot(text, frame.wide, signs.len(), lanes.len(), keys)?;
+    text.push(b"</svg>\n")?;
+    Ok(())
+}
+
+/// Adds the legends below so many lanes, along so many signs.
+fn print_foot(
+    text: &mut Text,
+    wide: bool,
+    count: usize,
+    rows: usize,
+    keys: &[Key],
+) -> Result<(), NoMemory>
+    ensures { OnOk result (text.new ≡ text.old ++ legends_text wide (row_y rows + 16) keys.now (count / 200 + 1)) }
+{
+    print_legends(text, wide, row_y(rows) + 16, keys, count / 200 + 1)
+}
+
+/// Adds the lanes, and in three layers what stands in them.
+fn print_body(
+    text: &mut Text,
+    frame: &Frame,
+    keys: usize,
+    lanes: &[usize],
+    earlier: &[EarlierBar],
+    signs: &[Sign],
+) -> Result<(), NoMemory>
+    ensures { OnOk result (text.new ≡ text.old ++ body_text frame.now (page_width frame.now.wide (length signs.now) keys) lanes.now earlier.now signs.now) }
+{
+    let wide = frame.wide;
+    let width = page_width(wide, signs.len(), keys);
+    print_lines(text, wide, width, signs.len(), lanes)?;
+    print_earlier(text, wide, earlier)?;
+    print_bars(text, wide, signs)?;
+    print_arrows(text, wide, signs)?;
+    print_signs(text, wide, signs)
+}
+
+fn print_earlier(text: &mut Text, wide: bool, bars: &[EarlierBar]) -> Result<(), NoMemory>
+    ensures { OnOk result (text.new ≡ text.old ++ earlier_text wide bars.now) }
 {
     for bar in bars {
-        print_earlier_bar(text, bar)?;
+        print_earlier_bar(text, wide, bar)?;
     }
     Ok(())
 }
 
-#[tactic(auto, unfolding(crate::specs::Page::signs_text))]
-fn print_signs(text: &mut Text, first: u64, signs: &[Sign]) -> Result<(), NoMemory>
-    requires { first + length signs.now ≤ 2 ^ 64 - 1 }
-    ensures { OnOk result (text.new ≡ text.old ++ signs_text first 0 signs.now) }
+#[tactic(auto, unfolding(crate::specs::Words::each_text))]
+fn print_bars(text: &mut Text, wide: bool, signs: &[Sign]) -> Result<(), NoMemory>
+    ensures { OnOk result (text.new ≡ text.old ++ bars_text wide signs.now) }
 {
-    for place in 0..signs.len() {
-        print_sign(text, first + place as u64, place, &signs[place])?;
+    for column in 0..signs.len() {
+        print_any_bar(text, wide, column, &signs[column])?;
+    }
+    Ok(())
+}
+
+#[tactic(auto, unfolding(crate::specs::Words::each_text))]
+fn print_arrows(text: &mut Text, wide: bool, signs: &[Sign]) -> Result<(), NoMemory>
+    ensures { OnOk result (text.new ≡ text.old ++ arrows_text wide signs.now) }
+{
+    for column in 0..signs.len() {
+        print_any_arrow(text, wide, column, &signs[column])?;
+    }
+    Ok(())
+}
+
+#[tactic(auto, unfolding(crate::specs::Words::each_text))]
+fn print_signs(text: &mut Text, wide: bool, signs: &[Sign]) -> Result<(), NoMemory>
+    ensures { OnOk result (text.new ≡ text.old ++ signs_text wide signs.now) }
+{
+    for column in 0..signs.len() {
+        print_sign(text, wide, column, &signs[column])?;
     }
     Ok(())
 }

@@ -103,7 +103,7 @@ impl Text {
     }
 
     /// Adds words, as they stand in XML.
-    fn push_escaped(&mut self, words: &[u8]) -> Result<(), NoMemory>
+    pub fn push_escaped(&mut self, words: &[u8]) -> Result<(), NoMemory>
         ensures { OnOk result (self.new ≡ self.old ++ escaped words.now) }
     {
         for byte in words {

@@ -9,8 +9,8 @@ use Rattle.history_json.specs.History.{AreItems, IsFirstBad}
 use Rattle.history_json.proofs.OneHistory.{too_long_is_bad}
 use Rattle.omid_view.proofs.WordLemmas.{one_command}
 use Rattle.omid_view.specs.declared.command.Command.{Command}
-use Rattle.omid_view.specs.declared.command.Command.TheVariants.{Picture, Explain}
-use Rattle.omid_view.specs.Views.{GainsFront, IsEnd, IsTold, Makes, Names, Shown, ShownFront, ShownFrontOf, ShownOf, Views, bad_line_text}
+use Rattle.omid_view.specs.declared.command.Command.TheVariants.{Breach, Explain, Picture}
+use Rattle.omid_view.specs.Views.{GainsFront, IsEnd, IsTold, Judges, Makes, Names, Shown, ShownFront, ShownFrontOf, ShownOf, Views, bad_line_text}
 
 -- ---- statuses
 pub view_codes : (code : ℕ) → IsTold code ⊎ (code ≡ 5) ⊎ (code ≡ 6) → IsTold code ⊎ (4 ≤ code) × (code ≤ 6)
@@ -56,9 +56,10 @@ views_silently command code left rest held now low high whole = record {
 }
 
 -- ---- what was made of items, or names the first bad line, was written
-pub judged_is_explain : (command : Command) (items : List Item) (code : ℕ) (text : List ℕ) → Makes command items code text → code ≡ 7 → command ≡ Explain
-judged_is_explain (Picture from to) items code text made seven = absurd (omega (arith, made.0, seven))
-judged_is_explain Explain items code text made seven = refl
+pub seven_judges : (command : Command) (items : List Item) (code : ℕ) (text : List ℕ) → Makes command items code text → code ≡ 7 → Judges command
+seven_judges (Picture from to brief) items code text made seven = absurd (omega (arith, made.0, seven))
+seven_judges (Breach strict) items code text made seven = tt
+seven_judges (Explain strict) items code text made seven = tt
 
 -- a status of bytes that were told is one of items, or names a line
 pub end_of_told : (code : ℕ) → IsEnd code ⊎ (code ≡ 5) ⊎ (code ≡ 6) → IsTold code → IsEnd code
@@ -75,10 +76,10 @@ pub front_of_items : (command : Command) (bytes : List ℕ) (items : List Item) 
 front_of_items command bytes items held now read it =
     record { text = it.text; code = it.code; right = inl (record { items = items; read = read; made = it.made }); told = it.told }
 
-pub items_judged : (command : Command) (items : List Item) (code : ℕ) (held now : Option (List ℕ)) → (IsEnd code → ShownOf command items code held now) → code ≡ 7 → command ≡ Explain
+pub items_judged : (command : Command) (items : List Item) (code : ℕ) (held now : Option (List ℕ)) → (IsEnd code → ShownOf command items code held now) → code ≡ 7 → Judges command
 items_judged command items code held now shown seven =
     let it = shown (inr seven) in
-    judged_is_explain command items code it.text it.made seven
+    seven_judges command items code it.text it.made seven
 
 pub bad_shown : (command : Command) (bytes : List ℕ) (line code : ℕ) (held now : Option (List ℕ)) → IsFirstBad bytes line → (code ≡ 3) ⊎ (code ≡ 5) → (code ≡ 3 → Gains held now (bad_line_text line)) → IsTold code → Shown command bytes code held now
 bad_shown command bytes line code held now bad codes named told =

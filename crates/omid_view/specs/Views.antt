@@ -1,20 +1,24 @@
 -- What the program writes for a history, by its command. A source had `left` left and has `rest`; a sink held `held` and holds
 -- `now`. Where one does not tell its content, what is said of content says nothing.
-use Rattle.std.specs.Prelude.{◌≡◌, ◌≢◌, ℕ, ◌+◌, ◌-◌, ◌≤◌, List, [], ◌∷◌, ◌++◌, ◌⊎◌, Option, IfSome, length, take, drop, min, codes, decimal}
+use Rattle.std.specs.Prelude.{◌≡◌, ◌≢◌, ℕ, ◌+◌, ◌-◌, ◌≤◌, Bool, true, false, List, [], ◌∷◌, ◌++◌, ◌⊎◌, Option, IfSome, length, take, min, codes, decimal}
 use Rattle.port_io.specs.Ports.{Gains, IsAtEnd}
 use Rattle.history_book.specs.declared.item.Item.{Item}
 use Rattle.history_json.specs.History.{AreItems, IsFirstBad}
-use Rattle.history_lanes.specs.declared.sign.Sign.{Sign}
-use Rattle.history_lanes.specs.Earlier.{earlier_bars}
-use Rattle.history_lanes.specs.Lanes.{lanes_for}
-use Rattle.history_lanes.specs.Signs.{AreSigns}
+use Rattle.history_view.specs.declared.chosen.Chosen.{Chosen}
+use Rattle.history_view.specs.declared.picture.Frame.{Frame}
+use Rattle.history_view.specs.declared.sign.Sign.{Sign}
+use Rattle.history_view.specs.Chosen.{chosen_in}
+use Rattle.history_view.specs.Earlier.{earlier_bars}
+use Rattle.history_view.specs.Lanes.{lanes_for}
+use Rattle.history_view.specs.Signs.{AreSigns}
 use Rattle.history_view.specs.Page.{picture_text}
-use Rattle.isolation_rules.specs.Judged.{IsJudged}
-use Rattle.isolation_rules.specs.declared.verdict.Verdict.{Verdict}
 use Rattle.refusal_reasons.specs.Words.{explanations}
-use Rattle.omid_view.specs.Breaches.{breach_text, verdict_status}
+use Rattle.breach_reasons.specs.declared.finding.Finding.{Finding}
+use Rattle.breach_reasons.specs.Breaches.{breach_text}
+use Rattle.breach_reasons.specs.Concerned.{breach_items, ringed}
+use Rattle.breach_reasons.specs.Findings.{IsFound, finding_line, finding_status}
 use Rattle.omid_view.specs.declared.command.Command.{Command}
-use Rattle.omid_view.specs.declared.command.Command.TheVariants.{Picture, Explain}
+use Rattle.omid_view.specs.declared.command.Command.TheVariants.{Breach, Picture, Explain}
 
 -- ---- the words of a command
 -- a picture's items have numbers, from 1 on
@@ -23,66 +27,117 @@ IsInRange from to = (1 ≤ from) × (to ≤ 16777216) × (from ≤ to)
 
 -- a picture has such items
 abbrev pub IsSound : Command → Type 0
-IsSound (Picture from to) = IsInRange from to
-IsSound Explain = Unit {0}
+IsSound (Picture from to brief) = IsInRange from to
+IsSound _ = Unit {0}
+
+-- the word behind it that asks for a brief picture, or for serial order too
+abbrev pub if_so : Bool → List ℕ → List (List ℕ)
+if_so true word = word ∷ []
+if_so false word = []
 
 -- the picture of all items, of the first 2,000
-abbrev pub IsWhole : List (List ℕ) → Type 0
-IsWhole words = words ≡ codes "picture" ∷ []
+abbrev pub IsWhole : Bool → List (List ℕ) → Type 0
+IsWhole brief words = words ≡ codes "picture" ∷ if_so brief (codes "brief")
 
 -- the picture of those from one number to another, in decimal with no zero before it
-pub record IsPart (from to : ℕ) (words : List (List ℕ)) : Type 0 where
-  pub named : words ≡ codes "picture" ∷ decimal from ∷ decimal to ∷ []
+pub record IsPart (from to : ℕ) (brief : Bool) (words : List (List ℕ)) : Type 0 where
+  pub named : words ≡ codes "picture" ∷ (if_so brief (codes "brief") ++ decimal from ∷ decimal to ∷ [])
   pub range : IsInRange from to
 
 abbrev pub IsAnyPart : List (List ℕ) → Type 0
-IsAnyPart words = (from : ℕ) × ((to : ℕ) × IsPart from to words)
+IsAnyPart words = (from : ℕ) × ((to : ℕ) × ((brief : Bool) × IsPart from to brief words))
 
-abbrev pub IsExplain : List (List ℕ) → Type 0
-IsExplain words = words ≡ codes "explain" ∷ []
+abbrev pub IsBreach : Bool → List (List ℕ) → Type 0
+IsBreach strict words = words ≡ codes "breach" ∷ if_so strict (codes "strict")
+
+abbrev pub IsExplain : Bool → List (List ℕ) → Type 0
+IsExplain strict words = words ≡ codes "explain" ∷ if_so strict (codes "strict")
+
+abbrev pub Names : Command → List (List ℕ) → Type 0
+Names (Picture from to brief) words = (IsWhole brief words × (from ≡ 1) × (to ≡ 2000)) ⊎ IsPart from to brief words
+Names (Breach strict) words = IsBreach strict words
+Names (Explain strict) words = IsExplain strict words
 
 -- the words name a command that is built
 abbrev pub IsKnown : List (List ℕ) → Type 0
-IsKnown words = IsWhole words ⊎ IsExplain words ⊎ IsAnyPart words
+IsKnown words = (command : Command) × Names command words
+
+-- the command judges the history
+abbrev pub Judges : Command → Type 0
+Judges (Picture from to brief) = ⊥
+Judges _ = Unit {0}
+
+-- the words name one that does
+abbrev pub IsJudging : List (List ℕ) → Type 0
+IsJudging words = (strict : Bool) × (IsBreach strict words ⊎ IsExplain strict words)
 
 -- by two words that are numbers
-abbrev pub IsPictureFor : Command → List ℕ → List ℕ → Type 0
-IsPictureFor (Picture from to) first last = IsInRange from to × (first ≡ decimal from) × (last ≡ decimal to)
-IsPictureFor Explain first last = ⊥
-
-abbrev pub Names : Command → List (List ℕ) → Type 0
-Names (Picture from to) words = (IsWhole words × (from ≡ 1) × (to ≡ 2000)) ⊎ IsPart from to words
-Names Explain words = IsExplain words
+abbrev pub IsPictureFor : Bool → Command → List ℕ → List ℕ → Type 0
+IsPictureFor brief (Picture from to kept) first last = (kept ≡ brief) × IsInRange from to × (first ≡ decimal from) × (last ≡ decimal to)
+IsPictureFor brief _ first last = ⊥
 
 -- ---- what a command makes of items, and the status with it
--- the items before the one of this number, and those onward from it
-abbrev pub items_before : ℕ → List Item → List Item
-items_before from items = take (from - 1) items
-
-abbrev pub items_onward : ℕ → List Item → List Item
-items_onward from items = drop (from - 1) items
-
--- how many items a picture from one number to another shows: 2,000 at most
+-- how many items a picture from one number to another is of: 2,000 at most
 abbrev pub shown_count : ℕ → ℕ → List Item → ℕ
-shown_count from to items = min (min (to + 1 - from) 2000) (length (items_onward from items))
+shown_count from to items = min (min (to + 1 - from) 2000) (length items - (from - 1))
 
--- The text is the picture of the first so many of these items: one sign for each, in order, and the bars that go on from the items
--- before them. A bar ends where an item ends it, shown or not.
-pub record IsPictureOf (first : ℕ) (before onward : List Item) (count : ℕ) (text : List ℕ) : Type 0 where
+-- where its first item stands, counted from 0; behind the last item where there is none of that number
+abbrev pub first_place : ℕ → List Item → ℕ
+first_place from items = min (from - 1) (length items)
+
+abbrev pub part_frame : ℕ → ℕ → List Item → Frame
+part_frame from count items = record { wide = false; first = from; last = from + count - 1; total = length items }
+
+-- what a picture from one number on shows of so many items: all of them, or all but minor ones
+abbrev pub part_items : ℕ → ℕ → Bool → List Item → List Chosen
+part_items from count brief items = chosen_in brief items (first_place from items) count
+
+-- The text is their picture: one sign for each, in order, and the bars that go on from the items before them. Bars end where an item
+-- ends them, shown or not.
+pub record IsPictureOf (from count : ℕ) (items : List Item) (chosen : List Chosen) (text : List ℕ) : Type 0 where
   pub signs : List Sign
-  pub are : AreSigns (lanes_for (take count onward)) count onward signs
-  pub is : text ≡ picture_text (lanes_for (take count onward)) (earlier_bars (lanes_for (take count onward)) before onward) first signs
+  pub are : AreSigns (lanes_for chosen) [] chosen signs
+  pub is : text ≡ picture_text (part_frame from count items) (codes "history") (lanes_for chosen)
+      (earlier_bars (lanes_for chosen) chosen (first_place from items) items) signs
 
--- the text tells what is broken, where these items are not isolated, and explains each refusal among them
-pub record Explains (items : List Item) (code : ℕ) (text : List ℕ) : Type 0 where
-  pub verdict : Verdict
-  pub judged : IsJudged items verdict
-  pub status : verdict_status verdict ≡ code
-  pub is : text ≡ breach_text items verdict ++ explanations items 0 items
+abbrev pub PicturesPart : ℕ → ℕ → Bool → List Item → List ℕ → Type 0
+PicturesPart from count brief items text = IsPictureOf from count items (part_items from count brief items) text
+
+-- where the picture of what was found is of: from its first item to its last
+abbrev pub first_of : List Chosen → ℕ
+first_of [] = 1
+first_of (x ∷ xs) = x.number
+
+unfoldable pub last_of : ℕ → List Chosen → ℕ
+last_of before [] = before
+last_of before (x ∷ xs) = last_of x.number xs
+
+abbrev pub breach_frame : List Chosen → List Item → Frame
+breach_frame chosen items = record { wide = true; first = first_of chosen; last = min (last_of (length items) chosen) (length items); total = length items }
+
+-- of what was found, the picture of the items of the transactions concerned; the two items are ringed, and what was found stands above
+pub record IsBreachOf (strict : Bool) (items : List Item) (found : Finding) (chosen : List Chosen) (text : List ℕ) : Type 0 where
+  pub signs : List Sign
+  pub are : AreSigns (lanes_for chosen) (ringed found) chosen signs
+  pub is : text ≡ picture_text (breach_frame chosen items) (finding_line strict items found) (lanes_for chosen) [] signs
+
+pub record PicturesBreach (strict : Bool) (items : List Item) (code : ℕ) (text : List ℕ) : Type 0 where
+  pub found : Finding
+  pub judged : IsFound strict items found
+  pub status : finding_status found ≡ code
+  pub is : IsBreachOf strict items found (breach_items items found) text
+
+-- the text tells what was found, and explains each refusal among these items
+pub record Explains (strict : Bool) (items : List Item) (code : ℕ) (text : List ℕ) : Type 0 where
+  pub found : Finding
+  pub judged : IsFound strict items found
+  pub status : finding_status found ≡ code
+  pub is : text ≡ breach_text strict items found ++ explanations items 0 items
 
 abbrev pub Makes : Command → List Item → ℕ → List ℕ → Type 0
-Makes (Picture from to) items code text = (code ≡ 0) × IsPictureOf from (items_before from items) (items_onward from items) (shown_count from to items) text
-Makes Explain items code text = Explains items code text
+Makes (Picture from to brief) items code text = (code ≡ 0) × PicturesPart from (shown_count from to items) brief items text
+Makes (Breach strict) items code text = PicturesBreach strict items code text
+Makes (Explain strict) items code text = Explains strict items code text
 
 -- ---- what is right to write for items
 -- done, or what was explained is not isolated
@@ -152,7 +207,7 @@ pub record Views (command : Command) (code : ℕ) (left rest held now : Option (
   pub codes : IsTold code ⊎ (4 ≤ code) × (code ≤ 6)
 
 abbrev pub usage_text : List ℕ
-usage_text = codes "usage: omid_view picture [FROM TO] | explain\n"
+usage_text = codes "usage: omid_view picture [brief] [FROM TO] | breach [strict] | explain [strict]\n"
 
 -- the usage line was written, or a front of it
 pub record SaysUsage (code : ℕ) (held now : Option (List ℕ)) : Type 0 where

@@ -1,5 +1,5 @@
 // The words behind the program's name.
-ghost use Rattle.std.specs.Prelude.{◌≡◌, ◌≢◌, ◌↔◌, ◌≤◌, ◌^◌, ℕ, decimal, map, string_bytes, IsTrue, IfSome, MatchOption, IfOk, [], ◌<◌};
+ghost use Rattle.std.specs.Prelude.{◌≡◌, ◌≢◌, ◌↔◌, ◌≤◌, ◌^◌, ℕ, codes, decimal, map, string_bytes, IsTrue, IfSome, MatchOption, IfOk, [], ◌∷◌, ◌<◌};
 ghost use Rattle.std.specs.Str.{IsUtf8};
 ghost use Rattle.omid_view.specs.Views.{IsInRange, IsKnown, IsPictureFor, IsSound, Names};
 
@@ -9,12 +9,14 @@ use std::alloc::Global;
 use std::env::{Env, FillError};
 
 /// What the program is asked to do.
-#[derive(Clone, Copy, Debug, PartialEq, Eq)]
+#[derive(Clone, Copy)]
 pub enum Command {
-    /// A picture of the items of these numbers, of the first 2,000 of them.
-    Picture { from: u64, to: u64 },
-    /// All refusals in words, and what is broken.
-    Explain,
+    /// A picture of the items of these numbers, of the first 2,000 of them; where it is brief, with minor ones left out.
+    Picture { from: u64, to: u64, brief: bool },
+    /// A picture of what is broken; where it is strict, of what is not serial too.
+    Breach { strict: bool },
+    /// What is broken, and all refusals in words.
+    Explain { strict: bool },
 }
 
 /// The longest word that is told from others. No word of a command is longer.
@@ -51,21 +53,71 @@ pub fn command_of(words: &[String]) -> Option<Command>
     ensures sound { IfSome result IsSound }
 {
     match words {
-        [word] if is_word(word.as_str(), "picture") => Some(Command::Picture {
-            from: 1,
-            to: 2_000,
-        }),
-        [word] if is_word(word.as_str(), "explain") => Some(Command::Explain),
+        [word] => one_word(word.as_str()),
+        [word, next] => two_words(word.as_str(), next.as_str()),
         [word, from, to] if is_word(word.as_str(), "picture") => {
-            picture_of(from.as_str(), to.as_str())
+            picture_of(false, from.as_str(), to.as_str())
+        }
+        [word, brief, from, to]
+            if is_word(word.as_str(), "picture") && is_word(brief.as_str(), "brief") => {
+            brief_of(from.as_str(), to.as_str())
         }
         _ => None,
     }
 }
 
+fn one_word(word: &str) -> Option<Command>
+    ensures known { MatchOption result (IsKnown (word.now ∷ []) → ⊥) (λ command. Names command (word.now ∷ [])) }
+    ensures sound { IfSome result IsSound }
+{
+    if is_word(word, "picture") {
+        Some(whole(false))
+    } else if is_word(word, "breach") {
+        Some(Command::Breach { strict: false })
+    } else if is_word(word, "explain") {
+        Some(Command::Explain { strict: false })
+    } else {
+        None
+    }
+}
+
+fn two_words(word: &str, next: &str) -> Option<Command>
+    ensures known { MatchOption result (IsKnown (word.now ∷ next.now ∷ []) → ⊥) (λ command. Names command (word.now ∷ next.now ∷ [])) }
+    ensures sound { IfSome result IsSound }
+{
+    if is_word(word, "picture") && is_word(next, "brief") {
+        Some(whole(true))
+    } else if is_word(word, "breach") && is_word(next, "strict") {
+        Some(Command::Breach { strict: true })
+    } else if is_word(word, "explain") && is_word(next, "strict") {
+        Some(Command::Explain { strict: true })
+    } else {
+        None
+    }
+}
+
+/// The picture of the first 2,000 items.
+fn whole(brief: bool) -> Command
+    ensures { result ≡ Command.Picture 1 2000 brief }
+{
+    Command::Picture {
+        from: 1,
+        to: 2_000,
+        brief,
+    }
+}
+
+/// The brief picture of the items of these numbers.
+fn brief_of(from: &str, to: &str) -> Option<Command>
+    ensures known { MatchOption result (IsKnown (codes "picture" ∷ codes "brief" ∷ from.now ∷ to.now ∷ []) → ⊥) (λ command. Names command (codes "picture" ∷ codes "brief" ∷ from.now ∷ to.now ∷ [])) }
+    ensures sound { IfSome result IsSound }
+{
+    picture_of(true, from, to)
+}
+
 /// The picture of the items of these numbers, where there may be some: no history has more than 16,777,216.
-fn picture_of(from: &str, to: &str) -> Option<Command>
-    ensures { MatchOption result ((m n : ℕ) → IsInRange m n → from.now ≡ decimal m → to.now ≢ decimal n) (λ command. IsPictureFor command from.now to.now) }
+fn picture_of(brief: bool, from: &str, to: &str) -> Option<Command>
+    ensures { MatchOption result ((m n : ℕ) → IsInRange m n → from.now ≡ decimal m → to.now ≢ decimal n) (λ command. IsPictureFor brief command from.now to.now) }
 {
     let first = number_of(from)?;
     let last = number_of(to)?;
@@ -73,6 +125,7 @@ fn picture_of(from: &str, to: &str) -> Option<Command>
         Some(Command::Picture {
             from: first,
             to: last,
+            brief,
         })
     } else {
         None

@@ -1,7 +1,6 @@
-//! The program `omid_view`: a history as a picture, or its refusals in words.
+//! The program `omid_view`: a history as a picture, and what is broken and refused in it in words.
 #![tactic(auto)]
 
-mod breach;
 mod command;
 mod made;
 mod status;

@@ -8,7 +8,8 @@ use std::test::Fail;
 
 const REFUSED: &str = "ask-commit s0 a start=1\nmark s1 start=1\nrefused s0 invalid start=1\n";
 
-const REFUSED_TOLD: &str = "3: refused s0 invalid start=1
+const REFUSED_TOLD: &str = "isolated: 0 transactions began, 0 committed
+3: refused s0 invalid start=1
     a reader or a sweep had marked the transaction before its commit was placed
     shown by 2: mark s1 start=1
 ";
@@ -21,23 +22,27 @@ placed start=1 commit=3
 placed start=2 commit=4
 ";
 
-const LOST_TOLD: &str = "not isolated: apart
-    of two committed transactions that wrote one key, one commit is below the other's start
+const LOST_TOLD: &str = "not isolated: apart 5 6
+    both wrote k0, and neither committed before the other began
+    3: write s0 start=1 k0 a
+    4: write s1 start=2 k0 b
     5: placed start=1 commit=3
     6: placed start=2 commit=4
-    right would be: one of the two commits refused
+    right: one of the two commits refused
 ";
 
-const USAGE: &str = "usage: omid_view picture [FROM TO] | explain\n";
+const USAGE: &str =
+    "usage: omid_view picture [brief] [FROM TO] | breach [strict] | explain [strict]\n";
 
-/// The signs of the items 2 and 3 of `LOST`, behind the bar of the first.
+/// The bars of the items 2 and 3 of `LOST`, behind that of the first.
 const PART: &str =
-    "<g><title>before: begin s0 start=1</title><rect class='open' x='48' y='55' width='92' height='22' rx='4'/></g>
-<g class='own'><title>2: begin s1 start=2</title><rect class='open' x='60' y='93' width='80' height='22' rx='4'/>\
-<circle cx='60' cy='104' r='7'/><text x='60' y='108'>B</text><text class='n' x='60' y='124'>2</text></g>
-<g class='own'><title>3: write s0 start=1 k0 a</title>\
-<circle cx='76' cy='66' r='7'/><text x='76' y='70'>W</text><text class='n' x='76' y='86'>k0</text></g>
+    "<g class='committed'><title>before: begin s0 start=1</title><rect x='82' y='67' width='53' height='22' rx='7'/></g>
+<g class='committed'><title>2: begin s1 start=2</title><rect x='89' y='105' width='46' height='22' rx='7'/></g>
 ";
+
+/// The second ringed sign of the breach in `LOST`.
+const RINGED: &str =
+    "<g class='done'><title>6: placed start=2 commit=4</title><g class='ring'><circle cx='416' cy='78' r='13'/></g>";
 
 fn bytes_of(alloc: Global, text: &str) -> Result<Vec<u8>, AllocError> {
     let mut bytes = Vec::new(alloc);
@@ -96,6 +101,15 @@ fn draws_a_part(rt: HostRuntime) -> Result<(), Fail> {
     assert_eq!(rt; code, status::DONE);
     let text = str::from_utf8(held.as_slice())?;
     assert!(rt; text.contains(PART));
+    Ok(())
+}
+
+#[test]
+fn draws_a_breach(rt: HostRuntime) -> Result<(), Fail> {
+    let (code, held) = called(rt.alloc(), "breach", LOST, (0, 0))?;
+    assert_eq!(rt; code, status::NOT_ISOLATED);
+    let text = str::from_utf8(held.as_slice())?;
+    assert!(rt; text.contains(RINGED));
     Ok(())
 }
 

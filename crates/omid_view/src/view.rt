@@ -1,9 +1,8 @@
 // What the program does for its words.
 ghost use Rattle.std.specs.Prelude.{◌≡◌, ◌≢◌, ◌≤◌, ◌⊎◌, ℕ, List, OnOk, OnErr, map, string_bytes};
 ghost use Rattle.port_io.specs.Ports.{Risen, Gains};
-ghost use Rattle.omid_view.specs.Views.{GainsFront, IsEnd, IsExplain, IsKnown, IsSound, IsTold, Names, SaysUsage, Shown, ShownFront, ShownFrontOf, ShownOf, Views, bad_line_text, usage_text};
+ghost use Rattle.omid_view.specs.Views.{GainsFront, IsEnd, IsJudging, IsKnown, Judges, IsSound, IsTold, Names, SaysUsage, Shown, ShownFront, ShownFrontOf, ShownOf, Views, bad_line_text, usage_text};
 ghost use Rattle.omid_view.specs.declared.command.Command.{Command};
-ghost use Rattle.omid_view.specs.declared.command.Command.TheVariants.{Explain};
 
 use crate::command::{Command, command_of};
 use crate::made::{Made, made_of};
@@ -17,10 +16,10 @@ use port_io::{Failed, ReadStop, Sink, Source, read_up_to, write_all_of};
 use stamp_base::BYTE_LIMIT;
 use std::alloc::Global;
 
-/// Carries out what the words name: reads a history, and writes its picture, or the explanations of its refusals behind what is
-/// broken where it is not isolated. The status is 0 where that was done, 2 where the words are no command, 3 where the bytes are
+/// Carries out what the words name: reads a history, and writes its picture or that of what is broken in it, or what is broken and the
+/// explanations of its refusals. The status is 0 where that was done, 2 where the words are no command, 3 where the bytes are
 /// no history, 4 where the source failed, 5 where the sink did, 6 where memory was refused, and 7 where a history that was
-/// explained is not isolated. On 2 the source is not read.
+/// judged is not isolated or, by a strict command, not serial. On 2 the source is not read.
 pub fn view<S: Source, K: Sink>(alloc: Global, words: &[String], source: &mut S, sink: &mut K) -> u8
     // What is done for the words.
     ensures views { (command : Command) → Names command (map string_bytes words.now) →
@@ -29,7 +28,7 @@ pub fn view<S: Source, K: Sink>(alloc: Global, words: &[String], source: &mut S,
 
     // Which words a status goes with, and which leave the source untouched.
     ensures usage { result ≡ 2 → IsKnown (map string_bytes words.now) → ⊥ }
-    ensures judged { result ≡ 7 → IsExplain (map string_bytes words.now) }
+    ensures judged { result ≡ 7 → IsJudging (map string_bytes words.now) }
     ensures codes { (result ≤ 7) × (result ≢ 1) }
     ensures unread { (IsKnown (map string_bytes words.now) → ⊥) → source.new ≡ source.old }
 
@@ -55,7 +54,7 @@ fn view_source<S: Source, K: Sink>(
 ) -> u8
     requires { IsSound command }
     ensures views { Views command result (S.left source.old) (S.left source.new) (K.held sink.old) (K.held sink.new) }
-    ensures judged { result ≡ 7 → command ≡ Explain }
+    ensures judged { result ≡ 7 → Judges command }
     ensures source_failed { result ≡ 4 → Risen (S.faults source.old) (S.faults source.new) × (sink.new ≡ sink.old) }
     ensures source_worked { result ≢ 4 → S.faults source.new ≡ S.faults source.old }
     ensures sink_failed { result ≡ 5 → Risen (K.faults sink.old) (K.faults sink.new) }
@@ -76,7 +75,7 @@ fn view_bytes<K: Sink>(alloc: Global, command: Command, bytes: &[u8], sink: &mut
     requires { IsSound command }
     ensures shown { IsTold result → Shown command bytes.now result (K.held sink.old) (K.held sink.new) }
     ensures cut { result ≡ 5 → ShownFront command bytes.now (K.held sink.old) (K.held sink.new) }
-    ensures judged { result ≡ 7 → command ≡ Explain }
+    ensures judged { result ≡ 7 → Judges command }
     ensures sink_failed { result ≡ 5 → Risen (K.faults sink.old) (K.faults sink.new) }
     ensures sink_worked { result ≢ 5 → K.faults sink.new ≡ K.faults sink.old }
     ensures no_memory { result ≡ 6 → sink.new ≡ sink.old }
@@ -168,7 +167,10 @@ fn say_usage<K: Sink>(sink: &mut K) -> u8
     ensures failed { result ≡ 5 → Risen (K.faults sink.old) (K.faults sink.new) }
     ensures worked { result ≢ 5 → K.faults sink.new ≡ K.faults sink.old }
 {
-    match print_text(sink, b"usage: omid_view picture [FROM TO] | explain\n") {
+    match print_text(
+        sink,
+        b"usage: omid_view picture [brief] [FROM TO] | breach [strict] | explain [strict]\n",
+    ) {
         Ok(()) => status::USAGE,
         Err(_) => status::SINK_FAILED,
     }

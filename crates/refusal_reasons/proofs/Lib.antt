@@ -1,4 +1,4 @@
-mod SeekLemmas
+pub mod SeekLemmas
 mod PartLemmas
 mod WrittenLemmas
 mod PlaceLemmas

@@ -8,6 +8,7 @@ use Rattle.history_book.specs.declared.item.Item.TheVariants as item
 pub use Rattle.cause_rules.specs.Asks.{asks_for, draws_for}
 pub use Rattle.cause_rules.specs.OwnKeys.{begins_for}
 pub use Rattle.cause_rules.specs.Posts.{takes_for, crashes_for}
+pub use Rattle.history_book.specs.Isolation.{asks}
 use Rattle.refusal_reasons.specs.declared.clue.Clue.{Clue}
 use Rattle.refusal_reasons.specs.declared.clue.Clue.TheVariants as clue
 
@@ -46,6 +47,10 @@ vanishes s _ = false
 abbrev pub places : ℕ → Item → Bool
 places c (item.Placed start commit) = commit == c
 places c _ = false
+
+abbrev pub commits : ℕ → Item → Bool
+commits t (item.Placed start commit) = start == t
+commits t _ = false
 
 -- ---- what tells of a node
 abbrev pub crashes_in : ℕ → ℕ → Item → Bool
@@ -131,4 +136,6 @@ fits (clue.StampIn term stamp) x = draws_stamp term stamp x
 fits (clue.Marked start) x = marks start x
 fits (clue.Vanished session) x = vanishes session x
 fits (clue.Placed commit) x = places commit x
+fits (clue.CommitOf start) x = commits start x
+fits (clue.AskedStart session) x = asks session x
 fits other x = fits_node other x

@@ -3,13 +3,13 @@ use Rattle.std.specs.Prelude.{ℕ, ◌+◌, List, [], ◌∷◌, ◌++◌, Optio
 use Rattle.history_book.specs.declared.cause.Cause.{Cause}
 use Rattle.history_book.specs.declared.cause.Cause.TheVariants as cause
 use Rattle.history_book.specs.declared.item.Item.{Item}
-use Rattle.history_book.specs.declared.item.Item.TheVariants.{Refused}
+use Rattle.history_book.specs.declared.item.Item.TheVariants.{Refused, Step, Write}
 use Rattle.history_text.specs.Text.{body_of}
 use Rattle.refusal_reasons.specs.declared.shown.Places.{Places}
 use Rattle.refusal_reasons.specs.Showing.{shown_by}
 
 unfoldable pub reason_text : Cause → List ℕ
-reason_text (cause.Conflict key by) = codes "a transaction that ran at the same time wrote the key, and its commit was drawn first; this one wrote it as well, or with strict reads has read it"
+reason_text (cause.Conflict key by) = codes "a transaction that ran at the same time wrote the key, and its commit was drawn first"
 reason_text (cause.Hidden key water) = codes "the node has forgotten what was committed at the key, and a commit that it forgot is above the start; by the buckets of the setup, which no history tells"
 reason_text (cause.OldEpoch start epoch) = codes "the transaction began in an earlier term, whose commits its node does not know"
 reason_text (cause.Expired reading until) = codes "the lease of its node was over by that node's clock"
@@ -32,6 +32,21 @@ reason_text cause.Gone = codes "the session has vanished"
 reason_text cause.Idle = codes "it has nothing of that kind under way"
 reason_text (cause.Undecided start epoch) = codes "the transaction may still commit, so the sweep left it"
 
+-- what the own side of a key did, by the item that was found for it: a write, or with strict reads a fetch
+abbrev pub side_text : Option Item → List ℕ
+side_text (Some (Write session start key value)) = codes "; this one wrote it"
+side_text (Some (Step actor what)) = codes "; this one read it"
+side_text _ = []
+
+abbrev pub side_at : List Item → Option ℕ → List ℕ
+side_at before None = []
+side_at before (Some place) = side_text (slice_get before place)
+
+abbrev pub own_text : List Item → Cause → Option Places → List ℕ
+own_text before (cause.Conflict key by) (Some places) = side_at before places.first
+own_text before (cause.Hidden key water) (Some places) = side_at before places.first
+own_text before _ _ = []
+
 -- an item by its number, counted from 1, and its words
 unfoldable pub named_text : ℕ → Item → List ℕ
 named_text number item = decimal number ++ codes ": " ++ body_of item ++ codes "\n"
@@ -52,7 +67,7 @@ shown_text before (Some places) = place_text before places.first ++ place_text b
 
 -- the lines on an item, behind those before it: none where it is no refusal
 unfoldable pub explanation : List Item → Item → List ℕ
-explanation before (Refused actor why) = named_text (length before + 1) (Refused actor why) ++ codes "    " ++ reason_text why ++ codes "\n" ++ shown_text before (shown_by before actor why)
+explanation before (Refused actor why) = named_text (length before + 1) (Refused actor why) ++ codes "    " ++ reason_text why ++ own_text before why (shown_by before actor why) ++ codes "\n" ++ shown_text before (shown_by before actor why)
 explanation before _ = []
 
 -- the explanations of all refusals from a place on, in order

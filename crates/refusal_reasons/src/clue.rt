@@ -43,6 +43,10 @@ pub enum Clue {
     Vanished { session: SessionNo },
     /// A commit that was placed.
     Placed { commit: u64 },
+    /// The same, of the transaction with this start.
+    CommitOf { start: u64 },
+    /// An ask for a start.
+    AskedStart { session: SessionNo },
 }
 
 /// Whether the item is what the clue asks for.
@@ -61,6 +65,8 @@ pub fn fits(clue: &Clue, item: &Item) -> bool
         Clue::Marked { start } => marks(start, item),
         Clue::Vanished { session } => vanishes(session, item),
         Clue::Placed { commit } => places(commit, item),
+        Clue::CommitOf { start } => commits(start, item),
+        Clue::AskedStart { session } => asks_start(session, item),
         _ => fits_node(clue, item),
     }
 }
@@ -202,6 +208,24 @@ fn places(stamp: u64, item: &Item) -> bool
 {
     match *item {
         Item::Placed { commit, .. } => commit.value() == stamp,
+        _ => false,
+    }
+}
+
+fn commits(own: u64, item: &Item) -> bool
+    ensures { result ≡ clues.commits own item.now }
+{
+    match *item {
+        Item::Placed { start, .. } => start.value() == own,
+        _ => false,
+    }
+}
+
+fn asks_start(own: SessionNo, item: &Item) -> bool
+    ensures { result ≡ clues.asks own item.now }
+{
+    match *item {
+        Item::AskBegin { session, .. } => session == own,
         _ => false,
     }
 }

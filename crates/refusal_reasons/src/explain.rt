@@ -1,6 +1,6 @@
 // The explanations of refusals, in words.
-ghost use Rattle.std.specs.Prelude.{◌≡◌, ◌+◌, ◌<◌, ◌++◌, Some, IfOk, IfSome, OnOk, length, slice_get, take};
-ghost use Rattle.refusal_reasons.specs.Words.{explanation, explanations, named_text, place_text, reason_text, shown_text, witness_text};
+ghost use Rattle.std.specs.Prelude.{◌≡◌, ◌+◌, ◌<◌, ◌++◌, Some, IfOk, IfSome, OnOk, codes, length, slice_get, take};
+ghost use Rattle.refusal_reasons.specs.Words.{explanation, explanations, named_text, own_text, place_text, reason_text, shown_text, side_at, side_text, witness_text};
 
 use crate::shown::{Places, shown_by};
 use history_book::{Cause, Item};
@@ -44,12 +44,60 @@ fn print_explanation(text: &mut Text, before: &[Item], item: &Item) -> Result<()
 {
     match item {
         Item::Refused { actor, cause } => {
-            print_named(text, before.len() as u64 + 1, item)?;
-            text.push_between(b"    ", reason(cause), b"\n")?;
             let places = shown_by(before, actor, cause);
+            print_named(text, before.len() as u64 + 1, item)?;
+            print_reason(text, before, cause, &places)?;
             print_shown(text, before, &places)
         }
         _ => Ok(()),
+    }
+}
+
+/// Adds why the refusal came, and what its own side of a key did.
+fn print_reason(
+    text: &mut Text,
+    before: &[Item],
+    cause: &Cause,
+    places: &Option<Places>,
+) -> Result<(), NoMemory>
+    ensures { OnOk result (text.new ≡ text.old ++ codes "    " ++ reason_text cause.now ++ own_text before.now cause.now places.now ++ codes "\n") }
+{
+    text.push(b"    ")?;
+    text.push(reason(cause))?;
+    text.push(own_side(before, cause, places))?;
+    text.push(b"\n")
+}
+
+/// What the own side of a key did, where the cause has one that was found.
+fn own_side(before: &[Item], cause: &Cause, places: &Option<Places>) -> &'static [u8]
+    ensures { result.now ≡ own_text before.now cause.now places.now }
+{
+    match (cause, places) {
+        (Cause::Conflict { .. }, Some(places)) => side_at(before, places.first),
+        (Cause::Hidden { .. }, Some(places)) => side_at(before, places.first),
+        _ => b"",
+    }
+}
+
+fn side_at(before: &[Item], place: Option<usize>) -> &'static [u8]
+    ensures { result.now ≡ side_at before.now place }
+{
+    match place {
+        Some(place) => match before.get(place) {
+            Some(item) => side_of(item),
+            None => b"",
+        },
+        None => b"",
+    }
+}
+
+fn side_of(item: &Item) -> &'static [u8]
+    ensures { result.now ≡ side_text (Some item.now) }
+{
+    match item {
+        Item::Write { .. } => b"; this one wrote it",
+        Item::Step { .. } => b"; this one read it",
+        _ => b"",
     }
 }
 
@@ -89,7 +137,7 @@ fn print_witness(text: &mut Text, number: u64, item: &Item) -> Result<(), NoMemo
 
 /// Adds an item by its number and its words.
 #[tactic(auto, unfolding(crate::specs::Words::named_text))]
-fn print_named(text: &mut Text, number: u64, item: &Item) -> Result<(), NoMemory>
+pub fn print_named(text: &mut Text, number: u64, item: &Item) -> Result<(), NoMemory>
     ensures { OnOk result (text.new ≡ text.old ++ named_text number item.now) }
 {
     let mut line = LineBuf::new();
@@ -105,7 +153,7 @@ fn reason(cause: &Cause) -> &'static [u8]
 {
     match *cause {
         Cause::Conflict { .. } => {
-            b"a transaction that ran at the same time wrote the key, and its commit was drawn first; this one wrote it as well, or with strict reads has read it"
+            b"a transaction that ran at the same time wrote the key, and its commit was drawn first"
         }
         Cause::Hidden { .. } => {
             b"the node has forgotten what was committed at the key, and a commit that it forgot is above the start; by the buckets of the setup, which no history tells"

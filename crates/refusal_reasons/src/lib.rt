@@ -9,6 +9,7 @@ mod shown;
 mod sought;
 
 pub use clue::Clue;
-pub use explain::explain_refusals;
+pub use explain::{explain_refusals, print_named};
 pub use laws::refusals_are_decided;
 pub use shown::{Places, shown_by};
+pub use sought::seek;

@@ -1,9 +1,10 @@
 -- In which order a round asks for the steps of stages, and when it has asked for all.
-use Rattle.std.specs.Prelude.{◌≡◌, ℕ, ◌+◌, ◌*◌, Bool, true, false}
+use Rattle.std.specs.Prelude.{◌≡◌, ℕ, ◌+◌, ◌*◌, Bool, true, false, List, map}
 use Rattle.stamp_base.specs.declared.numbers.TheConstants.SessionNo as sessions
 use Rattle.stamp_base.specs.declared.stage.Stage.{Stage}
 use Rattle.stamp_base.specs.declared.stage.Stage.TheVariants.{Request, Persist, Reply}
 use Rattle.history_book.specs.declared.cause.Cause.TheVariants.{NotYet}
+use Rattle.line_shares.specs.Done.{Done}
 use Rattle.thread_steps.specs.declared.stages.StageStep.{StageStep}
 use Rattle.thread_steps.specs.declared.stages.StageStep.TheVariants.{Held, Stale, Refused, NoMemory}
 use Rattle.run_driver.specs.declared.round.Asked.{Asked}
@@ -29,6 +30,10 @@ is_made (Stale found) = false
 is_made (Refused (NotYet commit)) = false
 is_made NoMemory = false
 is_made step = true
+
+-- each share counts as many lines as before
+abbrev pub AreStill : List Done → List Done → Type 0
+AreStill old new = map (λ share. share.amount) new ≡ map (λ share. share.amount) old
 
 -- so many actors were carried on, and each stage of each node was asked for a step for each session, in this order
 pub record IsWhole (nodes shares : ℕ) (round : Round) : Type 0 where

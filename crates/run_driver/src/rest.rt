@@ -1,7 +1,7 @@
 // What the threads have left undone, made by this thread. Nothing is left but where a thread could not be made.
-ghost use Rattle.std.specs.Prelude.{◌≡◌, ◌+◌, length, IfOk, OnOk};
+ghost use Rattle.std.specs.Prelude.{◌≡◌, ◌+◌, length, false, IfOk, OnOk};
 ghost use Rattle.session_script.specs.Script.{data_of};
-ghost use Rattle.run_driver.specs.Rounds.{steps_before, IsWhole};
+ghost use Rattle.run_driver.specs.Rounds.{steps_before, AreStill, IsWhole};
 ghost use Rattle.run_driver.specs.Runs.{RunsTo};
 
 use crate::round::{Round, ask, carry_on};
@@ -34,15 +34,20 @@ pub fn finish<L: Ledger, R: Wait>(
                 shares = rest;
             }
         }
-        if !make_rest(rt, setup, &board, shares.as_mut_slice())?.made() {
-            wait_for_ever(rt);
+        let round = make_rest(rt, setup, &board, shares.as_mut_slice())?;
+        if !round.made() {
+            wait_for_ever(rt, setup, shares.as_slice(), &round);
         }
     }
     unreachable!()
 }
 
-// Nobody is there who makes what is waited for.
-fn wait_for_ever<R: Wait>(rt: &R) {
+// Nobody is there who makes what is waited for: all were asked, nothing was made, and no share came up.
+fn wait_for_ever<L: Ledger, R: Wait>(rt: &R, setup: &Setup, shares: &[ActorShare<L>], round: &Round)
+    requires whole { IsWhole setup.now.nodes (length shares.now) round.now }
+    requires nothing { round.now.made ≡ false }
+{
+    let (_setup, _shares, _round) = (setup, shares, round);
     let parker = Parker::new();
     for _ in rt.forever() {
         parker.park(rt);
@@ -57,12 +62,14 @@ fn make_rest<L: Ledger, R: Wait, B: Steps + ActorSteps<L>>(
     board: &B,
     shares: &mut [ActorShare<L>],
 ) -> Result<Round, NoMemory>
-    ensures { IfOk result (IsWhole setup.now.nodes (length shares.old)) }
+    ensures whole { IfOk result (IsWhole setup.now.nodes (length shares.old)) }
+    ensures risen { IfOk result (λ round. round.made ≡ false → AreStill shares.old shares.new) }
+    ensures all { length shares.new ≡ length shares.old }
 {
     let mut round = Round::none();
-    for share in shares.iter_mut() {
-        let stands = carry_on(rt, board, setup.nodes, share)?;
-        round.add_actor(share, stands);
+    for place in 0..shares.len() {
+        let stands = carry_on(rt, board, setup.nodes, &mut shares[place])?;
+        round.add_actor(&shares[place], stands);
     }
     for number in 0..setup.nodes {
         match NodeNo::new(number) {
@@ -83,6 +90,7 @@ fn serve_node<R: Wait, B: Steps>(
     requires { round.old.steps ≡ steps_before node 0 }
     ensures steps { OnOk result (round.new.steps ≡ steps_before (node + 1) 0) }
     ensures actors { round.new.actors ≡ round.old.actors }
+    ensures made { round.new.made ≡ false → round.old.made ≡ false }
 {
     for number in 0..SessionNo::COUNT as u64 {
         match SessionNo::new(number) {
@@ -103,6 +111,7 @@ fn serve_session<R: Wait, B: Steps>(
     requires { round.old.steps ≡ steps_before node session }
     ensures steps { OnOk result (round.new.steps ≡ steps_before node (session + 1)) }
     ensures actors { round.new.actors ≡ round.old.actors }
+    ensures made { round.new.made ≡ false → round.old.made ≡ false }
 {
     round.add_step(ask(rt, board, node, session, Stage::Request)?);
     round.add_step(ask(rt, board, node, session, Stage::Persist)?);

@@ -51,7 +51,7 @@ fn stops_at<R: Threads + Wait + Sync>(rt: &R, alloc: Global, script: &Script, re
 {
     let gate = RefusingGate::new(refused);
     let split = run_split(rt, alloc, script, &gate);
-    matches!(split, Err(SplitStop::NoMemory)) && gate.asked() == refused + 1
+    matches!(split, Err(SplitStop::NoMemory)) && gate.asked().checked_sub(refused) == Some(1)
 }
 
 fn have_one_history(left: &Result<Cluster, SplitStop>, right: &Result<Cluster, SplitStop>) -> bool {

@@ -1,0 +1,4 @@
+pub mod Findings
+pub mod Kinds
+pub mod Breaches
+pub mod Concerned

@@ -1,6 +1,0 @@
-use Rattle.std.proofs.Common.{◌≡◌, drop}
-use Rattle.history_lanes.specs.Earlier.{is_among}
-use Rattle.history_lanes.proofs.earlier.is_among.Given as goal
-
-abbrev pub invariant-loop-other : goal.invariant-loop-other
-invariant-loop-other l = is_among l.lane (drop l.other-index l.lanes) ≡ is_among l.lane l.lanes

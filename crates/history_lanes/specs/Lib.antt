@@ -1,5 +1,0 @@
-pub mod Lanes
-pub mod Bars
-pub mod Shown
-pub mod Signs
-pub mod Earlier

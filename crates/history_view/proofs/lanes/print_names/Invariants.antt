@@ -1,6 +1,0 @@
-use Rattle.std.proofs.Common.{◌≡◌, ◌++◌}
-use Rattle.history_view.specs.Page.{names_text}
-use Rattle.history_view.proofs.lanes.print_names.Given as goal
-
-abbrev pub invariant-loop-number : goal.invariant-loop-number
-invariant-loop-number l = l.text ≡ l.fn.text ++ names_text l.y l.lane l.number

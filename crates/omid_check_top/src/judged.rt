@@ -1,0 +1,115 @@
+// What is said of a trace whose writers are known.
+ghost use Rattle.std.specs.Prelude.{◌≡◌, IfOk, length, option_map};
+ghost use Rattle.trace_rules.specs.declared.wanted.Wanted.TheVariants.{Nothing};
+ghost use Rattle.trace_report.specs.Verdict.{holds_text};
+ghost use Rattle.omid_check_top.specs.Verdicts.{IsFound, IsShown, IsVerdict, open_text, reader_of, subject_of, wrong_text};
+
+use crate::made::Made;
+use crate::status;
+use crate::steps::steps_of;
+use rising_numbers::Edge;
+use stamp_base::NoMemory;
+use std::alloc::Global;
+use trace_index::Indexed;
+use trace_judge::{Verdict, judge};
+use trace_names::{name_of, wrong_at};
+use trace_reading::{Recording, push_words};
+use trace_report::{push_cycle, push_holds, push_refused, push_wrong_read};
+use trace_rules::{Level, Operation, Wanted};
+
+/// What is said of the trace.
+#[tactic(auto, using(crate::proofs::MadeLemmas::is_holding, crate::proofs::MadeLemmas::is_wrong, crate::proofs::MadeLemmas::is_shown, crate::proofs::MadeLemmas::is_open))]
+pub fn judged(
+    alloc: Global,
+    level: Level,
+    recording: &Recording,
+    indexed: &Indexed,
+) -> Result<Made, NoMemory>
+    ensures found { IfOk result (λ made. IsFound level (subject_of recording.now indexed.now.attempts.items indexed.now.trace indexed.now.times.items) made.code made.text.items) }
+    ensures codes { IfOk result (λ made. IsVerdict made.code) }
+{
+    match judge(alloc, level, &indexed.trace.transactions, &indexed.trace.operations)? {
+        Verdict::Holds(_) => holds(alloc, level, indexed.trace.transactions.len()),
+        Verdict::WrongRead(place) => wrong_read(alloc, level, recording, indexed, place),
+        Verdict::Refused(cycle) => refused(alloc, level, recording, indexed, &cycle),
+        Verdict::Undecided => undecided(alloc),
+    }
+}
+
+/// That there are stamps for so many transactions.
+fn holds(alloc: Global, level: Level, transactions: usize) -> Result<Made, NoMemory>
+    ensures code { IfOk result (λ made. made.code ≡ 0) }
+    ensures told { IfOk result (λ made. made.text.items ≡ holds_text level Nothing transactions) }
+{
+    let mut text = Vec::new(alloc);
+    push_holds(&mut text, level, Wanted::Nothing, transactions)?;
+    Ok(Made {
+        text,
+        code: status::DONE,
+    })
+}
+
+/// That the read at this place is wrong.
+fn wrong_read(
+    alloc: Global,
+    level: Level,
+    recording: &Recording,
+    indexed: &Indexed,
+    place: usize,
+) -> Result<Made, NoMemory>
+    ensures code { IfOk result (λ made. made.code ≡ 7) }
+    ensures told { IfOk result (λ made. made.text.items ≡ wrong_text level (subject_of recording.now indexed.now.attempts.items indexed.now.trace indexed.now.times.items) place) }
+{
+    let mut text = Vec::new(alloc);
+    push_refused(&mut text, level, Wanted::Nothing, wrong_at(&indexed.trace, place).name())?;
+    let (txn, key) = reader_of(indexed.trace.operations.get(place));
+    push_wrong_read(&mut text, recording, &indexed.attempts, txn, key)?;
+    Ok(Made {
+        text,
+        code: status::REFUSED,
+    })
+}
+
+fn reader_of(operation: Option<&Operation>) -> (usize, u64)
+    ensures { (result.0, result.1) ≡ reader_of (option_map (λ o. o.now) operation.entry) }
+{
+    match operation {
+        Some(Operation::Read { txn, key, .. } | Operation::Write { txn, key, .. }) => (*txn, *key),
+        None => (0, 0),
+    }
+}
+
+/// That a cycle of edges refuses the trace, with its steps.
+#[tactic(auto, using(crate::proofs::MadeLemmas::shows))]
+fn refused(
+    alloc: Global,
+    level: Level,
+    recording: &Recording,
+    indexed: &Indexed,
+    cycle: &[Edge],
+) -> Result<Made, NoMemory>
+    ensures code { IfOk result (λ made. made.code ≡ 7) }
+    ensures told { IfOk result (λ made. IsShown level (subject_of recording.now indexed.now.attempts.items indexed.now.trace indexed.now.times.items) made.text.items) }
+{
+    let steps = steps_of(alloc, level, &indexed.trace, cycle)?;
+    let mut text = Vec::new(alloc);
+    push_refused(&mut text, level, Wanted::Nothing, name_of(&steps).name())?;
+    push_cycle(&mut text, recording, &indexed.attempts, &steps)?;
+    Ok(Made {
+        text,
+        code: status::REFUSED,
+    })
+}
+
+/// That nothing decides.
+fn undecided(alloc: Global) -> Result<Made, NoMemory>
+    ensures code { IfOk result (λ made. made.code ≡ 8) }
+    ensures told { IfOk result (λ made. made.text.items ≡ open_text) }
+{
+    let mut text = Vec::new(alloc);
+    push_words(&mut text, "not decided: nothing forces the order of some writers of a key\n")?;
+    Ok(Made {
+        text,
+        code: status::UNDECIDED,
+    })
+}

@@ -1,0 +1,15 @@
+//! The top call of `omid_check`: words and a trace in, a verdict out, and a status.
+#![tactic(auto)]
+
+mod check;
+mod judged;
+mod limit;
+mod made;
+mod status;
+mod steps;
+mod words;
+
+pub use check::{last_status, omid_check};
+pub use limit::TRACE_LIMIT;
+pub use status::NO_MEMORY;
+pub use words::{Command, command_of, words_behind};

@@ -1,0 +1,113 @@
+// The steps of a cycle, from transaction to transaction, each at the key where it is seen.
+use rising_numbers::Edge;
+use stamp_base::NoMemory;
+use std::alloc::Global;
+use trace_names::{Step, Way};
+use trace_rules::{Level, Operation, Trace};
+
+/// The steps of a cycle of edges between points, which are numbered as the judge numbers them: starts by transaction and behind
+/// them commits, or one point a transaction where the level is Serializable. An edge within one transaction is no step.
+pub fn steps_of(alloc: Global, level: Level, trace: &Trace, cycle: &[Edge]) -> Result<Vec<Step>, NoMemory> {
+    let mut steps = Vec::new(alloc);
+    for edge in cycle {
+        if let Some(step) = step_of(level, trace, *edge) {
+            steps.extend_from_slice(&[step])?;
+        }
+    }
+    Ok(steps)
+}
+
+fn step_of(level: Level, trace: &Trace, edge: Edge) -> Option<Step> {
+    let count = trace.transactions.len();
+    let from = txn_of(edge.from, count);
+    let to = txn_of(edge.to, count);
+    if from == to {
+        return None;
+    }
+    let may_be_read = level == Level::Serializable || count <= edge.from;
+    Some(step_between(&trace.operations, may_be_read, from, to))
+}
+
+/// The transaction that has the point.
+fn txn_of(point: usize, count: usize) -> usize {
+    if point < count { point } else { point - count }
+}
+
+/// Why one transaction comes before the other: that one read what this one wrote, or this one missed what that one wrote.
+fn step_between(operations: &[Operation], may_be_read: bool, from: usize, to: usize) -> Step {
+    let read = if may_be_read { key_read(operations, from, to) } else { None };
+    match read {
+        Some(key) => Step {
+            from,
+            to,
+            way: Way::Read,
+            key,
+        },
+        None => Step {
+            from,
+            to,
+            way: Way::Missed,
+            key: key_missed(operations, from, to),
+        },
+    }
+}
+
+/// The key at which the reader found what the writer wrote.
+fn key_read(operations: &[Operation], writer: usize, reader: usize) -> Option<u64> {
+    for operation in operations {
+        if let Some(key) = read_from(*operation, writer, reader) {
+            return Some(key);
+        }
+    }
+    None
+}
+
+fn read_from(operation: Operation, writer: usize, reader: usize) -> Option<u64> {
+    match operation {
+        Operation::Read {
+            txn,
+            key,
+            answer: Some(found),
+        } if txn == reader && found.from == writer => Some(key),
+        _ => None,
+    }
+}
+
+/// A key that the reader read of others than the writer, and the writer wrote.
+fn key_missed(operations: &[Operation], reader: usize, writer: usize) -> u64 {
+    for operation in operations {
+        if let Some(key) = missed_at(operations, *operation, reader, writer) {
+            return key;
+        }
+    }
+    0
+}
+
+fn missed_at(operations: &[Operation], operation: Operation, reader: usize, writer: usize) -> Option<u64> {
+    match operation {
+        Operation::Read { txn, key, answer } if txn == reader => {
+            let other = match answer {
+                Some(found) => found.from != writer && found.from != reader,
+                None => true,
+            };
+            if other && writes(operations, writer, key) {
+                Some(key)
+            } else {
+                None
+            }
+        }
+        _ => None,
+    }
+}
+
+fn writes(operations: &[Operation], writer: usize, at: u64) -> bool {
+    for operation in operations {
+        if let Operation::Write { txn, key, .. } = operation
+            && *txn == writer
+            && *key == at
+        {
+            return true;
+        }
+    }
+    false
+}

@@ -1,0 +1,92 @@
+// The words behind the program's name.
+ghost use Rattle.std.specs.Prelude.{◌≡◌, [], map, string_bytes, IfOk};
+ghost use Rattle.std.specs.Str.{IsUtf8, bytes_eq};
+ghost use Rattle.omid_check_top.specs.Words.{checks, command_of, level_of, one_word};
+
+use stamp_base::NoMemory;
+use std::alloc::Global;
+use std::env::{Env, FillError};
+use trace_rules::Level;
+
+/// What the program is asked to do.
+#[derive(Clone, Copy, Debug, PartialEq, Eq)]
+pub enum Command {
+    /// Judge whether a trace is so.
+    Check { level: Level },
+    /// Tell how the program is used.
+    Help,
+}
+
+/// The longest word that is told from others. No word of a command is longer.
+const LONGEST: usize = 64;
+
+/// The words behind the program's name. One that is no text, or longer than any of a command, stands as an empty word.
+pub fn words_behind<E: Env>(env: &E, alloc: Global) -> Result<Vec<String>, NoMemory> {
+    let mut words = Vec::new(alloc);
+    let mut word = [0; LONGEST];
+    for place in 1..usize::MAX {
+        match env.arg(place, &mut word) {
+            Ok(len) => words.push(text_of(alloc, &word[..len])?)?,
+            Err(FillError::TooLong) => words.push(String::new(alloc))?,
+            Err(FillError::NotPresent) => break,
+        }
+    }
+    Ok(words)
+}
+
+/// The text that the bytes are, empty where they are none.
+fn text_of(alloc: Global, bytes: &[u8]) -> Result<String, NoMemory>
+    ensures text { IfOk result (λ text. IsUtf8 bytes.now → string_bytes text ≡ bytes.now) }
+    ensures none { IfOk result (λ text. (IsUtf8 bytes.now → ⊥) → string_bytes text ≡ []) }
+{
+    match str::from_utf8(bytes) {
+        Ok(text) => Ok(text.to_string(alloc)?),
+        Err(_) => Ok(String::new(alloc)),
+    }
+}
+
+/// The command that the words name, where they name one.
+pub fn command_of(words: &[String]) -> Option<Command>
+    ensures { result ≡ command_of (map string_bytes words.now) }
+{
+    match words {
+        [word] => one_word(word.as_str()),
+        _ => None,
+    }
+}
+
+fn one_word(word: &str) -> Option<Command>
+    ensures { result ≡ one_word word.now }
+{
+    if is_word(word, "help") || is_word(word, "--help") {
+        return Some(Command::Help);
+    }
+    checks(level_of(word))
+}
+
+fn checks(level: Option<Level>) -> Option<Command>
+    ensures { result ≡ checks level }
+{
+    match level {
+        Some(level) => Some(Command::Check { level }),
+        None => None,
+    }
+}
+
+fn level_of(word: &str) -> Option<Level>
+    ensures { result ≡ level_of word.now }
+{
+    if is_word(word, "snapshot") {
+        return Some(Level::Snapshot);
+    }
+    if is_word(word, "serializable") {
+        return Some(Level::Serializable);
+    }
+    None
+}
+
+fn is_word(word: &str, text: &str) -> bool
+    ensures { result ≡ bytes_eq word.now text.now }
+{
+    word == text
+}

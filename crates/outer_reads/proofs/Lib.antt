@@ -1,0 +1,3 @@
+pub mod ListLemmas
+mod LastLemmas
+mod ReadLemmas

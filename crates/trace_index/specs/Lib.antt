@@ -1,0 +1,6 @@
+pub mod Attempts
+pub mod Said
+pub mod Versions
+pub mod Blames
+pub mod Open
+pub mod Index

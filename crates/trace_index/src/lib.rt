@@ -1,0 +1,15 @@
+//! From what was recorded to the trace that is judged: its transactions, who wrote what was read, and which open outcomes count.
+#![tactic(auto)]
+
+mod attempts;
+mod fault;
+mod flags;
+mod indexing;
+mod latest;
+mod said;
+mod versions;
+mod writers;
+
+pub use attempts::{Attempt, Fate, attempts_of};
+pub use fault::{Fault, Unclear};
+pub use indexing::{Indexed, index};

@@ -1,0 +1,92 @@
+// The operations of the trace that is judged: each read with the version that it found.
+ghost use Rattle.std.specs.Prelude.{◌≡◌, [], IfErr, IfOk, Ok};
+ghost use Rattle.trace_index.specs.Versions.{operation_step, operations_from, read_step, version_by, version_of};
+ghost use Rattle.trace_index.specs.Blames.{Blames, Makes, Leaves};
+
+use crate::fault::{Fault, Unclear};
+use crate::said::Said;
+use crate::writers::{Writers, lists};
+use std::alloc::Global;
+use trace_rules::{Operation, Version};
+
+/// The operations, where each value that was read was written.
+pub fn operations_of(
+    alloc: Global,
+    writers: &Writers,
+    said: &[Said],
+) -> Result<Vec<Operation>, Fault>
+    ensures made { IfOk result (λ operations. operations_from writers.now [] said.now ≡ Ok operations.items) }
+    ensures blamed { IfErr result (Blames (operations_from writers.now [] said.now)) }
+{
+    let mut operations = Vec::with_capacity(alloc, said.len())?;
+    match add_all(&mut operations, writers, said) {
+        Ok(()) => Ok(operations),
+        Err(fault) => Err(fault),
+    }
+}
+
+fn add_all(operations: &mut Vec<Operation>, writers: &Writers, said: &[Said]) -> Result<(), Fault>
+    ensures { Leaves (operations_from writers.now operations.old.items said.now) operations.new.items result }
+{
+    for one in said {
+        let operation = operation_of(writers, one)?;
+        operations.extend_from_slice(&[operation])?;
+    }
+    Ok(())
+}
+
+/// The operation, with the version that it found where it is a read.
+fn operation_of(writers: &Writers, said: &Said) -> Result<Operation, Fault>
+    ensures { Makes (operation_step writers.now said.now.txn said.now.operation) result }
+{
+    let txn = said.txn;
+    match said.operation {
+        trace_reading::Operation::Read { key, answer } => read_of(writers, txn, key, answer),
+        trace_reading::Operation::Write { key, value, .. } => {
+            Ok(Operation::Write { txn, key, value })
+        }
+        trace_reading::Operation::ReadList { key, .. } => Err(lists(txn, key, 0)),
+        trace_reading::Operation::Append { key, value } => Err(lists(txn, key, value)),
+    }
+}
+
+fn read_of(writers: &Writers, txn: usize, key: u64, answer: Option<u64>) -> Result<Operation, Fault>
+    ensures { Makes (read_step writers.now txn key answer) result }
+{
+    let answer = version_of(writers, txn, key, answer)?;
+    Ok(Operation::Read { txn, key, answer })
+}
+
+/// The version that a read found, by its writer.
+fn version_of(
+    writers: &Writers,
+    txn: usize,
+    key: u64,
+    answer: Option<u64>,
+) -> Result<Option<Version>, Fault>
+    ensures { Makes (version_of writers.now txn key answer) result }
+{
+    match answer {
+        None => Ok(None),
+        Some(value) => version_by(writers.of(key, value), txn, key, value),
+    }
+}
+
+fn version_by(
+    from: Option<usize>,
+    txn: usize,
+    key: u64,
+    value: u64,
+) -> Result<Option<Version>, Fault>
+    ensures { Makes (version_by txn key value from) result }
+{
+    match from {
+        Some(from) => Ok(Some(Version { from, value })),
+        None => Err(Fault::At {
+            txn,
+            key,
+            value,
+            what: Unclear::WrittenByNobody,
+        }),
+    }
+}

@@ -1,0 +1,110 @@
+// Who wrote each value at each key.
+ghost use Rattle.std.specs.Prelude.{◌≡◌, [], Ok};
+ghost use Rattle.trace_index.specs.Versions.{writers_from};
+ghost use Rattle.trace_index.specs.Blames.{Leaves, Makes};
+
+use crate::fault::{Fault, Unclear};
+use crate::said::Said;
+use indexmap::IndexMap;
+use std::alloc::Global;
+use std::marker::Model;
+use trace_reading::Operation;
+
+/// The transaction that wrote each value at each key.
+#[derive(Drop)]
+pub struct Writers {
+    by: IndexMap<(u64, u64), usize>,
+}
+
+impl Model for Writers {
+    ghost use Rattle.trace_index.specs.Versions as versions;
+
+    ghost Value = { versions.Writers };
+
+    ghost view = { λ w. w.by.entries };
+}
+
+impl Writers {
+    ghost use Rattle.trace_index.specs.Versions.{unless_written, writer_of, writer_step, written};
+
+    /// Of no operations.
+    fn new(alloc: Global) -> Writers
+        ensures { result ≡ [] }
+    {
+        Writers {
+            by: IndexMap::new(alloc),
+        }
+    }
+
+    /// The transaction that wrote the value at the key.
+    pub fn of(&self, key: u64, value: u64) -> Option<usize>
+        ensures { result ≡ writer_of self.now key value }
+    {
+        self.by.get(&(key, value)).copied()
+    }
+
+    /// Notes what the operation writes.
+    fn note(&mut self, said: &Said) -> Result<(), Fault>
+        ensures { Leaves (writer_step self.old said.now.txn said.now.operation) self.new result }
+    {
+        match said.operation {
+            Operation::Read { .. } => Ok(()),
+            Operation::Write { key, value, .. } => self.add(said.txn, key, value),
+            Operation::ReadList { key, .. } => Err(lists(said.txn, key, 0)),
+            Operation::Append { key, value } => Err(lists(said.txn, key, value)),
+        }
+    }
+
+    fn add(&mut self, txn: usize, key: u64, value: u64) -> Result<(), Fault>
+        ensures { Leaves (written self.old txn key value) self.new result }
+    {
+        match self.of(key, value) {
+            Some(_) => Err(Fault::At {
+                txn,
+                key,
+                value,
+                what: Unclear::WrittenTwice,
+            }),
+            None => self.insert(txn, key, value),
+        }
+    }
+
+    fn insert(&mut self, txn: usize, key: u64, value: u64) -> Result<(), Fault>
+        ensures { Leaves (unless_written self.old txn key value None) self.new result }
+    {
+        self.by.insert((key, value), txn)?;
+        Ok(())
+    }
+}
+
+/// That a list is not judged.
+pub fn lists(txn: usize, key: u64, value: u64) -> Fault
+    ensures { result ≡ Fault.At txn key value Unclear.Lists }
+{
+    Fault::At {
+        txn,
+        key,
+        value,
+        what: Unclear::Lists,
+    }
+}
+
+/// The writers of the operations. Each value is written at most once at a key.
+pub fn writers_of(alloc: Global, said: &[Said]) -> Result<Writers, Fault>
+    ensures { Makes (writers_from [] said.now) result }
+{
+    let mut writers = Writers::new(alloc);
+    match add_all(&mut writers, said) {
+        Ok(()) => Ok(writers),
+        Err(fault) => Err(fault),
+    }
+}
+
+fn add_all(writers: &mut Writers, said: &[Said]) -> Result<(), Fault>
+    ensures { Leaves (writers_from writers.old said.now) writers.new result }
+{
+    for one in said {
+        writers.note(one)?;
+    }
+    Ok(())
+}
