@@ -32,6 +32,7 @@ COMMANDS = [
     ('README.md', 'crates/omid/out/omid replay < examples/takeover.omid > /tmp/history', 0, None),
     ('README.md', 'crates/omid_view/out/omid_view picture < /tmp/history > /tmp/history.svg', 0, 'examples/pictures/takeover.svg'),
     ('README.md', 'crates/omid_view/out/omid_view explain < /tmp/history', 0, None),
+    ('README.md', 'crates/omid_view/out/omid_view breach < examples/lost_update.history > /tmp/breach.svg', 7, 'examples/pictures/lost_update.svg'),
     ('docs/AUDITING.md', TRACE % '', 0, None),
     ('docs/AUDITING.md', AUDIT, 0, 'examples/trace.answer'),
     ('docs/AUDITING.md', TRACE % '_lost_update', 0, None),
