@@ -52,12 +52,7 @@ pub fn omid_check<S: Source, K: Sink>(
 }
 
 /// As `omid_check`, for a trace that is judged.
-fn check_source<S: Source, K: Sink>(
-    alloc: Global,
-    level: Level,
-    source: &mut S,
-    sink: &mut K,
-) -> u8
+fn check_source<S: Source, K: Sink>(alloc: Global, level: Level, source: &mut S, sink: &mut K) -> u8
     ensures checks { Checks level result (S.left source.old) (S.left source.new) (K.held sink.old) (K.held sink.new) }
     ensures source_failed { result ≡ 4 → Risen (S.faults source.old) (S.faults source.new) × (sink.new ≡ sink.old) }
     ensures source_worked { result ≢ 4 → S.faults source.new ≡ S.faults source.old }
@@ -75,12 +70,7 @@ fn check_source<S: Source, K: Sink>(
 
 /// Writes what is said of the trace that the bytes are.
 #[tactic(auto, using(crate::proofs::CheckLemmas::front_of))]
-fn check_bytes<K: Sink>(
-    alloc: Global,
-    level: Level,
-    bytes: &[u8],
-    sink: &mut K,
-) -> u8
+fn check_bytes<K: Sink>(alloc: Global, level: Level, bytes: &[u8], sink: &mut K) -> u8
     ensures told { IsVerdict result → Told level bytes.now result (K.held sink.old) (K.held sink.new) }
     ensures cut { result ≡ 5 → ToldFront level bytes.now (K.held sink.old) (K.held sink.new) }
     ensures sink_failed { result ≡ 5 → Risen (K.faults sink.old) (K.faults sink.new) }

@@ -28,7 +28,12 @@ pub fn judged(
     ensures found { IfOk result (λ made. IsFound level (subject_of recording.now indexed.now.attempts.items indexed.now.trace indexed.now.times.items) made.code made.text.items) }
     ensures codes { IfOk result (λ made. IsVerdict made.code) }
 {
-    match judge(alloc, level, &indexed.trace.transactions, &indexed.trace.operations)? {
+    match judge(
+        alloc,
+        level,
+        &indexed.trace.transactions,
+        &indexed.trace.operations,
+    )? {
         Verdict::Holds(_) => holds(alloc, level, indexed.trace.transactions.len()),
         Verdict::WrongRead(place) => wrong_read(alloc, level, recording, indexed, place),
         Verdict::Refused(cycle) => refused(alloc, level, recording, indexed, &cycle),
@@ -61,7 +66,12 @@ fn wrong_read(
     ensures told { IfOk result (λ made. made.text.items ≡ wrong_text level (subject_of recording.now indexed.now.attempts.items indexed.now.trace indexed.now.times.items) place) }
 {
     let mut text = Vec::new(alloc);
-    push_refused(&mut text, level, Wanted::Nothing, wrong_at(&indexed.trace, place).name())?;
+    push_refused(
+        &mut text,
+        level,
+        Wanted::Nothing,
+        wrong_at(&indexed.trace, place).name(),
+    )?;
     let (txn, key) = reader_of(indexed.trace.operations.get(place));
     push_wrong_read(&mut text, recording, &indexed.attempts, txn, key)?;
     Ok(Made {
@@ -107,7 +117,10 @@ fn undecided(alloc: Global) -> Result<Made, NoMemory>
     ensures told { IfOk result (λ made. made.text.items ≡ open_text) }
 {
     let mut text = Vec::new(alloc);
-    push_words(&mut text, "not decided: nothing forces the order of some writers of a key\n")?;
+    push_words(
+        &mut text,
+        "not decided: nothing forces the order of some writers of a key\n",
+    )?;
     Ok(Made {
         text,
         code: status::UNDECIDED,

@@ -61,22 +61,20 @@ pub fn too_long(alloc: Global) -> Result<Made, NoMemory>
 
 /// What is said of the trace that was read.
 #[tactic(auto, using(crate::proofs::MadeLemmas::of_index, crate::proofs::MadeLemmas::of_blame))]
-fn of_recording(
-    alloc: Global,
-    level: Level,
-    recording: &Recording,
-) -> Result<Made, NoMemory>
+fn of_recording(alloc: Global, level: Level, recording: &Recording) -> Result<Made, NoMemory>
     ensures right { IfOk result (λ made. IsOfRecording level recording.now made.code made.text.items) }
     ensures codes { IfOk result (λ made. IsVerdict made.code) }
 {
     match index(alloc, recording) {
         Ok(indexed) => judged(alloc, level, recording, &indexed),
-        Err(Fault::At {
-            txn,
-            key,
-            value,
-            what,
-        }) => unclear(alloc, recording, txn, key, value, what),
+        Err(
+            Fault::At {
+                txn,
+                key,
+                value,
+                what,
+            },
+        ) => unclear(alloc, recording, txn, key, value, what),
         Err(Fault::NoMemory) => Err(NoMemory),
     }
 }

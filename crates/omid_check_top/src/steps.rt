@@ -7,7 +7,12 @@ use trace_rules::{Level, Operation, Trace};
 
 /// The steps of a cycle of edges between points, which are numbered as the judge numbers them: starts by transaction and behind
 /// them commits, or one point a transaction where the level is Serializable. An edge within one transaction is no step.
-pub fn steps_of(alloc: Global, level: Level, trace: &Trace, cycle: &[Edge]) -> Result<Vec<Step>, NoMemory> {
+pub fn steps_of(
+    alloc: Global,
+    level: Level,
+    trace: &Trace,
+    cycle: &[Edge],
+) -> Result<Vec<Step>, NoMemory> {
     let mut steps = Vec::new(alloc);
     for edge in cycle {
         if let Some(step) = step_of(level, trace, *edge) {
@@ -35,7 +40,11 @@ fn txn_of(point: usize, count: usize) -> usize {
 
 /// Why one transaction comes before the other: that one read what this one wrote, or this one missed what that one wrote.
 fn step_between(operations: &[Operation], may_be_read: bool, from: usize, to: usize) -> Step {
-    let read = if may_be_read { key_read(operations, from, to) } else { None };
+    let read = if may_be_read {
+        key_read(operations, from, to)
+    } else {
+        None
+    };
     match read {
         Some(key) => Step {
             from,
@@ -83,7 +92,12 @@ fn key_missed(operations: &[Operation], reader: usize, writer: usize) -> u64 {
     0
 }
 
-fn missed_at(operations: &[Operation], operation: Operation, reader: usize, writer: usize) -> Option<u64> {
+fn missed_at(
+    operations: &[Operation],
+    operation: Operation,
+    reader: usize,
+    writer: usize,
+) -> Option<u64> {
     match operation {
         Operation::Read { txn, key, answer } if txn == reader => {
             let other = match answer {

@@ -1,14 +1,13 @@
 -- Numbers that rise between neighbours make stamps.
-use Rattle.std.proofs.Common.{◌≡◌, ◌≢◌, ℕ, zero, suc, ◌+◌, ◌*◌, ◌<◌, ◌≤◌, ◌⊎◌, Bool, true, false, List, [], ◌∷◌, Option, None, Some, length, slice_get, get_or, inl, inr, refl, sym, subst, ap, ◌∙◌, arith}
+use Rattle.std.proofs.Common.{◌≡◌, ◌≢◌, ℕ, zero, suc, ◌+◌, ◌*◌, ◌<◌, ◌≤◌, ◌⊎◌, true, List, [], ◌∷◌, Option, None, Some, length, slice_get, get_or, inl, inr, refl, sym, subst, ap, ◌∙◌, arith}
 use Rattle.std.proofs.Math.Nat.{mul-le-mul_right}
-use Rattle.std.proofs.lemmas.Bool.{cases_eq}
 use Rattle.std.proofs.lemmas.Option.{same_Some, slice_get_within}
 use Rattle.trace_rules.specs.declared.trace.Version.{Version}
 use Rattle.trace_rules.specs.declared.trace.Transaction.{Transaction}
 use Rattle.trace_rules.specs.declared.wanted.Level.TheVariants.{Snapshot, Serializable}
 use Rattle.trace_rules.specs.Trace.{Trace, Done, Writer, OuterRead, committed_in}
-use Rattle.trace_rules.specs.Stamping.{Stamping, Numbered, Stampable}
-use Rattle.trace_rules.specs.Rising.{Sourced, Listed, Rising}
+use Rattle.trace_rules.specs.Stamping.{Numbered, Stampable}
+use Rattle.trace_rules.specs.Rising.{Listed, Rising}
 use Rattle.trace_rules.specs.Wants.{no_wants}
 use Rattle.trace_rules.specs.Serial.{RisingPlaces, one_by_one}
 use Rattle.trace_laws.proofs.Isolates.{isolates}
@@ -16,8 +15,8 @@ use Rattle.trace_laws.proofs.Serial.{serialises}
 use Rattle.outer_reads.specs.declared.writings.Writing.{Writing}
 use Rattle.outer_reads.specs.declared.readings.Reading.{Reading}
 use Rattle.outer_reads.specs.Sources.{AreKnown}
-use Rattle.stamp_check.specs.Orders.{orders_of, places_of, stamps_of, OwnRise, NextRises, NextsRise, ReadsRise, IsBelow, Sees, SeesAt, SeesNone, Unseen}
-use Rattle.stamp_check.proofs.OrderLemmas.{KeysRise, Stands, StandsFirst, StandsNext, in_orders, of_orders, first_of_orders, next_of_orders}
+use Rattle.stamp_check.specs.Orders.{orders_of, places_of, stamps_of, OwnRise, NextsRise, ReadsRise, IsBelow, Sees, SeesNone}
+use Rattle.stamp_check.proofs.OrderLemmas.{KeysRise, in_orders, of_orders, first_of_orders, next_of_orders}
 
 -- ---- numbers spread over all points
 pub spread_less : (n a b x y : ℕ) → x < n → a < b → a * n + x < b * n + y
@@ -65,10 +64,13 @@ keys_rise n numbers order nexts = record { rise = λ i j a b most at_a at_b. alo
       where
         one_more : (j : ℕ) → j + 1 ≡ suc j
         one_more j = omega arith
+
     same_key : (i j : ℕ) (a b : Writing) → i ≡ j → slice_get order i ≡ Some a → slice_get order j ≡ Some b → a.key ≤ b.key
     same_key i j a b same at_a at_b = let one : a ≡ b = same_Some a b (sym at_a ∙ ap (λ (m : ℕ). slice_get order m) same ∙ at_b) in subst (λ (x : Writing). a.key ≤ x.key) one (omega arith)
+
     up : (i j : ℕ) (a b c : Writing) → a.key ≤ b.key → b.key ≤ c.key → a.key ≤ c.key
     up i j a b c low high = omega (arith, low, high)
+
     along : (j i : ℕ) (a b : Writing) → i ≤ j → slice_get order i ≡ Some a → slice_get order j ≡ Some b → a.key ≤ b.key
     along zero i a b most at_a at_b = same_key i 0 a b (omega (arith, most)) at_a at_b
     along (suc j) i a b most at_a at_b = elim (compare i (suc j)) [
@@ -81,8 +83,8 @@ keys_rise n numbers order nexts = record { rise = λ i j a b most at_a at_b. alo
 
 -- where a point's number is that of its start and, further on, that of its commit, which may be one and the same
 module _ (trace : Trace) (readings : List Reading) (order : List Writing) (numbers : List ℕ) (n : ℕ)
-  (known : AreKnown trace readings order) (own : (t : ℕ) → Done trace t → get_or numbers t 0 ≤ get_or numbers (n + t) 0)
-  (nexts : NextsRise n numbers order) (reads : ReadsRise n numbers order readings) where
+    (known : AreKnown trace readings order) (own : (t : ℕ) → Done trace t → get_or numbers t 0 ≤ get_or numbers (n + t) 0)
+    (nexts : NextsRise n numbers order) (reads : ReadsRise n numbers order readings) where
   rises : KeysRise order
   rises = keys_rise n numbers order nexts
 
@@ -169,9 +171,11 @@ module _ (trace : Trace) (readings : List Reading) (order : List Writing) (numbe
           let high = rises.rise j i b there.0 (omega (arith, less, last)) at_b there.1 in
           let low = there.2 in
           absurd (omega (arith, low, high, key))
+
       before_end : (p : ℕ) → j < p → IsBelow order p k → ⊥
       before_end zero less below = absurd (omega (arith, less))
       before_end (suc p) less below = end p (suc p) less (omega arith) below
+
       under : j < p → ⊥
       under less = before_end p less sees.below
 
@@ -187,7 +191,7 @@ module _ (trace : Trace) (readings : List Reading) (order : List Writing) (numbe
   lists_all = record {
     all = λ t k value w. let there = known.wrote.all t k value w in in_orders order k there.0 (record { txn = t; key = k; value = value }) there.1 refl;
     wrote = λ place t k at. let stands = of_orders order k place t at in
-      (stands.version.value, subst (λ (m : ℕ). Writer trace m k stands.version.value) stands.writer (subst (λ (l : ℕ). Writer trace stands.version.txn l stands.version.value) stands.key (known.wrote.wrote stands.place stands.version stands.at)));
+        (stands.version.value, subst (λ (m : ℕ). Writer trace m k stands.version.value) stands.writer (subst (λ (l : ℕ). Writer trace stands.version.txn l stands.version.value) stands.key (known.wrote.wrote stands.place stands.version stands.at)));
   }
 
   nexts_up : (place t u k : ℕ) → slice_get (orders_of order k) place ≡ Some t → slice_get (orders_of order k) (suc place) ≡ Some u → get_or numbers (n + t) 0 < get_or numbers u 0
@@ -198,8 +202,8 @@ module _ (trace : Trace) (readings : List Reading) (order : List Writing) (numbe
 
 -- ---- the stamps of snapshots
 module _ (trace : Trace) (readings : List Reading) (order : List Writing) (numbers : List ℕ)
-  (known : AreKnown trace readings order) (own : OwnRise trace (length trace.transactions) numbers)
-  (nexts : NextsRise (length trace.transactions) numbers order) (reads : ReadsRise (length trace.transactions) numbers order readings) where
+    (known : AreKnown trace readings order) (own : OwnRise trace (length trace.transactions) numbers)
+    (nexts : NextsRise (length trace.transactions) numbers order) (reads : ReadsRise (length trace.transactions) numbers order readings) where
   weak : (t : ℕ) → Done trace t → get_or numbers t 0 ≤ get_or numbers (length trace.transactions + t) 0
   weak t done = let less = own t done in omega (arith, less)
 
@@ -219,6 +223,7 @@ module _ (trace : Trace) (readings : List Reading) (order : List Writing) (numbe
     where
       same_behind : (n t u : ℕ) → n + t ≡ n + u → t ≡ u
       same_behind n t u same = omega (arith, same)
+
       not_behind : (n t u : ℕ) → t < n → t ≡ n + u → ⊥
       not_behind n t u low same = absurd (omega (arith, low, same))
 
@@ -239,7 +244,7 @@ module _ (trace : Trace) (readings : List Reading) (order : List Writing) (numbe
 
 -- ---- the places of a serial order
 module _ (trace : Trace) (readings : List Reading) (order : List Writing) (numbers : List ℕ)
-  (known : AreKnown trace readings order) (nexts : NextsRise 0 numbers order) (reads : ReadsRise 0 numbers order readings) where
+    (known : AreKnown trace readings order) (nexts : NextsRise 0 numbers order) (reads : ReadsRise 0 numbers order readings) where
   at_itself : (t : ℕ) → Done trace t → get_or numbers t 0 ≤ get_or numbers (0 + t) 0
   at_itself t done = let same : get_or numbers (0 + t) 0 ≡ get_or numbers t 0 = ap (λ (m : ℕ). get_or numbers m 0) (none t) in omega (arith, same)
     where
@@ -259,13 +264,13 @@ module _ (trace : Trace) (readings : List Reading) (order : List Writing) (numbe
   places_rise = record {
     distinct = λ t u dt du same. spread_same (length trace.transactions) (get_or numbers t 0) (get_or numbers u 0) t u (done_within trace t dt) (done_within trace u du) same;
     next = λ place t u k at_t at_u. spread t u ((lists_all trace readings order numbers 0 known at_itself nexts reads).wrote place t k at_t).1.done
-      (let up = nexts_up trace readings order numbers 0 known at_itself nexts reads place t u k at_t at_u in let s = same_number t in omega (arith, up, s));
+        (let up = nexts_up trace readings order numbers 0 known at_itself nexts reads place t u k at_t at_u in let s = same_number t in omega (arith, up, s));
     read = λ t k found outer. spread found.from t (known.sourced.outer t k found outer).done
-      (let sees = seen trace readings order numbers 0 known at_itself nexts reads t k (Some found) outer in let up = sees.1.read in let s = same_number found.from in omega (arith, up, s));
+        (let sees = seen trace readings order numbers 0 known at_itself nexts reads t k (Some found) outer in let up = sees.1.read in let s = same_number found.from in omega (arith, up, s));
     missed = λ place t u k found outer at_f at_u other. spread t u outer.read.done
-      (let up = missed trace readings order numbers 0 known at_itself nexts reads place t u k found outer at_f at_u other in let s = same_number u in omega (arith, up, s));
+        (let up = missed trace readings order numbers 0 known at_itself nexts reads place t u k found outer at_f at_u other in let s = same_number u in omega (arith, up, s));
     missed_first = λ t u k outer at_u other. spread t u outer.read.done
-      (let up = missed_first trace readings order numbers 0 known at_itself nexts reads t u k outer at_u other in let s = same_number u in omega (arith, up, s));
+        (let up = missed_first trace readings order numbers 0 known at_itself nexts reads t u k outer at_u other in let s = same_number u in omega (arith, up, s));
   }
 
   pub numbers_serialise : Stampable Serializable no_wants trace

@@ -37,7 +37,12 @@ pub fn are_stamps(
 
 /// Whether the numbers of the transactions, by place, are places in a serial order: they rise along all edges between neighbours
 /// of the order. The places are those that `are_stamps` is given.
-pub fn are_serial(readings: &[Reading], places: &[usize], order: &[Writing], numbers: &[usize]) -> bool
+pub fn are_serial(
+    readings: &[Reading],
+    places: &[usize],
+    order: &[Writing],
+    numbers: &[usize],
+) -> bool
     ensures { result ≡ true → (trace : Trace) → AreKnown trace readings.now order.now → Stampable Serializable no_wants trace }
 {
     nexts_rise(order, 0, numbers) && reads_rise(readings, places, order, 0, numbers)

@@ -1,5 +1,5 @@
 -- Why the edges hold in all stamps.
-use Rattle.std.proofs.Common.{◌≡◌, ◌≢◌, ℕ, ◌+◌, ◌-◌, ◌<◌, ◌≤◌, ◌⊎◌, nat_lt, Bool, true, false, List, [], ◌∷◌, ◌++◌, Option, Some, None, length, slice_get, inl, inr, refl, sym, subst, ap, ◌∙◌, arith}
+use Rattle.std.proofs.Common.{◌≡◌, ◌≢◌, ℕ, ◌+◌, ◌-◌, ◌<◌, ◌≤◌, nat_lt, Bool, true, false, List, [], ◌∷◌, ◌++◌, Option, Some, None, length, slice_get, inl, inr, refl, sym, subst, ap, ◌∙◌, arith}
 use Rattle.std.proofs.lemmas.Option.{slice_get_within}
 use Rattle.trace_rules.specs.declared.trace.Operation.{Operation}
 use Rattle.trace_rules.specs.declared.trace.Transaction.{Transaction}
@@ -16,7 +16,7 @@ use Rattle.outer_reads.specs.declared.writings.Writing.{Writing}
 use Rattle.outer_reads.specs.declared.readings.Reading.{Reading}
 use Rattle.outer_reads.specs.Sources.{AreKnown, trace_of}
 use Rattle.outer_reads.proofs.ListLemmas.{get_push_cases}
-use Rattle.trace_edges.specs.Edges.{starts_of, pick, point_of, AreForced, AreLaid, IsSure, OfRead, OfMissed, OfApart, IsWitnessed, ReadsSame, MayLay, LeftOut, LaidOn}
+use Rattle.trace_edges.specs.Edges.{starts_of, pick, point_of, AreLaid, IsSure, OfRead, OfMissed, OfApart, IsWitnessed, MayLay, LeftOut, LaidOn}
 
 done_within : (trace : Trace) (t : ℕ) → Done trace t → t < length trace.transactions
 done_within trace t done = by (slice_get trace.transactions t) refl
@@ -79,7 +79,7 @@ reader_first Serializable trace t u other dt du below = subst (λ (x : Point). B
 module _ (level : Level) (trace : Trace) (starts : ℕ) (is : starts ≡ starts_of level (length trace.transactions)) where
   misses_forced : (t u : ℕ) → t ≢ u → Done trace t → Done trace u → Below level no_wants trace (Start t) (Commit u) → Below level no_wants trace (point_of starts t) (point_of starts (starts + u))
   misses_forced t u other dt du below = subst (λ (y : Point). Below level no_wants trace (point_of starts t) y) (sym (commit_point starts u))
-    (subst (λ (s : ℕ). Below level no_wants trace (point_of s t) (Commit u)) (sym is) (reader_first level trace t u other dt du below))
+      (subst (λ (s : ℕ). Below level no_wants trace (point_of s t) (Commit u)) (sym is) (reader_first level trace t u other dt du below))
 
   pub missed_forced : (t u k value : ℕ) (found same : Version) → t ≢ u → OuterRead trace t k (Some found) → OuterRead trace u k (Some same) → same.from ≡ found.from → Writer trace u k value → Below level no_wants trace (point_of starts t) (point_of starts (starts + u))
   missed_forced t u k value found same other outer witness from w =
@@ -116,9 +116,9 @@ none_laid transactions readings order starts nodes = record {
     none place edge at = cc
 
 pub one_laid : (transactions : List Transaction) (readings : List Reading) (order : List Writing) (starts nodes : ℕ) (edges new : List Edge) (edge : Edge) →
-  new ≡ edges ++ edge ∷ [] → edge.from < nodes → edge.to < nodes →
-  ((level : Level) (operations : List Operation) → starts ≡ starts_of level (length transactions) → AreKnown (trace_of transactions operations) readings order → Below level no_wants (trace_of transactions operations) (point_of starts edge.from) (point_of starts edge.to)) →
-  AreLaid transactions readings order starts nodes edges → AreLaid transactions readings order starts nodes new
+    new ≡ edges ++ edge ∷ [] → edge.from < nodes → edge.to < nodes →
+    ((level : Level) (operations : List Operation) → starts ≡ starts_of level (length transactions) → AreKnown (trace_of transactions operations) readings order → Below level no_wants (trace_of transactions operations) (point_of starts edge.from) (point_of starts edge.to)) →
+    AreLaid transactions readings order starts nodes edges → AreLaid transactions readings order starts nodes new
 one_laid transactions readings order starts nodes edges new edge is from to below laid = subst (λ (xs : List Edge). AreLaid transactions readings order starts nodes xs) (sym is) (record {
   within = record {
     from = λ place e at. elim (get_push_cases edges edge place e at) [ inl old ↦ laid.within.from place e old | inr new ↦ subst (λ (x : Edge). x.from < nodes) new from ];
@@ -132,9 +132,9 @@ one_laid transactions readings order starts nodes edges new edge is from to belo
 
 -- ---- each edge that may be laid keeps what is laid
 module _ (transactions : List Transaction) (readings : List Reading) (order : List Writing) (starts nodes : ℕ) (old new : List Edge) (edge : Edge)
-  (may : MayLay nodes edge old new) (laid : AreLaid transactions readings order starts nodes old) where
+    (may : MayLay nodes edge old new) (laid : AreLaid transactions readings order starts nodes old) where
   pub may_laid : ((level : Level) (operations : List Operation) → starts ≡ starts_of level (length transactions) → AreKnown (trace_of transactions operations) readings order → Below level no_wants (trace_of transactions operations) (point_of starts edge.from) (point_of starts edge.to)) →
-    AreLaid transactions readings order starts nodes new
+      AreLaid transactions readings order starts nodes new
   may_laid below = by may
     where
       by : MayLay nodes edge old new → AreLaid transactions readings order starts nodes new
@@ -143,43 +143,43 @@ module _ (transactions : List Transaction) (readings : List Reading) (order : Li
 
   pub own_laid : (t : ℕ) → edge.from ≡ t → edge.to ≡ starts + t → 0 < starts → committed_in (slice_get transactions t) ≡ true → AreLaid transactions readings order starts nodes new
   own_laid t from to some done = may_laid (λ level operations is known.
-    subst (λ (x : ℕ). Below level no_wants (trace_of transactions operations) (point_of starts x) (point_of starts edge.to)) (sym from)
-    (subst (λ (y : ℕ). Below level no_wants (trace_of transactions operations) (point_of starts t) (point_of starts y)) (sym to)
-    (own_forced level (trace_of transactions operations) starts is t some done)))
+      subst (λ (x : ℕ). Below level no_wants (trace_of transactions operations) (point_of starts x) (point_of starts edge.to)) (sym from)
+      (subst (λ (y : ℕ). Below level no_wants (trace_of transactions operations) (point_of starts t) (point_of starts y)) (sym to)
+      (own_forced level (trace_of transactions operations) starts is t some done)))
 
   outer_read : (operations : List Operation) (i : ℕ) (r : Reading) (answer : Option Version) → AreKnown (trace_of transactions operations) readings order → slice_get readings i ≡ Some r → r.answer ≡ answer → OuterRead (trace_of transactions operations) r.txn r.key answer
   outer_read operations i r answer known at is = subst (λ (a : Option Version). OuterRead (trace_of transactions operations) r.txn r.key a) is (record { place = r.place; read = known.read.read i r at })
 
   missed_below : (level : Level) (operations : List Operation) (i next : ℕ) (r : Reading) (b : Writing) (answer : Option Version) → starts ≡ starts_of level (length transactions) → AreKnown (trace_of transactions operations) readings order →
-    slice_get readings i ≡ Some r → slice_get order next ≡ Some b → b.key ≡ r.key → b.txn ≢ r.txn → r.answer ≡ answer → IsWitnessed readings answer b →
-    Below level no_wants (trace_of transactions operations) (point_of starts r.txn) (point_of starts (starts + b.txn))
+      slice_get readings i ≡ Some r → slice_get order next ≡ Some b → b.key ≡ r.key → b.txn ≢ r.txn → r.answer ≡ answer → IsWitnessed readings answer b →
+      Below level no_wants (trace_of transactions operations) (point_of starts r.txn) (point_of starts (starts + b.txn))
   missed_below level operations i next r b None is known at_r at_b key other answer witnessed =
       missed_none_forced level (trace_of transactions operations) starts is r.txn b.txn r.key b.value (λ same. other (sym same)) (outer_read operations i r None known at_r answer)
-        (subst (λ (k : ℕ). Writer (trace_of transactions operations) b.txn k b.value) key (known.wrote.wrote next b at_b))
+      (subst (λ (k : ℕ). Writer (trace_of transactions operations) b.txn k b.value) key (known.wrote.wrote next b at_b))
   missed_below level operations i next r b (Some found) is known at_r at_b key other answer w =
       missed_forced level (trace_of transactions operations) starts is r.txn b.txn r.key b.value found w.same (λ same. other (sym same)) (outer_read operations i r (Some found) known at_r answer)
-        (subst (λ (t : ℕ). OuterRead (trace_of transactions operations) t r.key (Some w.same)) w.txn
-          (subst (λ (k : ℕ). OuterRead (trace_of transactions operations) w.reading.txn k (Some w.same)) (w.key ∙ key) (outer_read operations w.place w.reading (Some w.same) known w.stands w.answer)))
-        w.from
-        (subst (λ (k : ℕ). Writer (trace_of transactions operations) b.txn k b.value) key (known.wrote.wrote next b at_b))
+      (subst (λ (t : ℕ). OuterRead (trace_of transactions operations) t r.key (Some w.same)) w.txn
+      (subst (λ (k : ℕ). OuterRead (trace_of transactions operations) w.reading.txn k (Some w.same)) (w.key ∙ key) (outer_read operations w.place w.reading (Some w.same) known w.stands w.answer)))
+      w.from
+      (subst (λ (k : ℕ). Writer (trace_of transactions operations) b.txn k b.value) key (known.wrote.wrote next b at_b))
 
   start_below : (level : Level) (operations : List Operation) (i next : ℕ) (r : Reading) (b : Writing) (answer : Option Version) → AreKnown (trace_of transactions operations) readings order →
-    slice_get readings i ≡ Some r → slice_get order next ≡ Some b → b.key ≡ r.key → r.answer ≡ answer → IsWitnessed readings answer b → Below level no_wants (trace_of transactions operations) (Start r.txn) (Commit b.txn)
+      slice_get readings i ≡ Some r → slice_get order next ≡ Some b → b.key ≡ r.key → r.answer ≡ answer → IsWitnessed readings answer b → Below level no_wants (trace_of transactions operations) (Start r.txn) (Commit b.txn)
   start_below level operations i next r b None known at_r at_b key answer witnessed =
       MissesAll r.key b.value (outer_read operations i r None known at_r answer) (subst (λ (k : ℕ). Writer (trace_of transactions operations) b.txn k b.value) key (known.wrote.wrote next b at_b))
   start_below level operations i next r b (Some found) known at_r at_b key answer w =
       Misses r.key b.value found (outer_read operations i r (Some found) known at_r answer)
-        (subst (λ (k : ℕ). Writer (trace_of transactions operations) b.txn k b.value) key (known.wrote.wrote next b at_b))
-        (subst (λ (f : ℕ). Below level no_wants (trace_of transactions operations) (Commit f) (Start b.txn)) w.from
-          (ReadsFrom r.key w.same (subst (λ (t : ℕ). OuterRead (trace_of transactions operations) t r.key (Some w.same)) w.txn
-            (subst (λ (k : ℕ). OuterRead (trace_of transactions operations) w.reading.txn k (Some w.same)) (w.key ∙ key) (outer_read operations w.place w.reading (Some w.same) known w.stands w.answer)))))
+      (subst (λ (k : ℕ). Writer (trace_of transactions operations) b.txn k b.value) key (known.wrote.wrote next b at_b))
+      (subst (λ (f : ℕ). Below level no_wants (trace_of transactions operations) (Commit f) (Start b.txn)) w.from
+      (ReadsFrom r.key w.same (subst (λ (t : ℕ). OuterRead (trace_of transactions operations) t r.key (Some w.same)) w.txn
+      (subst (λ (k : ℕ). OuterRead (trace_of transactions operations) w.reading.txn k (Some w.same)) (w.key ∙ key) (outer_read operations w.place w.reading (Some w.same) known w.stands w.answer)))))
 
   own_writer : (operations : List Operation) (mine : ℕ) (r : Reading) (own : Writing) → AreKnown (trace_of transactions operations) readings order → slice_get order mine ≡ Some own → own.key ≡ r.key → own.txn ≡ r.txn → Writer (trace_of transactions operations) r.txn r.key own.value
   own_writer operations mine r own known at key txn =
       subst (λ (t : ℕ). Writer (trace_of transactions operations) t r.key own.value) txn (subst (λ (k : ℕ). Writer (trace_of transactions operations) own.txn k own.value) key (known.wrote.wrote mine own at))
 
   sure_below : (level : Level) (operations : List Operation) → starts ≡ starts_of level (length transactions) → AreKnown (trace_of transactions operations) readings order → IsSure readings order starts edge →
-    Below level no_wants (trace_of transactions operations) (point_of starts edge.from) (point_of starts edge.to)
+      Below level no_wants (trace_of transactions operations) (point_of starts edge.from) (point_of starts edge.to)
   sure_below level operations is known (OfRead i r found at answer from to) =
       subst (λ (x : ℕ). Below level no_wants (trace_of transactions operations) (point_of starts x) (point_of starts edge.to)) (sym from)
       (subst (λ (y : ℕ). Below level no_wants (trace_of transactions operations) (point_of starts (starts + found.from)) (point_of starts y)) (sym to)
@@ -188,13 +188,12 @@ module _ (transactions : List Transaction) (readings : List Reading) (order : Li
       subst (λ (x : ℕ). Below level no_wants (trace_of transactions operations) (point_of starts x) (point_of starts edge.to)) (sym from)
       (subst (λ (y : ℕ). Below level no_wants (trace_of transactions operations) (point_of starts r.txn) (point_of starts y)) (sym to)
       (missed_below level operations i next r b r.answer is known at_r at_b key other refl witnessed))
-
   sure_below level operations is known (OfApart i next mine r b own at_r at_b at_own key other own_key own_txn witnessed from to) =
       subst (λ (x : ℕ). Below level no_wants (trace_of transactions operations) (point_of starts x) (point_of starts edge.to)) (sym from)
       (subst (λ (y : ℕ). Below level no_wants (trace_of transactions operations) (point_of starts (starts + r.txn)) (point_of starts y)) (sym to)
       (apart_forced level (trace_of transactions operations) starts is r.txn b.txn r.key own.value b.value (λ same. other (sym same)) (own_writer operations mine r own known at_own own_key own_txn)
-        (subst (λ (k : ℕ). Writer (trace_of transactions operations) b.txn k b.value) key (known.wrote.wrote next b at_b))
-        (start_below level operations i next r b r.answer known at_r at_b key refl witnessed)))
+      (subst (λ (k : ℕ). Writer (trace_of transactions operations) b.txn k b.value) key (known.wrote.wrote next b at_b))
+      (start_below level operations i next r b r.answer known at_r at_b key refl witnessed)))
 
   pub sure_laid : IsSure readings order starts edge → AreLaid transactions readings order starts nodes new
   sure_laid sure = may_laid (λ level operations is known. sure_below level operations is known sure)

@@ -46,21 +46,47 @@ pub fn forced_edges(
         lay_read(&mut edges, readings, starts, nodes, i)?;
     }
     for i in 0..readings.len() {
-        lay_missed(&mut edges, readings, order, hint_at(hints, i), starts, nodes, i)?;
-        lay_apart(&mut edges, readings, order, hint_at(hints, i), starts, nodes, i)?;
+        lay_missed(
+            &mut edges,
+            readings,
+            order,
+            hint_at(hints, i),
+            starts,
+            nodes,
+            i,
+        )?;
+        lay_apart(
+            &mut edges,
+            readings,
+            order,
+            hint_at(hints, i),
+            starts,
+            nodes,
+            i,
+        )?;
     }
     Ok(edges)
 }
 
 fn hint_at(hints: &[Hint], i: usize) -> Hint {
     match hints.get(i) {
-        None => Hint { next: 0, witness: 0, own: 0 },
+        None => Hint {
+            next: 0,
+            witness: 0,
+            own: 0,
+        },
         Some(hint) => *hint,
     }
 }
 
 /// The edge from a transaction's start to its commit.
-fn lay_own(edges: &mut Vec<Edge>, transactions: &[Transaction], starts: usize, nodes: usize, txn: usize) -> Result<(), AllocError>
+fn lay_own(
+    edges: &mut Vec<Edge>,
+    transactions: &[Transaction],
+    starts: usize,
+    nodes: usize,
+    txn: usize,
+) -> Result<(), AllocError>
     requires { txn < length transactions.now }
     ensures { OnOk result ((readings : List Reading) (order : List Writing) →
         AreLaid transactions.now readings order starts nodes edges.old.items → AreLaid transactions.now readings order starts nodes edges.new.items) }
@@ -70,11 +96,24 @@ fn lay_own(edges: &mut Vec<Edge>, transactions: &[Transaction], starts: usize, n
     }
     match starts.checked_add(txn) {
         None => Ok(()),
-        Some(commit) => lay(edges, nodes, Edge { from: txn, to: commit }),
+        Some(commit) => lay(
+            edges,
+            nodes,
+            Edge {
+                from: txn,
+                to: commit,
+            },
+        ),
     }
 }
 
-fn lay_read(edges: &mut Vec<Edge>, readings: &[Reading], starts: usize, nodes: usize, i: usize) -> Result<(), AllocError>
+fn lay_read(
+    edges: &mut Vec<Edge>,
+    readings: &[Reading],
+    starts: usize,
+    nodes: usize,
+    i: usize,
+) -> Result<(), AllocError>
     requires { i < length readings.now }
     ensures { OnOk result ((transactions : List Transaction) (order : List Writing) →
         AreLaid transactions readings.now order starts nodes edges.old.items → AreLaid transactions readings.now order starts nodes edges.new.items) }
@@ -124,7 +163,13 @@ fn lay_apart(
 }
 
 /// From the commit of a reader that wrote the key to the start of the next version's writer.
-fn apart_edge(readings: &[Reading], order: &[Writing], hint: Hint, starts: usize, i: usize) -> Option<Edge>
+fn apart_edge(
+    readings: &[Reading],
+    order: &[Writing],
+    hint: Hint,
+    starts: usize,
+    i: usize,
+) -> Option<Edge>
     requires { i < length readings.now }
     ensures { IfSome result (λ edge. IsSure readings.now order.now starts edge) }
 {
@@ -158,7 +203,10 @@ fn later_edge(
     match version_at(order, hint.next) {
         None => None,
         Some(next) => {
-            if next.key != reading.key || next.txn == reading.txn || !is_witnessed(readings, hint.witness, reading.answer, next) {
+            if next.key != reading.key
+                || next.txn == reading.txn
+                || !is_witnessed(readings, hint.witness, reading.answer, next)
+            {
                 return None;
             }
             edge_of(starts.checked_add(reading.txn), Some(next.txn))
@@ -191,7 +239,13 @@ fn edge_of(from: Option<usize>, to: Option<usize>) -> Option<Edge>
 }
 
 /// From the reader's start to the commit of the next version's writer.
-fn missed_edge(readings: &[Reading], order: &[Writing], hint: Hint, starts: usize, i: usize) -> Option<Edge>
+fn missed_edge(
+    readings: &[Reading],
+    order: &[Writing],
+    hint: Hint,
+    starts: usize,
+    i: usize,
+) -> Option<Edge>
     requires { i < length readings.now }
     ensures { IfSome result (λ edge. IsSure readings.now order.now starts edge) }
 {
@@ -199,7 +253,10 @@ fn missed_edge(readings: &[Reading], order: &[Writing], hint: Hint, starts: usiz
     match version_at(order, hint.next) {
         None => None,
         Some(next) => {
-            if next.key != reading.key || next.txn == reading.txn || !is_witnessed(readings, hint.witness, reading.answer, next) {
+            if next.key != reading.key
+                || next.txn == reading.txn
+                || !is_witnessed(readings, hint.witness, reading.answer, next)
+            {
                 return None;
             }
             edge_of(Some(reading.txn), starts.checked_add(next.txn))
@@ -217,7 +274,12 @@ fn version_at(order: &[Writing], place: usize) -> Option<Writing>
 }
 
 /// Whether the reading is one by which the version's writer read the same.
-fn is_witnessed(readings: &[Reading], witness: usize, answer: Option<Version>, next: Writing) -> bool
+fn is_witnessed(
+    readings: &[Reading],
+    witness: usize,
+    answer: Option<Version>,
+    next: Writing,
+) -> bool
     ensures { result ≡ true → IsWitnessed readings.now answer next }
 {
     match answer {
@@ -231,7 +293,9 @@ fn reads_same(readings: &[Reading], witness: usize, found: Version, next: Writin
 {
     match readings.get(witness) {
         None => false,
-        Some(same) => same.txn == next.txn && same.key == next.key && is_of(same.answer, found.from),
+        Some(same) => same.txn == next.txn
+            && same.key == next.key
+            && is_of(same.answer, found.from),
     }
 }
 
@@ -276,7 +340,13 @@ pub fn lay_tried(
 }
 
 /// From the commit of a version to the start of the next one's writer.
-fn lay_next(edges: &mut Vec<Edge>, a: Writing, b: Writing, starts: usize, nodes: usize) -> Result<(), AllocError>
+fn lay_next(
+    edges: &mut Vec<Edge>,
+    a: Writing,
+    b: Writing,
+    starts: usize,
+    nodes: usize,
+) -> Result<(), AllocError>
     ensures { OnOk result (AreWithin nodes edges.old.items → AreWithin nodes edges.new.items) }
 {
     if a.key != b.key {
@@ -284,7 +354,14 @@ fn lay_next(edges: &mut Vec<Edge>, a: Writing, b: Writing, starts: usize, nodes:
     }
     match starts.checked_add(a.txn) {
         None => Ok(()),
-        Some(commit) => lay_within(edges, nodes, Edge { from: commit, to: b.txn }),
+        Some(commit) => lay_within(
+            edges,
+            nodes,
+            Edge {
+                from: commit,
+                to: b.txn,
+            },
+        ),
     }
 }
 
@@ -307,7 +384,14 @@ fn lay_hidden(
             }
             match starts.checked_add(next.txn) {
                 None => Ok(()),
-                Some(commit) => lay_within(edges, nodes, Edge { from: reading.txn, to: commit }),
+                Some(commit) => lay_within(
+                    edges,
+                    nodes,
+                    Edge {
+                        from: reading.txn,
+                        to: commit,
+                    },
+                ),
             }
         }
     }

@@ -1,5 +1,5 @@
 -- Why verdicts are right.
-use Rattle.std.proofs.Common.{◌≡◌, ◌≢◌, ℕ, ◌<◌, List, [], ◌∷◌, Option, None, Some, length, slice_get, refl, sym, subst, ap, ◌∙◌}
+use Rattle.std.proofs.Common.{◌≡◌, ◌≢◌, ℕ, List, [], ◌∷◌, Option, None, Some, length, slice_get, refl, subst, ap, ◌∙◌}
 use Rattle.std.specs.Option.{IfSome}
 use Rattle.std.specs.List.{Contains}
 use Rattle.std.specs.List.Sorted.{IsPermutation}
@@ -8,8 +8,7 @@ use Rattle.std.proofs.lemmas.Option.{slice_get_within, slice_get-get_or, get_or_
 use Rattle.trace_rules.specs.declared.trace.Operation.{Operation}
 use Rattle.trace_rules.specs.declared.trace.Transaction.{Transaction}
 use Rattle.trace_rules.specs.declared.wanted.Level.{Level}
-use Rattle.trace_rules.specs.Trace.{Trace, Writer}
-use Rattle.trace_rules.specs.Stamping.{Stampable}
+use Rattle.trace_rules.specs.Trace.{Trace}
 use Rattle.trace_rules.specs.Below.{Below, Then}
 use Rattle.trace_rules.specs.Wants.{no_wants}
 use Rattle.trace_laws.proofs.Forced.{cycles, wrong_outer, wrong_own}
@@ -37,11 +36,11 @@ leads_below level trace starts edges x (p ∷ q ∷ ps) y forced some leads =
     (leads_below level trace starts edges leads.0.to (q ∷ ps) y forced (λ none. absurd (cc)) leads.3)
 
 pub cycle_refuses : (level : Level) (transactions : List Transaction) (readings : List Reading) (order : List Writing) (starts nodes : ℕ) (edges : List Edge) (places : List ℕ) →
-  starts ≡ starts_of level (length transactions) → AreLaid transactions readings order starts nodes edges → IsCycle edges places →
-  (operations : List Operation) → AreKnown (trace_of transactions operations) readings order → NoStamps level (trace_of transactions operations)
+    starts ≡ starts_of level (length transactions) → AreLaid transactions readings order starts nodes edges → IsCycle edges places →
+    (operations : List Operation) → AreKnown (trace_of transactions operations) readings order → NoStamps level (trace_of transactions operations)
 cycle_refuses level transactions readings order starts nodes edges places is laid cycle operations known stampable =
     cycles level no_wants (trace_of transactions operations) (point_of starts cycle.node)
-      (leads_below level (trace_of transactions operations) starts edges cycle.node places cycle.node (laid.forced level operations is known) cycle.some cycle.leads) stampable
+    (leads_below level (trace_of transactions operations) starts edges cycle.node places cycle.node (laid.forced level operations is known) cycle.some cycle.leads) stampable
 
 -- ---- an order of the versions is as good as another
 there : (xs : List Writing) (i : ℕ) (w : Writing) → slice_get xs i ≡ Some w → Contains xs w

@@ -1,5 +1,4 @@
 -- What a verdict says.
-use Rattle.std.specs.Prelude.{List}
 use Rattle.trace_rules.specs.declared.wanted.Level.{Level}
 use Rattle.trace_rules.specs.Trace.{Trace}
 use Rattle.trace_rules.specs.Stamping.{Stampable}

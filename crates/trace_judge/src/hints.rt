@@ -18,7 +18,11 @@ pub struct Hints {
     pub heirs: Vec<Hint>,
 }
 
-pub fn hints_of(alloc: Global, readings: &[Reading], order: &[Writing]) -> Result<Hints, AllocError> {
+pub fn hints_of(
+    alloc: Global,
+    readings: &[Reading],
+    order: &[Writing],
+) -> Result<Hints, AllocError> {
     let stands = places_of_versions(alloc, order)?;
     let readers = places_of_readings(alloc, readings)?;
     let heirs = Heirs::new(alloc, readings, order, &readers)?;
@@ -39,7 +43,12 @@ pub fn hints_of(alloc: Global, readings: &[Reading], order: &[Writing]) -> Resul
     Ok(hints)
 }
 
-fn hint_at(readers: &HashMap<(usize, u64), usize>, order: &[Writing], next: usize, own: usize) -> Hint {
+fn hint_at(
+    readers: &HashMap<(usize, u64), usize>,
+    order: &[Writing],
+    next: usize,
+    own: usize,
+) -> Hint {
     Hint {
         next,
         witness: witness_of(readers, order, next),
@@ -121,7 +130,11 @@ fn is_of(order: &[Writing], place: usize, txn: usize) -> bool {
 }
 
 /// Whose version the writer had read of the key before.
-fn read_from(readings: &[Reading], readers: &HashMap<(usize, u64), usize>, version: Writing) -> Option<usize> {
+fn read_from(
+    readings: &[Reading],
+    readers: &HashMap<(usize, u64), usize>,
+    version: Writing,
+) -> Option<usize> {
     match readers.get(&(version.txn, version.key)) {
         None => None,
         Some(reading) => source_at(readings, *reading),
@@ -138,7 +151,10 @@ fn source_at(readings: &[Reading], place: usize) -> Option<usize> {
     }
 }
 
-fn places_of_versions(alloc: Global, order: &[Writing]) -> Result<HashMap<(usize, u64), usize>, AllocError> {
+fn places_of_versions(
+    alloc: Global,
+    order: &[Writing],
+) -> Result<HashMap<(usize, u64), usize>, AllocError> {
     let mut places = HashMap::new(alloc);
     for place in 0..order.len() {
         let version = order[place];
@@ -147,7 +163,10 @@ fn places_of_versions(alloc: Global, order: &[Writing]) -> Result<HashMap<(usize
     Ok(places)
 }
 
-fn places_of_readings(alloc: Global, readings: &[Reading]) -> Result<HashMap<(usize, u64), usize>, AllocError> {
+fn places_of_readings(
+    alloc: Global,
+    readings: &[Reading],
+) -> Result<HashMap<(usize, u64), usize>, AllocError> {
     let mut places = HashMap::new(alloc);
     for place in 0..readings.len() {
         let reading = readings[place];

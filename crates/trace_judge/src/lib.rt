@@ -12,9 +12,9 @@ ghost use Rattle.trace_judge.specs.Verdicts.{IsForced, IsVerdict, NoStamps};
 
 mod hints;
 
-use hints::{hints_of, number_at, Hints};
-use outer_reads::{sources_of, Reading, Sources, Writing};
-use rising_numbers::{numbered, Edge, Order};
+use hints::{Hints, hints_of, number_at};
+use outer_reads::{Reading, Sources, Writing, sources_of};
+use rising_numbers::{Edge, Order, numbered};
 use stamp_check::{are_serial, are_stamps};
 use std::alloc::{AllocError, Global};
 use trace_edges::{forced_edges, lay_tried};
@@ -118,7 +118,15 @@ fn forced_order(
     let starts = starts_of(level, transactions.len());
     let nodes = starts.saturating_add(transactions.len());
     let hints = hints_of(alloc, readings, order)?;
-    let edges = forced_edges(alloc, transactions, readings, order, &hints.heirs, starts, nodes)?;
+    let edges = forced_edges(
+        alloc,
+        transactions,
+        readings,
+        order,
+        &hints.heirs,
+        starts,
+        nodes,
+    )?;
     match numbered(alloc, nodes, &edges)? {
         Order::Rising(numbers) => Ok(Forced::Rising(numbers)),
         Order::Cycle(places) => Ok(Forced::Cycle(edges_at(alloc, &edges, &places)?)),
@@ -139,12 +147,27 @@ fn try_order(
     let starts = starts_of(level, transactions.len());
     let nodes = starts.saturating_add(transactions.len());
     let hints = hints_of(alloc, readings, order)?;
-    let mut edges = forced_edges(alloc, transactions, readings, order, &hints.heirs, starts, nodes)?;
+    let mut edges = forced_edges(
+        alloc,
+        transactions,
+        readings,
+        order,
+        &hints.heirs,
+        starts,
+        nodes,
+    )?;
     lay_tried(&mut edges, readings, order, &hints.next, starts, nodes)?;
     match numbered(alloc, nodes, &edges)? {
         Order::Cycle(_) => Ok(Verdict::Undecided),
         Order::Rising(numbers) => {
-            if are_right(level, transactions, readings, &hints.places, order, &numbers) {
+            if are_right(
+                level,
+                transactions,
+                readings,
+                &hints.places,
+                order,
+                &numbers,
+            ) {
                 Ok(Verdict::Holds(numbers))
             } else {
                 Ok(Verdict::Undecided)

@@ -13,6 +13,6 @@ returns-else-not-is_witnessed c =
     let key : c.in-Some.next.key ≡ r.key = first_of (search rules, grind (arith, common_steps)) in
     let other : c.in-Some.next.txn ≢ r.txn = first_of (search rules, grind (arith, common_steps)) in
     IfSome_then c.edge_of.result c.edge_of.ensures (λ e is.
-      let start = is.0 in
-      let from : e.from ≡ c.args.starts + r.txn = first_of (search rules, grind (arith, common_steps)) in
-      OfApart c.args.i c.args.hint.next c.args.hint.own r c.in-Some.next c.args.own at there c.requires.own key other (c.requires.key r at) (c.requires.txn r at) (c.is_witnessed.ensures (search rules)) from (sym (same_Some c.in-Some.next.txn e.to is.1)))
+    let start = is.0 in
+    let from : e.from ≡ c.args.starts + r.txn = first_of (search rules, grind (arith, common_steps)) in
+    OfApart c.args.i c.args.hint.next c.args.hint.own r c.in-Some.next c.args.own at there c.requires.own key other (c.requires.key r at) (c.requires.txn r at) (c.is_witnessed.ensures (search rules)) from (sym (same_Some c.in-Some.next.txn e.to is.1)))

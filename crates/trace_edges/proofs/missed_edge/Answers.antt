@@ -13,6 +13,6 @@ returns-else-not-is_witnessed c =
     let key : c.in-Some.next.key ≡ r.key = first_of (search rules, grind (arith, common_steps)) in
     let other : c.in-Some.next.txn ≢ r.txn = first_of (search rules, grind (arith, common_steps)) in
     IfSome_then c.edge_of.result c.edge_of.ensures (λ e is.
-      let end = is.1 in
-      let to : e.to ≡ c.args.starts + c.in-Some.next.txn = first_of (search rules, grind (arith, common_steps)) in
-      OfMissed c.args.i c.args.hint.next r c.in-Some.next at there key other (c.is_witnessed.ensures (search rules)) (sym (same_Some r.txn e.from is.0)) to)
+    let end = is.1 in
+    let to : e.to ≡ c.args.starts + c.in-Some.next.txn = first_of (search rules, grind (arith, common_steps)) in
+    OfMissed c.args.i c.args.hint.next r c.in-Some.next at there key other (c.is_witnessed.ensures (search rules)) (sym (same_Some r.txn e.from is.0)) to)

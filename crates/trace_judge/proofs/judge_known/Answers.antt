@@ -1,4 +1,4 @@
-use Rattle.std.proofs.Common.{◌≡◌, List, sym, subst}
+use Rattle.std.proofs.Common.{◌≡◌, List, subst}
 use Rattle.std.specs.List.Sorted.{IsPermutation}
 use Rattle.std.proofs.lemmas.List.Sorted.{IsPermutation-trans}
 use Rattle.std.proofs.lemmas.Result.{IfOk-weaker}
@@ -13,7 +13,7 @@ use Rattle.trace_judge.proofs.judge_known.Goals as goal
 pub returns-in-Some : goal.returns-in-Some
 returns-in-Some c = λ operations known.
     if_some_at c.in_ok-cycle.field-0 ((os : List Operation) → AreKnown (trace_of c.args.transactions.now os) c.args.readings.now c.loop-round.order.items → NoStamps c.args.level (trace_of c.args.transactions.now os)) c.in-Some.cycle c.in-Some.is c.in_ok-cycle.ensures.refused
-      operations (known_still (trace_of c.args.transactions.now operations) c.args.readings.now c.args.order.now.items c.loop-round.order.items c.loop-round.invariant known)
+    operations (known_still (trace_of c.args.transactions.now operations) c.args.readings.now c.args.order.now.items c.loop-round.order.items c.loop-round.invariant known)
 
 pub loop-round-preserved : goal.loop-round-preserved
 loop-round-preserved c = IsPermutation-trans c.args.order.now.items c.loop-round.order.items c.sort_round.new.order.items c.loop-round.invariant c.in_ok-cycle.ensures.permutation
@@ -24,7 +24,7 @@ returns c =
     let same : c.loop-round.order.items ≡ c.deref.result.now = cc in
     let still : IsPermutation c.args.order.now.items c.deref.result.now = subst (λ (xs : List Writing). IsPermutation c.args.order.now.items xs) same c.loop-round.invariant in
     IfOk-weaker c.try_order.result
-      (λ (verdict : Verdict). (operations : List Operation) → AreKnown (trace_of c.args.transactions.now operations) c.args.readings.now c.deref.result.now → IsVerdict c.args.level (trace_of c.args.transactions.now operations) verdict)
-      (λ (verdict : Verdict). (operations : List Operation) → AreKnown (trace_of c.args.transactions.now operations) c.args.readings.now c.args.order.now.items → IsVerdict c.args.level (trace_of c.args.transactions.now operations) verdict)
-      (λ verdict said operations known. said operations (known_still (trace_of c.args.transactions.now operations) c.args.readings.now c.args.order.now.items c.deref.result.now still known))
-      c.try_order.ensures
+    (λ (verdict : Verdict). (operations : List Operation) → AreKnown (trace_of c.args.transactions.now operations) c.args.readings.now c.deref.result.now → IsVerdict c.args.level (trace_of c.args.transactions.now operations) verdict)
+    (λ (verdict : Verdict). (operations : List Operation) → AreKnown (trace_of c.args.transactions.now operations) c.args.readings.now c.args.order.now.items → IsVerdict c.args.level (trace_of c.args.transactions.now operations) verdict)
+    (λ verdict said operations known. said operations (known_still (trace_of c.args.transactions.now operations) c.args.readings.now c.args.order.now.items c.deref.result.now still known))
+    c.try_order.ensures
