@@ -2,7 +2,9 @@
 #![tactic(auto)]
 
 mod command;
+mod html;
 mod made;
+mod page;
 mod status;
 #[cfg(test)]
 mod tests;

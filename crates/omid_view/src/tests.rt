@@ -32,7 +32,7 @@ const LOST_TOLD: &str = "not isolated: apart 5 6
 ";
 
 const USAGE: &str =
-    "usage: omid_view picture [brief] [FROM TO] | breach [strict] | explain [strict]\n";
+    "usage: omid_view picture [brief] [FROM TO] | breach [strict] | explain [strict] | page [strict]\n";
 
 /// The bars of the items 2 and 3 of `LOST`, behind that of the first.
 const PART: &str =
