@@ -28,7 +28,7 @@ pub fn print_history_page(
 fn print_items(text: &mut Text, items: &[Item]) -> Result<(), NoMemory>
     ensures { OnOk result (text.new ≡ text.old ++ items_text items.now) }
 {
-    text.push(HEAD.as_bytes())?;
+    push_words(text, HEAD)?;
     print_item_lines(text, items)?;
     Ok(())
 }
@@ -54,7 +54,7 @@ fn print_item_line(text: &mut Text, item: &Item) -> Result<(), NoMemory>
 fn print_bars(text: &mut Text, chosen: &[Chosen]) -> Result<(), NoMemory>
     ensures { OnOk result (text.new ≡ text.old ++ bars_text chosen.now) }
 {
-    text.push(BARS.as_bytes())?;
+    push_words(text, BARS)?;
     print_bar_lines(text, chosen)?;
     Ok(())
 }
@@ -103,8 +103,14 @@ fn word_of(kind: BarKind) -> &'static [u8]
 fn print_told(text: &mut Text, told: &[u8]) -> Result<(), NoMemory>
     ensures { OnOk result (text.new ≡ text.old ++ told_text told.now) }
 {
-    text.push(TOLD.as_bytes())?;
+    push_words(text, TOLD)?;
     text.push_escaped(told)?;
-    text.push(SCRIPT.as_bytes())?;
+    push_words(text, SCRIPT)?;
     Ok(())
+}
+
+fn push_words(text: &mut Text, words: &str) -> Result<(), NoMemory>
+    ensures { OnOk result (text.new ≡ text.old ++ words.now) }
+{
+    text.push(words.as_bytes())
 }
