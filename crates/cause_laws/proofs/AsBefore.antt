@@ -1,9 +1,9 @@
 -- No client is gone, or places a commit, that did not so before, but by its vanishing and by a commit that is handed to it.
 use Rattle.std.proofs.Common.{◌≡◌, ℕ, refl}
-use Rattle.client_parts.specs.declared.session.State.{State as Phase}
-use Rattle.client_parts.specs.declared.session.State.TheVariants as phase
-use Rattle.client_parts.specs.SessionSteps.{SessionEntry}
-use Rattle.client_parts.specs.KeyRead.{ReadTurn, Asks, Answers}
+use Rattle.system_parts.specs.declared.session.State.{State as Phase}
+use Rattle.system_parts.specs.declared.session.State.TheVariants as phase
+use Rattle.system_parts.specs.SessionSteps.{SessionEntry}
+use Rattle.system_parts.specs.KeyRead.{ReadTurn, Asks, Answers}
 use Rattle.machine.specs.State.{Client}
 use Rattle.machine.specs.Clients.{client_begun, unless_gone, unless_gone_by}
 use Rattle.machine.specs.Events.Fetch.{client_read}

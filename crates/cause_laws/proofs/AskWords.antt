@@ -7,9 +7,9 @@ use Rattle.std.proofs.lemmas.Bool.{ne_eqb}
 use Rattle.std.proofs.lemmas.List.Elements.{All-cons, All-weaker}
 use Rattle.history_book.specs.declared.item.Item.{Item}
 use Rattle.history_book.specs.declared.item.Item.TheVariants as item
-use Rattle.oracle_parts.specs.declared.instance.Request.{Request}
-use Rattle.oracle_parts.specs.declared.instance.Request.TheVariants.{Begin, Commit}
-use Rattle.oracle_parts.specs.Instance.{session_of}
+use Rattle.system_parts.specs.declared.instance.Request.{Request}
+use Rattle.system_parts.specs.declared.instance.Request.TheVariants.{Begin, Commit}
+use Rattle.system_parts.specs.Instance.{session_of}
 use Rattle.machine.specs.Events.Decide.{draw_item}
 use Rattle.cause_rules.specs.Asks.{ask_by, asks_for, term_by, draw_by, draws_for, its_ask, since_ask, its_term, its_draw, since_draw, its_start, its_node, node_asked}
 use Rattle.cause_rules.specs.Since.{last_told, since}

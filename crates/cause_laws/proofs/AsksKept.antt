@@ -4,14 +4,14 @@ use Rattle.std.specs.Prelude.{slice_set}
 use Rattle.history_book.specs.declared.item.Actor.TheVariants.{Node}
 use Rattle.history_book.specs.declared.item.Item.{Item}
 use Rattle.history_book.specs.declared.item.Item.TheVariants as item
-use Rattle.store_parts.specs.Record.{granted}
-use Rattle.oracle_parts.specs.declared.instance.Held.{Held}
-use Rattle.oracle_parts.specs.declared.instance.Progress.{Progress}
-use Rattle.oracle_parts.specs.declared.instance.Progress.TheVariants as progress
-use Rattle.oracle_parts.specs.declared.instance.Request.{Request}
-use Rattle.oracle_parts.specs.declared.instance.Request.TheVariants.{Commit}
-use Rattle.oracle_parts.specs.Instance.{InstanceEntry, with_request, session_of}
-use Rattle.oracle_parts.specs.InstanceSteps.{without_request, moved, just_asked, drawn_as, decide_drawn, instance_widened, instance_renewed, instance_stopped}
+use Rattle.system_parts.specs.Record.{granted}
+use Rattle.system_parts.specs.declared.instance.Held.{Held}
+use Rattle.system_parts.specs.declared.instance.Progress.{Progress}
+use Rattle.system_parts.specs.declared.instance.Progress.TheVariants as progress
+use Rattle.system_parts.specs.declared.instance.Request.{Request}
+use Rattle.system_parts.specs.declared.instance.Request.TheVariants.{Commit}
+use Rattle.system_parts.specs.Instance.{InstanceEntry, with_request, session_of}
+use Rattle.system_parts.specs.InstanceSteps.{without_request, moved, just_asked, drawn_as, decide_drawn, instance_widened, instance_renewed, instance_stopped}
 use Rattle.machine.specs.State.{State}
 use Rattle.machine.specs.Events.Take.{rules_of, instance_of}
 use Rattle.machine.specs.Events.Decide.{draw_item}

@@ -6,15 +6,15 @@ use Rattle.history_book.specs.declared.item.Actor.TheVariants.{Node, Session}
 use Rattle.history_book.specs.declared.item.StoreStep.TheVariants.{Handed}
 use Rattle.history_book.specs.declared.item.Item.{Item}
 use Rattle.history_book.specs.declared.item.Item.TheVariants as item
-use Rattle.store_parts.specs.Record.{granted, is_spent, renewed_until}
-use Rattle.client_parts.specs.declared.session.State.TheVariants as phase
-use Rattle.oracle_parts.specs.declared.instance.Held.{Held}
-use Rattle.oracle_parts.specs.declared.instance.Progress.TheVariants as progress
-use Rattle.oracle_parts.specs.declared.instance.Request.{Request}
-use Rattle.oracle_parts.specs.declared.instance.Request.TheVariants.{Begin, Commit}
-use Rattle.oracle_parts.specs.declared.instance.Settled.{Settled}
-use Rattle.oracle_parts.specs.declared.instance.Settled.TheVariants as how
-use Rattle.oracle_parts.specs.Instance.{InstanceEntry, held_of, session_of, with_request}
+use Rattle.system_parts.specs.Record.{granted, is_spent, renewed_until}
+use Rattle.system_parts.specs.declared.session.State.TheVariants as phase
+use Rattle.system_parts.specs.declared.instance.Held.{Held}
+use Rattle.system_parts.specs.declared.instance.Progress.TheVariants as progress
+use Rattle.system_parts.specs.declared.instance.Request.{Request}
+use Rattle.system_parts.specs.declared.instance.Request.TheVariants.{Begin, Commit}
+use Rattle.system_parts.specs.declared.instance.Settled.{Settled}
+use Rattle.system_parts.specs.declared.instance.Settled.TheVariants as how
+use Rattle.system_parts.specs.Instance.{InstanceEntry, held_of, session_of, with_request}
 use Rattle.machine.specs.State.{Client, State}
 use Rattle.machine.specs.Events.Take.{rules_of, take_item}
 use Rattle.cause_rules.specs.OpenAsks.{ends_request}
@@ -22,7 +22,7 @@ use Rattle.isolation_laws.specs.Words.{InstanceAt, ClientAt, Marked}
 pub use Rattle.machine.specs.Plain.{is_silent, Silent, AllSilent}
 pub use Rattle.machine.specs.Outcome.OutcomesOfRecord.{Stopped, Serving, Told, Granted, granted_nodes, fault_if}
 pub use Rattle.machine.specs.Outcome.OutcomesOfStamps.{fault_of}
-use Rattle.oracle_parts.specs.InstanceSteps.{without_request, moved, just_asked, decide_drawn, instance_widened, instance_renewed, instance_stopped}
+use Rattle.system_parts.specs.InstanceSteps.{without_request, moved, just_asked, decide_drawn, instance_widened, instance_renewed, instance_stopped}
 use Rattle.machine.specs.Events.Decide.{draw_item}
 
 -- ---- the deeds

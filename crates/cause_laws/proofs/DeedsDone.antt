@@ -8,16 +8,16 @@ use Rattle.history_book.specs.declared.item.StoreStep.TheVariants.{Handed}
 use Rattle.history_book.specs.declared.item.Ending.TheVariants.{Dead as DeadEnd}
 use Rattle.history_book.specs.declared.item.Item.{Item}
 use Rattle.history_book.specs.declared.item.Item.TheVariants as item
-use Rattle.store_parts.specs.Pairs.{mark_of}
-use Rattle.store_parts.specs.Record.{renewed_until}
-use Rattle.client_parts.specs.declared.resolve.Outcome.TheVariants as outcome
-use Rattle.client_parts.specs.Resolve.{SettleTurn, Goes, Decides, settle_ask, settle_turn}
-use Rattle.oracle_parts.specs.declared.instance.Held.{Held}
-use Rattle.oracle_parts.specs.declared.instance.Request.TheVariants.{Begin, Commit}
-use Rattle.oracle_parts.specs.declared.instance.Settled.{Settled}
-use Rattle.oracle_parts.specs.declared.instance.Settled.TheVariants as how
-use Rattle.oracle_parts.specs.Instance.{InstanceEntry, held_of}
-use Rattle.oracle_parts.specs.InstanceSteps.{without_request}
+use Rattle.system_parts.specs.Pairs.{mark_of}
+use Rattle.system_parts.specs.Record.{renewed_until}
+use Rattle.system_parts.specs.declared.resolve.Outcome.TheVariants as outcome
+use Rattle.system_parts.specs.Resolve.{SettleTurn, Goes, Decides, settle_ask, settle_turn}
+use Rattle.system_parts.specs.declared.instance.Held.{Held}
+use Rattle.system_parts.specs.declared.instance.Request.TheVariants.{Begin, Commit}
+use Rattle.system_parts.specs.declared.instance.Settled.{Settled}
+use Rattle.system_parts.specs.declared.instance.Settled.TheVariants as how
+use Rattle.system_parts.specs.Instance.{InstanceEntry, held_of}
+use Rattle.system_parts.specs.InstanceSteps.{without_request}
 use Rattle.machine.specs.declared.event.Event.{Event}
 use Rattle.port_io.specs.declared.weather.Fate.{Fate}
 use Rattle.machine.specs.State.{State}

@@ -7,7 +7,7 @@ use Rattle.history_book.specs.declared.item.Actor.{Actor}
 use Rattle.history_book.specs.declared.item.Actor.TheVariants.{Session, Node, Janitor, Clock}
 use Rattle.history_book.specs.declared.item.Item.{Item}
 use Rattle.history_book.specs.declared.item.Item.TheVariants.{Refused}
-use Rattle.oracle_parts.specs.declared.instance.Progress.TheVariants as progress
+use Rattle.system_parts.specs.declared.instance.Progress.TheVariants as progress
 use Rattle.machine.specs.State.{State}
 use Rattle.cause_rules.specs.Explained.{ShownToSession, ShownToNode, ShownToJanitor, ShownCause, Shown}
 use Rattle.isolation_laws.specs.Sound.{Stands}

@@ -7,11 +7,11 @@ use Rattle.std.proofs.lemmas.List.{get_or_past, length-set}
 use Rattle.std.proofs.lemmas.Option.{none-some}
 use Rattle.stamp_base.specs.SetupNumbers.{SetupNumbers}
 use Rattle.history_book.specs.declared.item.Item.{Item}
-use Rattle.oracle_parts.specs.declared.instance.Held.{Held}
-use Rattle.oracle_parts.specs.declared.instance.Progress.{Progress}
-use Rattle.oracle_parts.specs.declared.instance.Request.{Request}
-use Rattle.oracle_parts.specs.Instance.{InstanceEntry, held_of, with_request}
-use Rattle.oracle_parts.proofs.InstanceRequests.{held_of-with_request_same, held_of-with_request_other}
+use Rattle.system_parts.specs.declared.instance.Held.{Held}
+use Rattle.system_parts.specs.declared.instance.Progress.{Progress}
+use Rattle.system_parts.specs.declared.instance.Request.{Request}
+use Rattle.system_parts.specs.Instance.{InstanceEntry, held_of, with_request}
+use Rattle.system_parts.proofs.InstanceRequests.{held_of-with_request_same, held_of-with_request_other}
 use Rattle.cause_rules.specs.OpenAsks.{open_then}
 use Rattle.isolation_laws.specs.Words.{InstanceAt, HeldBy}
 use Rattle.machine.proofs.Lookups.{set_cases, instance_changed, instance_ended, held_by}

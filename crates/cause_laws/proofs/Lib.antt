@@ -1,3 +1,9 @@
+mod RecordBounds
+pub mod BoundsKept
+pub mod RecordCalls
+pub mod RequestCalls
+pub mod StoreCalls
+pub mod StepCalls
 mod Deeds
 mod RecordedDraws
 mod HiddenWaters

@@ -1,4 +1,4 @@
--- For planned_laws too.
+-- For command_semantics too.
 -- What holds at each place of a history and of the items behind it holds at each place of both; an item behind a history.
 use Rattle.std.proofs.Common.{suc, List, [], ◌∷◌, ◌++◌, append_assoc, inl, refl, sym, subst, take}
 use Rattle.std.proofs.lemmas.List.{append-nil}

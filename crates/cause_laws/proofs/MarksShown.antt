@@ -4,7 +4,7 @@ use Rattle.port_io.specs.declared.weather.Fate.{Fate}
 use Rattle.history_book.specs.declared.item.Item.{Item}
 use Rattle.history_book.specs.declared.item.Item.TheVariants as item
 use Rattle.history_book.proofs.MemberLemmas.{in_front, in_back}
-use Rattle.store_parts.specs.Pairs.{Pairs}
+use Rattle.system_parts.specs.Pairs.{Pairs}
 use Rattle.machine.specs.declared.event.Event.{Event}
 use Rattle.machine.specs.State.{State}
 use Rattle.machine.specs.Machine.{stepped}

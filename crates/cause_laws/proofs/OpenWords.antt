@@ -10,9 +10,9 @@ use Rattle.history_book.specs.declared.item.Actor.TheVariants.{Node, Session, Ja
 use Rattle.history_book.specs.declared.item.StoreStep.TheVariants.{Handed}
 use Rattle.history_book.specs.declared.item.Item.{Item}
 use Rattle.history_book.specs.declared.item.Item.TheVariants as item
-use Rattle.oracle_parts.specs.declared.instance.Request.{Request}
-use Rattle.oracle_parts.specs.declared.instance.Request.TheVariants.{Begin, Commit}
-use Rattle.oracle_parts.specs.Instance.{session_of}
+use Rattle.system_parts.specs.declared.instance.Request.{Request}
+use Rattle.system_parts.specs.declared.instance.Request.TheVariants.{Begin, Commit}
+use Rattle.system_parts.specs.Instance.{session_of}
 use Rattle.machine.specs.Events.Decide.{draw_item}
 use Rattle.cause_rules.specs.OpenAsks.{ends_request, closes, asks_at, open_then, open_asks_of}
 use Rattle.cause_laws.proofs.Deeds.{Silent, AllSilent, EndsFor, ask_item}

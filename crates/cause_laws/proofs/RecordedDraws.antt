@@ -5,9 +5,9 @@ use Rattle.std.proofs.lemmas.List.Elements.{Contains-append_cases}
 use Rattle.history_book.specs.Members.{◌∈◌}
 use Rattle.history_book.specs.declared.item.Item.{Item}
 use Rattle.history_book.specs.declared.item.Item.TheVariants.{Draw}
-use Rattle.oracle_parts.specs.declared.buckets.Recorded.{Recorded}
-use Rattle.oracle_parts.specs.Buckets.{pair_of, pairs_of, place_of, last_commit, IsRecordedAt}
-use Rattle.oracle_parts.proofs.LastCommits.{contains_later, last_commit_recorded}
+use Rattle.system_parts.specs.declared.buckets.Recorded.{Recorded}
+use Rattle.system_parts.specs.Buckets.{pair_of, pairs_of, place_of, last_commit, IsRecordedAt}
+use Rattle.system_parts.proofs.LastCommits.{contains_later, last_commit_recorded}
 use Rattle.cause_rules.specs.Commits.{CommitDrawn}
 use Rattle.cause_rules.specs.Written.{written_keys, recorded_by, recorded_in, recorded}
 use Rattle.isolation_laws.proofs.Memory.RecordedCommits.{recorded_by_own, recorded_by_other}

@@ -11,14 +11,14 @@ use Rattle.history_book.specs.declared.item.Actor.TheVariants.{Node}
 use Rattle.history_book.specs.declared.item.Item.{Item}
 use Rattle.history_book.specs.declared.item.Item.TheVariants as item
 use Rattle.history_book.proofs.MemberLemmas.{in_front, in_back, in_last}
-use Rattle.oracle_parts.specs.declared.instance.Progress.{Progress}
-use Rattle.oracle_parts.specs.declared.instance.Progress.TheVariants as progress
-use Rattle.oracle_parts.specs.declared.instance.Request.{Request}
-use Rattle.oracle_parts.specs.declared.instance.Request.TheVariants.{Begin, Commit}
-use Rattle.oracle_parts.specs.declared.instance.Settled.{Settled}
-use Rattle.oracle_parts.specs.declared.instance.Settled.TheVariants as how
-use Rattle.oracle_parts.specs.Instance.{InstanceEntry, session_of, stamps_by}
-use Rattle.oracle_parts.specs.InstanceSteps.{drawn_as}
+use Rattle.system_parts.specs.declared.instance.Progress.{Progress}
+use Rattle.system_parts.specs.declared.instance.Progress.TheVariants as progress
+use Rattle.system_parts.specs.declared.instance.Request.{Request}
+use Rattle.system_parts.specs.declared.instance.Request.TheVariants.{Begin, Commit}
+use Rattle.system_parts.specs.declared.instance.Settled.{Settled}
+use Rattle.system_parts.specs.declared.instance.Settled.TheVariants as how
+use Rattle.system_parts.specs.Instance.{InstanceEntry, session_of, stamps_by}
+use Rattle.system_parts.specs.InstanceSteps.{drawn_as}
 use Rattle.machine.specs.Events.Decide.{draw_item}
 use Rattle.cause_rules.specs.Asks.{its_ask, its_term, its_draw, since_draw}
 use Rattle.isolation_laws.specs.Words.{InstanceAt, HeldBy}

@@ -9,15 +9,15 @@ use Rattle.history_book.specs.declared.cause.Cause.{Cause}
 use Rattle.history_book.specs.declared.cause.Cause.TheVariants as cause
 use Rattle.history_book.specs.declared.item.Item.{Item}
 use Rattle.history_book.specs.declared.item.Item.TheVariants.{Draw, Fault}
-use Rattle.oracle_parts.specs.declared.instance.Held.{Held}
-use Rattle.oracle_parts.specs.declared.instance.Progress.{Progress}
-use Rattle.oracle_parts.specs.declared.instance.Progress.TheVariants as progress
-use Rattle.oracle_parts.specs.declared.instance.Request.{Request}
-use Rattle.oracle_parts.specs.declared.instance.Request.TheVariants.{Begin, Commit}
-use Rattle.oracle_parts.specs.declared.instance.Settled.TheVariants as how
-use Rattle.oracle_parts.specs.Instance.{InstanceEntry, held_of, unsettled_by, unsettled_commit}
-use Rattle.oracle_parts.specs.InstanceLaws.{IsLeastUnsettled}
-use Rattle.oracle_parts.proofs.InstanceBegins.{least_is_least}
+use Rattle.system_parts.specs.declared.instance.Held.{Held}
+use Rattle.system_parts.specs.declared.instance.Progress.{Progress}
+use Rattle.system_parts.specs.declared.instance.Progress.TheVariants as progress
+use Rattle.system_parts.specs.declared.instance.Request.{Request}
+use Rattle.system_parts.specs.declared.instance.Request.TheVariants.{Begin, Commit}
+use Rattle.system_parts.specs.declared.instance.Settled.TheVariants as how
+use Rattle.system_parts.specs.Instance.{InstanceEntry, held_of, unsettled_by, unsettled_commit}
+use Rattle.system_parts.specs.InstanceLaws.{IsLeastUnsettled}
+use Rattle.system_parts.proofs.InstanceBegins.{least_is_least}
 use Rattle.machine.specs.State.{State}
 use Rattle.cause_rules.specs.Asks.{its_draw, since_draw}
 use Rattle.cause_rules.specs.Posts.{CeilingGiven}

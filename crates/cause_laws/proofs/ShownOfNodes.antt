@@ -3,8 +3,8 @@ use Rattle.std.proofs.Common.{◌≡◌, ℕ, zero, suc, ◌+◌, ◌<◌, if◌
 use Rattle.std.specs.Prelude.{is_some, length, slice_index_or, count_by}
 use Rattle.std.proofs.lemmas.List.Recursion.{is_count_by}
 use Rattle.history_book.specs.declared.item.Item.{Item}
-use Rattle.oracle_parts.specs.declared.instance.Held.{Held}
-use Rattle.oracle_parts.specs.Instance.{in_flight}
+use Rattle.system_parts.specs.declared.instance.Held.{Held}
+use Rattle.system_parts.specs.Instance.{in_flight}
 use Rattle.machine.specs.State.{State}
 use Rattle.cause_rules.specs.OpenAsks.{open_asks_of, open_asks_from, open_asks}
 use Rattle.cause_rules.specs.Posts.{TookLast, HasNone, TermTaken, LeaseGiven}

@@ -1,18 +1,18 @@
--- For planned_laws too.
+-- For command_semantics too.
 -- What is due of a request is shown: by its ask, its term and its draw, and by the facts of isolation.
 use Rattle.std.proofs.Common.{◌≡◌, ◌≢◌, ℕ, true, List, [], Option, None, Some, ◌⊎◌, inl, inr, refl, sym, ◌∙◌, ap, subst, Contains}
 use Rattle.std.specs.Option.{option_or}
 use Rattle.std.proofs.lemmas.Bool.{cases_Bool}
 use Rattle.history_book.specs.declared.item.Item.{Item}
-use Rattle.oracle_parts.specs.declared.buckets.Verdict.{Verdict}
-use Rattle.oracle_parts.specs.declared.buckets.Verdict.TheVariants.{Free, Conflict, Hidden}
-use Rattle.oracle_parts.specs.declared.instance.Progress.{Progress}
-use Rattle.oracle_parts.specs.declared.instance.Progress.TheVariants as progress
-use Rattle.oracle_parts.specs.declared.instance.Request.{Request}
-use Rattle.oracle_parts.specs.declared.instance.Request.TheVariants.{Begin, Commit}
-use Rattle.oracle_parts.specs.Buckets.{Bucket, contents, verdict, IsShown}
-use Rattle.oracle_parts.specs.Instance.{InstanceEntry}
-use Rattle.oracle_parts.proofs.BucketVerdicts.{verdict_shown}
+use Rattle.system_parts.specs.declared.buckets.Verdict.{Verdict}
+use Rattle.system_parts.specs.declared.buckets.Verdict.TheVariants.{Free, Conflict, Hidden}
+use Rattle.system_parts.specs.declared.instance.Progress.{Progress}
+use Rattle.system_parts.specs.declared.instance.Progress.TheVariants as progress
+use Rattle.system_parts.specs.declared.instance.Request.{Request}
+use Rattle.system_parts.specs.declared.instance.Request.TheVariants.{Begin, Commit}
+use Rattle.system_parts.specs.Buckets.{Bucket, contents, verdict, IsShown}
+use Rattle.system_parts.specs.Instance.{InstanceEntry}
+use Rattle.system_parts.proofs.BucketVerdicts.{verdict_shown}
 use Rattle.machine.specs.State.{State}
 use Rattle.cause_rules.specs.Asks.{Ask, its_ask, its_term, its_draw, its_start, its_node, start_asked, start_drawn, node_asked}
 use Rattle.cause_rules.specs.Written.{written_keys, recorded}

@@ -1,4 +1,4 @@
--- For served_lines too.
+-- For request_completion too.
 -- Which outcomes tell of requests, commits and instances: all others are silent.
 use Rattle.std.proofs.Common.{◌≡◌, ℕ, ◌+◌, Bool, true, false, List, [], ◌∷◌, Option, refl, sym, subst}
 use Rattle.std.proofs.lemmas.List.Elements.{All-cons, All-append}
@@ -7,11 +7,11 @@ use Rattle.history_book.specs.declared.item.Actor.TheVariants.{Node, Janitor}
 use Rattle.history_book.specs.declared.item.StoreStep.TheVariants.{PutFound, Keys}
 use Rattle.history_book.specs.declared.item.Item.{Item}
 use Rattle.history_book.specs.declared.item.Item.TheVariants as item
-use Rattle.store_parts.specs.Record.{renewed_until}
-use Rattle.client_parts.specs.KeyRead.{ReadTurn, Asks, Answers}
-use Rattle.oracle_parts.specs.declared.instance.Settled.{Settled}
-use Rattle.oracle_parts.specs.declared.instance.Settled.TheVariants as how
-use Rattle.oracle_parts.specs.Instance.{InstanceEntry}
+use Rattle.system_parts.specs.Record.{renewed_until}
+use Rattle.system_parts.specs.KeyRead.{ReadTurn, Asks, Answers}
+use Rattle.system_parts.specs.declared.instance.Settled.{Settled}
+use Rattle.system_parts.specs.declared.instance.Settled.TheVariants as how
+use Rattle.system_parts.specs.Instance.{InstanceEntry}
 use Rattle.machine.specs.State.{State}
 use Rattle.machine.specs.Events.Fetch.{found_of, read_items}
 use Rattle.machine.specs.Events.Take.{rules_of}

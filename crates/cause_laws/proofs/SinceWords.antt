@@ -1,4 +1,4 @@
--- For served_lines, planned_laws and seat_lines too.
+-- For request_completion, command_semantics and log_refinement too.
 -- What a history told last, and what stands in it since an item, after more items.
 use Rattle.std.proofs.Common.{◌≡◌, refl, fold, Bool, true, false, if◌then◌else◌, List, [], ◌∷◌, ◌++◌, append_assoc, Option, None, sym, ◌∙◌, ap}
 use Rattle.std.specs.Option.{option_or}

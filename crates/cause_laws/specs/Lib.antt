@@ -1,3 +1,6 @@
+pub mod RequestCalls
+pub mod Bounds
+pub mod StoreCalls
 pub mod Due
 pub mod Requests
 pub mod Reads

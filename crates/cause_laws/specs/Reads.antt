@@ -1,7 +1,7 @@
 -- What the history shows of the keys that clients keep as read, which count with strict reads.
 use Rattle.std.specs.Prelude.{◌≡◌, ℕ, List, Some, Contains}
 use Rattle.history_book.specs.declared.item.Item.{Item}
-use Rattle.client_parts.specs.declared.session.State.TheVariants as phase
+use Rattle.system_parts.specs.declared.session.State.TheVariants as phase
 use Rattle.machine.specs.State.{Client}
 use Rattle.cause_rules.specs.Asks.{its_ask}
 use Rattle.cause_rules.specs.OwnKeys.{last_begun, FetchedSince}

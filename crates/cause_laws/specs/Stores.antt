@@ -4,9 +4,9 @@ use Rattle.history_book.specs.Members.{◌∈◌}
 use Rattle.history_book.specs.declared.item.Actor.{Actor}
 use Rattle.history_book.specs.declared.item.Item.{Item}
 use Rattle.history_book.specs.declared.item.Item.TheVariants.{Mark, Vanish}
-use Rattle.store_parts.specs.Pairs.{Pairs}
-use Rattle.store_parts.specs.Record.{MasterRecord}
-use Rattle.client_parts.specs.declared.session.State.TheVariants.{Gone}
+use Rattle.system_parts.specs.Pairs.{Pairs}
+use Rattle.system_parts.specs.Record.{MasterRecord}
+use Rattle.system_parts.specs.declared.session.State.TheVariants.{Gone}
 use Rattle.machine.specs.State.{Client}
 use Rattle.cause_rules.specs.Posts.{TermTaken, LeaseGiven, CeilingGiven}
 use Rattle.isolation_laws.specs.Words.{ClientAt, Marked}

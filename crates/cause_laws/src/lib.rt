@@ -1,5 +1,6 @@
 //! Why every refusal in a history of the machine is shown by what stands before it: what a history shows of the state that it
-//! led to, and that every event keeps it so.
+//! led to, and that every event keeps it so. And what the calls on the parts require of their caller holds in every state that is
+//! reached: one law for each event whose call requires something, and one for all that a node does with a request that it holds.
 #![tactic(auto)]
 
 ghost use Rattle.std.specs.Prelude.{List, [], ◌++◌};
@@ -13,6 +14,24 @@ ghost use Rattle.cause_rules.specs.Explained.{Explained};
 ghost use Rattle.isolation_laws.specs.Sound.{Stands};
 ghost use Rattle.cause_laws.specs.Due.{AreDue};
 ghost use Rattle.cause_laws.specs.Shows.{Tells};
+
+mod bounds;
+mod record_calls;
+mod request_calls;
+mod store_calls;
+
+pub use bounds::{bounded_at_first, events_keep_bounds};
+pub use record_calls::{
+    draw_may_be_made, extension_may_be_made, parts_are_counted, renewal_may_be_made,
+    take_may_be_made,
+};
+pub use request_calls::{
+    begin_may_be_asked, commit_may_be_asked, put_may_be_made, requests_are_waited_for,
+};
+pub use store_calls::{
+    heal_may_be_made, placing_may_be_made, read_may_go_on, step_may_be_made, sweep_may_step,
+    write_may_be_made,
+};
 
 /// Every refusal in every history of the machine is shown by what stands before it: for every setup in range, every list of
 /// events, each with any fate of its store call, any number of nodes and sessions, crashes, takeovers, marks and sweeps

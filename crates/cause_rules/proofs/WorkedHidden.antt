@@ -8,7 +8,7 @@ use Rattle.history_book.specs.declared.item.Actor.TheVariants.{Session}
 use Rattle.history_book.specs.declared.item.Item.{Item}
 use Rattle.history_book.specs.declared.item.StoreStep.TheVariants.{Fetch}
 use Rattle.history_book.specs.declared.item.Item.TheVariants.{Draw, Step}
-use Rattle.oracle_parts.specs.Buckets.{Bucket, place_of, bucket_of, contents, kept_commit, record_pairs, added, without, oldest}
+use Rattle.system_parts.specs.Buckets.{Bucket, place_of, bucket_of, contents, kept_commit, record_pairs, added, without, oldest}
 use Rattle.cause_rules.specs.Written.{keys_from, written_keys, recorded, recorded_in}
 use Rattle.cause_rules.specs.OwnKeys.{since_begin, HasRead, WroteOrRead}
 use Rattle.cause_rules.specs.Commits.{ShownHidden}

@@ -9,7 +9,7 @@ use Rattle.history_book.specs.declared.item.Actor.{Actor}
 use Rattle.history_book.specs.declared.item.Actor.TheVariants.{Node, Session}
 use Rattle.history_book.specs.declared.item.Item.{Item}
 use Rattle.history_book.specs.declared.item.Item.TheVariants.{Draw, Mark, Fault, Crash}
-use Rattle.oracle_parts.specs.Buckets.{place_of, bucket_of, contents, kept_commit}
+use Rattle.system_parts.specs.Buckets.{place_of, bucket_of, contents, kept_commit}
 use Rattle.cause_rules.specs.Asks.{its_node, its_term, its_draw, its_start, since_ask, since_draw}
 use Rattle.cause_rules.specs.Posts.{TookLast, LeasedUntil, TermTaken, CeilingGiven}
 use Rattle.cause_rules.specs.Written.{written_keys, recorded}

@@ -2,9 +2,9 @@
 use Rattle.std.specs.Prelude.{ℕ, ◌==◌, if◌then◌else◌, List, [], ◌∷◌, ◌++◌, Some}
 use Rattle.history_book.specs.declared.item.Item.{Item}
 use Rattle.history_book.specs.declared.item.Item.TheVariants.{Draw, Write}
-use Rattle.client_parts.specs.SessionSteps.{key_added}
-use Rattle.oracle_parts.specs.declared.buckets.Recorded.{Recorded}
-use Rattle.oracle_parts.specs.Buckets.{pairs_of}
+use Rattle.system_parts.specs.SessionSteps.{key_added}
+use Rattle.system_parts.specs.declared.buckets.Recorded.{Recorded}
+use Rattle.system_parts.specs.Buckets.{pairs_of}
 
 -- the write list after an item
 abbrev pub keys_with : List ℕ → ℕ → Item → List ℕ

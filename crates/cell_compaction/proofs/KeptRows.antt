@@ -3,7 +3,7 @@
 use Rattle.std.proofs.Common.{◌≡◌, ℕ, ◌<◌, ◌≤◌, Bool, true, false, ◌||◌, ◌⊎◌, List, [], ◌∷◌, inl, inr, refl, sym, ap, ◌∙◌, subst, true≢false, arith, eq-eqb}
 use Rattle.std.specs.Prelude.{nat_le, if◌then◌else◌, Option, None, Some}
 use Rattle.history_book.specs.Members.{◌∈◌}
-use Rattle.store_parts.specs.Rows.{Row, IsBelowAll, AreOrdered}
+use Rattle.system_parts.specs.Rows.{Row, IsBelowAll, AreOrdered}
 use Rattle.cell_compaction.specs.declared.latest.Latest.{Latest}
 use Rattle.cell_compaction.specs.Rest.{latest_in, found_of, is_latest, stays_by, stays, kept_of, compacted, with_commits}
 use Rattle.history_book.specs.Isolation.{Visible}

@@ -8,7 +8,7 @@ use Rattle.std.proofs.lemmas.Bool.Decides.{nat_tests}
 use Rattle.std.proofs.lemmas.List.{take-append-drop, length-take, length-drop, get_or-take, get_or-drop, get_or_default}
 use Rattle.std.proofs.Math.Seq.{drop-cons}
 use Rattle.std.proofs.lemmas.List.Elements.{All-head, All-tail}
-use Rattle.store_parts.specs.Rows.{Row, IsBelowAll, AreOrdered}
+use Rattle.system_parts.specs.Rows.{Row, IsBelowAll, AreOrdered}
 use Rattle.cell_store.specs.AtRest.{row_of}
 use Rattle.cell_store.specs.declared.at_rest.Row as program
 use Rattle.cell_compaction.specs.declared.latest.Latest.{Latest}

@@ -5,7 +5,7 @@ use Rattle.std.specs.Prelude.{nat_lt, if◌then◌else◌, Option, None, Some}
 use Rattle.std.proofs.lemmas.Bool.{cases_Bool, eqb-true, eqb-false, and_parts}
 use Rattle.std.proofs.lemmas.Option.{same_Some, none-some}
 use Rattle.history_book.specs.Members.{◌∈◌}
-use Rattle.store_parts.specs.Rows.{Row}
+use Rattle.system_parts.specs.Rows.{Row}
 use Rattle.cell_compaction.specs.declared.latest.Latest.{Latest}
 use Rattle.cell_compaction.specs.Rest.{commit_below, is_later, row_with, later_of, with_row, latest_in}
 

@@ -4,10 +4,10 @@ use Rattle.std.proofs.Common.{◌≡◌, ℕ, ◌<◌, ◌⊎◌, List, [], ◌�
 use Rattle.std.specs.Prelude.{Some}
 use Rattle.std.proofs.lemmas.Option.{same_Some}
 use Rattle.history_book.specs.Members.{◌∈◌}
-use Rattle.store_parts.specs.declared.rows.Cell.{Cell}
-use Rattle.store_parts.specs.Rows.{Row, cell_of, looked, IsBelowAll, AreOrdered}
-use Rattle.store_parts.proofs.RowLaws.{is_row-cases, looked-here, looked-past, none_looked}
-use Rattle.store_parts.specs.Pairs.{Pairs}
+use Rattle.system_parts.specs.declared.rows.Cell.{Cell}
+use Rattle.system_parts.specs.Rows.{Row, cell_of, looked, IsBelowAll, AreOrdered}
+use Rattle.system_parts.proofs.RowLaws.{is_row-cases, looked-here, looked-past, none_looked}
+use Rattle.system_parts.specs.Pairs.{Pairs}
 use Rattle.cell_compaction.specs.Rest.{with_commit, with_commits}
 
 abbrev pub Ahead : Row → Row → Type 0

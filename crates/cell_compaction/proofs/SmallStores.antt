@@ -11,10 +11,10 @@ use Rattle.history_book.specs.Members.{◌∈◌}
 use Rattle.history_book.specs.Isolation.{Committed, Wrote, last_write}
 use Rattle.history_book.specs.declared.item.Item.{Item}
 use Rattle.history_book.specs.declared.item.Item.TheVariants.{Write, Placed}
-use Rattle.store_parts.specs.declared.rows.Cell.{Cell}
-use Rattle.store_parts.specs.Rows.{Row, looked, AreOrdered, IsBelowAll}
-use Rattle.store_parts.specs.Pairs.{Pairs, mark_of}
-use Rattle.store_parts.proofs.PairLaws.{mark_of-empty, mark_of-put_pair, mark_of-put_pair_other}
+use Rattle.system_parts.specs.declared.rows.Cell.{Cell}
+use Rattle.system_parts.specs.Rows.{Row, looked, AreOrdered, IsBelowAll}
+use Rattle.system_parts.specs.Pairs.{Pairs, mark_of}
+use Rattle.system_parts.proofs.PairLaws.{mark_of-empty, mark_of-put_pair, mark_of-put_pair_other}
 use Rattle.cell_compaction.specs.Rest.{StandsAtRest, IsWritten, with_commits, latest_in, kept_of, compacted, snapshot, read_from}
 use Rattle.cell_compaction.proofs.MemberRows.{looked_member}
 use Rattle.cell_compaction.specs.Worked.{p, q, row_of, no_pairs, one_commit, record_of_first, four_rows}

@@ -8,9 +8,9 @@ use Rattle.stamp_base.specs.declared.stores.Mark.TheVariants as mark
 use Rattle.history_book.specs.Members.{◌∈◌}
 use Rattle.history_book.specs.Isolation.{Committed, Wrote, Visible}
 use Rattle.history_book.specs.declared.item.Item.{Item}
-use Rattle.store_parts.specs.declared.rows.Cell.{Cell}
-use Rattle.store_parts.specs.Rows.{Row, cell_of, looked}
-use Rattle.store_parts.specs.Pairs.{Pairs, mark_of}
+use Rattle.system_parts.specs.declared.rows.Cell.{Cell}
+use Rattle.system_parts.specs.Rows.{Row, cell_of, looked}
+use Rattle.system_parts.specs.Pairs.{Pairs, mark_of}
 use Rattle.cell_compaction.specs.declared.latest.Latest.{Latest}
 use Rattle.cell_compaction.specs.Rest.{StandsAtRest, commit_in, commit_of, with_commit, with_commits, latest_in, found_of, snapshot}
 use Rattle.isolation_rules.proofs.ReadLemmas.{visible_once}

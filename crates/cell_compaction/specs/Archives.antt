@@ -1,7 +1,7 @@
 -- An archive as contracts see it, and its answers to readers.
 use Rattle.std.specs.Prelude.{ℕ, List, Option, None, Some}
 use Rattle.history_book.specs.declared.item.Found.{Found}
-use Rattle.store_parts.specs.Rows.{Row}
+use Rattle.system_parts.specs.Rows.{Row}
 
 -- the rows that were kept, the water, and how many rows there were before
 pub record SeenArchive : Type 0 where

@@ -3,8 +3,8 @@ use Rattle.std.specs.Prelude.{◌≡◌, ℕ, ◌≤◌, List, Option}
 use Rattle.history_book.specs.Isolation.{Stamped, Visible}
 use Rattle.history_book.specs.declared.item.Found.{Found}
 use Rattle.history_book.specs.declared.item.Item.{Item}
-use Rattle.store_parts.specs.Rows.{Row, AreOrdered}
-use Rattle.store_parts.specs.Pairs.{Pairs}
+use Rattle.system_parts.specs.Rows.{Row, AreOrdered}
+use Rattle.system_parts.specs.Pairs.{Pairs}
 use Rattle.cell_compaction.specs.Rest.{StandsAtRest, snapshot, read_from, compacted}
 
 -- every reader finds in the stores what it sees in the history

@@ -7,9 +7,9 @@ use Rattle.stamp_base.specs.declared.stores.Mark.TheVariants as mark
 use Rattle.history_book.specs.Isolation.{Committed, Wrote}
 use Rattle.history_book.specs.declared.item.Found.{Found}
 use Rattle.history_book.specs.declared.item.Item.{Item}
-use Rattle.store_parts.specs.declared.rows.Cell.{Cell}
-use Rattle.store_parts.specs.Rows.{Row, looked, AreOrdered}
-use Rattle.store_parts.specs.Pairs.{Pairs, mark_of}
+use Rattle.system_parts.specs.declared.rows.Cell.{Cell}
+use Rattle.system_parts.specs.Rows.{Row, looked, AreOrdered}
+use Rattle.system_parts.specs.Pairs.{Pairs, mark_of}
 use Rattle.cell_compaction.specs.declared.latest.Latest.{Latest}
 
 -- ---- the stores and their history

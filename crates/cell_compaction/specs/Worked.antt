@@ -4,8 +4,8 @@ use Rattle.std.specs.FinMap as map
 use Rattle.stamp_base.specs.declared.stores.Mark.TheVariants as mark
 use Rattle.history_book.specs.declared.item.Item.{Item}
 use Rattle.history_book.specs.declared.item.Item.TheVariants.{Write, Placed}
-use Rattle.store_parts.specs.Rows.{Row}
-use Rattle.store_parts.specs.Pairs.{Pairs, put_pair}
+use Rattle.system_parts.specs.Rows.{Row}
+use Rattle.system_parts.specs.Pairs.{Pairs, put_pair}
 
 abbrev pub p : List ℕ
 p = 112 ∷ []

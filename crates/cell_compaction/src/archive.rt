@@ -28,7 +28,7 @@ pub struct Archive {
 
 impl Model for Archive {
     ghost use Rattle.std.specs.Prelude.{map};
-    ghost use Rattle.store_parts.specs.Rows.{AreOrdered};
+    ghost use Rattle.system_parts.specs.Rows.{AreOrdered};
     ghost use Rattle.cell_store.specs.AtRest.{row_of};
     ghost use Rattle.cell_compaction.specs.Archives.{SeenArchive};
 

@@ -1,6 +1,6 @@
 // Which rows a compaction keeps.
 ghost use Rattle.std.specs.Prelude.{◌≡◌, ◌++◌, [], ◌∷◌, if◌then◌else◌, map, IfOk, OnOk};
-ghost use Rattle.store_parts.specs.Rows.{AreOrdered};
+ghost use Rattle.system_parts.specs.Rows.{AreOrdered};
 ghost use Rattle.cell_store.specs.AtRest.{row_of};
 ghost use Rattle.cell_compaction.specs.Rest.{commit_in, commit_of, is_latest, kept_of, latest_in, stays_by, with_commits};
 

@@ -1,7 +1,7 @@
 // The latest version of a key that a reader finds in rows.
 ghost use Rattle.std.specs.Prelude.{◌≡◌, ◌<◌, ◌≤◌, drop, take, map, length};
 ghost use Rattle.std.specs.List.{All};
-ghost use Rattle.store_parts.specs.Rows.{AreOrdered};
+ghost use Rattle.system_parts.specs.Rows.{AreOrdered};
 ghost use Rattle.cell_store.specs.AtRest.{row_of};
 ghost use Rattle.cell_compaction.specs.Rest.{commit_below, is_later, latest_in, later_of, with_row};
 

@@ -1,8 +1,8 @@
 -- The front of cells, found by a walk from the last one on.
 use Rattle.std.proofs.Common.{◌≡◌, ℕ, ◌+◌, ◌<◌, true, false, List, [], ◌∷◌, ◌++◌, drop, get_or, length, reverse, take, refl, sym, ap, ◌∙◌, append-nil, append_assoc}
 use Rattle.std.proofs.lemmas.List.{reverse-append, take_more, drop_more}
-use Rattle.store_parts.specs.declared.rows.Cell.{Cell}
-use Rattle.store_parts.specs.Rows.{is_below, front_of}
+use Rattle.system_parts.specs.declared.rows.Cell.{Cell}
+use Rattle.system_parts.specs.Rows.{is_below, front_of}
 
 -- the front of all cells is that of the cells before the place n behind those from there on
 abbrev pub IsFrontBehind : ℕ → List Cell → ℕ → Type 0

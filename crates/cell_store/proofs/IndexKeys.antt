@@ -12,9 +12,9 @@ use Rattle.std.specs.List.Sorted.{IsStrictlySortedBy}
 use Rattle.std.proofs.lemmas.Bool.Decides.{nat_tests}
 use Rattle.std.proofs.lemmas.Cmp.{nat_cmp_total}
 use Rattle.std.proofs.lemmas.Map.Lookups.{btree_set_from_contains, exact_unsigned}
-use Rattle.store_parts.specs.Rows.{Row, put_row, looked, with_shadow, without_bare, keys_of_version, AreOrdered, IsBare}
-use Rattle.store_parts.proofs.RowLaws.{looked-put_bare, looked-put_other, looked-without_other}
-use Rattle.store_parts.proofs.RowVersions.{keys_of_version-sorted, without_bare_gone}
+use Rattle.system_parts.specs.Rows.{Row, put_row, looked, with_shadow, without_bare, keys_of_version, AreOrdered, IsBare}
+use Rattle.system_parts.proofs.RowLaws.{looked-put_bare, looked-put_other, looked-without_other}
+use Rattle.system_parts.proofs.RowVersions.{keys_of_version-sorted, without_bare_gone}
 use Rattle.cell_store.specs.Index.{Entry, entry_of, entry_cmp, key_of}
 use Rattle.cell_store.proofs.Places.{placed, is_some-shadow}
 

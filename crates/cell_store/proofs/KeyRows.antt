@@ -8,10 +8,10 @@ use Rattle.std.proofs.lemmas.List.{map-append, reverse-append, take-append-drop,
 use Rattle.std.proofs.lemmas.List.Elements.{All-nil, All-cons, All-head, All-tail, All-same, All-weaker}
 use Rattle.std.proofs.lemmas.Option.{none-some}
 use Rattle.std.proofs.Math.Seq.{drop-cons}
-use Rattle.store_parts.specs.declared.rows.Cell.{Cell}
-use Rattle.store_parts.specs.Rows.{Row, bare_cell, put_row, fetched, looked, with_shadow, without_bare, IsBelowAll, AreOrdered}
-use Rattle.store_parts.proofs.RowLaws.{is_row-true, looked-here}
-use Rattle.store_parts.proofs.RowFetches.{fetched-append, all_pairs_cons}
+use Rattle.system_parts.specs.declared.rows.Cell.{Cell}
+use Rattle.system_parts.specs.Rows.{Row, bare_cell, put_row, fetched, looked, with_shadow, without_bare, IsBelowAll, AreOrdered}
+use Rattle.system_parts.proofs.RowLaws.{is_row-true, looked-here}
+use Rattle.system_parts.proofs.RowFetches.{fetched-append, all_pairs_cons}
 use Rattle.cell_store.specs.KeyLists.{row_at, rows_at, AreRising, AreLowerBefore, IsPlace}
 use Rattle.cell_store.proofs.RowSplits.{IsEarlier, IsLater, IsEditAt, put_is_edit, shadow_is_edit, without_is_edit, put-behind, looked-earlier, looked-later}
 

@@ -13,8 +13,8 @@ use Rattle.std.proofs.lemmas.Map.{lookup-none}
 use Rattle.std.proofs.lemmas.Map.Entries.{none_below_head}
 use Rattle.std.proofs.lemmas.Map.Keys.{sorted_head, sorted_tail}
 use Rattle.std.proofs.lemmas.Option.{none-some, same_Some}
-use Rattle.store_parts.specs.declared.rows.Cell.{Cell}
-use Rattle.store_parts.specs.Rows.{Row, AreOrdered}
+use Rattle.system_parts.specs.declared.rows.Cell.{Cell}
+use Rattle.system_parts.specs.Rows.{Row, AreOrdered}
 use Rattle.cell_store.specs.KeyLists.{row_at, rows_at, rows_of, AreRising}
 use Rattle.cell_store.proofs.RowSplits.{IsEarlier, IsLater, IsEditAt, IsAskedOf, ordered-front, ordered-rest}
 use Rattle.cell_store.proofs.KeyRows.{rising_from_ordered}

@@ -1,9 +1,9 @@
 -- A row by its key and its version, and what a change of one row means for another.
 use Rattle.std.proofs.Common.{◌≡◌, ℕ, List, Option, None, Some, is_some, ◌⊎◌, inl, inr, refl, ap, ◌∙◌}
 use Rattle.std.proofs.lemmas.Bool.{cases_eq}
-use Rattle.store_parts.specs.declared.rows.Cell.{Cell}
-use Rattle.store_parts.specs.Rows.{Row, looked, shadowed, with_shadow}
-use Rattle.store_parts.proofs.RowLaws.{looked-shadow_same, looked-shadow_other}
+use Rattle.system_parts.specs.declared.rows.Cell.{Cell}
+use Rattle.system_parts.specs.Rows.{Row, looked, shadowed, with_shadow}
+use Rattle.system_parts.proofs.RowLaws.{looked-shadow_same, looked-shadow_other}
 
 -- a place is the one of the key and the version, or another
 pub placed : (k t j u : ℕ) → ((k ≡ j) × (t ≡ u)) ⊎ (k ≡ j → t ≡ u → ⊥)

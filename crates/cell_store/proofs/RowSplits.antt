@@ -4,9 +4,9 @@ use Rattle.std.specs.List.{AllByRecursion}
 use Rattle.std.proofs.lemmas.Bool.{cases_Bool}
 use Rattle.std.proofs.lemmas.Bool.Decides.{nat_tests}
 use Rattle.std.proofs.lemmas.List.{append-nil}
-use Rattle.store_parts.specs.declared.rows.Cell.{Cell}
-use Rattle.store_parts.specs.Rows.{Row, is_row, is_before, bare_row, put_row, fetched, looked, with_shadow, unless_bare, without_bare, IsBelowAll, AreOrdered}
-use Rattle.store_parts.proofs.RowFetches.{fetched-append}
+use Rattle.system_parts.specs.declared.rows.Cell.{Cell}
+use Rattle.system_parts.specs.Rows.{Row, is_row, is_before, bare_row, put_row, fetched, looked, with_shadow, unless_bare, without_bare, IsBelowAll, AreOrdered}
+use Rattle.system_parts.proofs.RowFetches.{fetched-append}
 
 -- the row stands before the place of the key and the version, or behind it
 abbrev pub IsEarlier : ℕ → ℕ → Row → Type 0

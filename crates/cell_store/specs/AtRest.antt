@@ -1,5 +1,5 @@
 -- The row that a row of the program stands for.
-use Rattle.store_parts.specs.Rows.{Row}
+use Rattle.system_parts.specs.Rows.{Row}
 use Rattle.cell_store.specs.KeyLists.{row_at}
 use Rattle.cell_store.specs.declared.at_rest.Row as program
 

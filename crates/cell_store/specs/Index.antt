@@ -4,7 +4,7 @@ use Rattle.std.specs.Ordering.{nat_cmp, ordering_then}
 use Rattle.std.specs.declared.cmp.Ordering.{Ordering}
 use Rattle.std.specs.declared.cmp.Reverse.{Reverse}
 use Rattle.std.specs.BTreeSet as sorted
-use Rattle.store_parts.specs.Rows.{looked}
+use Rattle.system_parts.specs.Rows.{looked}
 use Rattle.cell_store.specs.declared.Cells.TheInside.{Inside}
 
 -- a version and a key, as the index has them

@@ -4,8 +4,8 @@ use Rattle.std.specs.List.{All, AllPairs, HoldsAt}
 use Rattle.std.specs.Ordering.{nat_cmp}
 use Rattle.std.specs.BTreeMap as tree
 use Rattle.std.specs.declared.vec.Vec.{Vec}
-use Rattle.store_parts.specs.declared.rows.Cell.{Cell}
-use Rattle.store_parts.specs.Rows.{Row, front_of, AreOrdered}
+use Rattle.system_parts.specs.declared.rows.Cell.{Cell}
+use Rattle.system_parts.specs.Rows.{Row, front_of, AreOrdered}
 use Rattle.cell_store.specs.declared.rows.Rows.TheInside.{Inside}
 
 -- the row that a cell of the key stands for

@@ -1,7 +1,7 @@
 -- The shadow of a row.
 use Rattle.std.specs.Prelude.{ℕ, List, Option, None, Some}
-use Rattle.store_parts.specs.declared.rows.Cell.{Cell}
-use Rattle.store_parts.specs.Rows.{Row, looked}
+use Rattle.system_parts.specs.declared.rows.Cell.{Cell}
+use Rattle.system_parts.specs.Rows.{Row, looked}
 
 abbrev pub shadow_in : Option Cell → Option ℕ
 shadow_in None = None

@@ -3,7 +3,7 @@ ghost use Rattle.std.specs.Prelude.{◌≡◌, ℕ, ◌≤◌, [], ◌∷◌, dr
 ghost use Rattle.std.specs.List.{All};
 ghost use Rattle.cell_store.specs.KeyLists.{needed_by, rows_at, AreRising, AreLowerBefore, IsPlace};
 ghost use Rattle.cell_store.specs.Calls.{put_row, fetched, front_of, looked, with_shadow, without_bare};
-ghost use Rattle.store_parts.specs.Rows as rows;
+ghost use Rattle.system_parts.specs.Rows as rows;
 
 use crate::Cell;
 use stamp_base::{NoMemory, Stamp, Value};

@@ -20,8 +20,8 @@ use std::alloc::Global;
 use std::cmp::Reverse;
 use std::collections::BTreeSet;
 use std::marker::Model;
-use store_parts::answered_under;
-pub use store_parts::{Cell, StoreError, StoreFault};
+use system_parts::answered_under;
+pub use system_parts::{Cell, StoreError, StoreFault};
 
 /// The cells of a store, seen as their rows in ascending order of key and version.
 #[derive(Drop)]

@@ -21,7 +21,7 @@ pub struct Rows {
 
 impl Model for Rows {
     ghost use Rattle.std.specs.Prelude.{List};
-    ghost use Rattle.store_parts.specs.Rows.{Row};
+    ghost use Rattle.system_parts.specs.Rows.{Row};
 
     ghost Value = { List Row };
 

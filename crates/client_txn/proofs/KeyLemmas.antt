@@ -6,7 +6,7 @@ use Rattle.std.proofs.lemmas.Bool.{eqb-true, le-leb}
 use Rattle.std.proofs.lemmas.Cmp.{nat_eq_equiv}
 use Rattle.std.proofs.lemmas.Map.Views.{Contains-from_any, list_any-from_Contains}
 use Rattle.history_book.specs.declared.cause.Cause.TheVariants.{TooManyKeys}
-use Rattle.client_parts.specs.SessionSteps.{has_key, key_added, key_refusal}
+use Rattle.system_parts.specs.SessionSteps.{has_key, key_added, key_refusal}
 
 flipped : (xs : List ℕ) (y : ℕ) → list_any (nat_eq y) xs ≡ has_key xs y
 flipped [] y = refl

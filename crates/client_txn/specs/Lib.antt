@@ -1,2 +1,2 @@
-pub use Rattle.client_parts.specs.SessionSteps
+pub use Rattle.system_parts.specs.SessionSteps
 pub mod Remembering

@@ -1,7 +1,7 @@
 -- A session as its callers see it.
 use Rattle.std.specs.Prelude.{ℕ, Option, None, Some}
-use Rattle.client_parts.specs.SessionSteps.{SessionEntry, session_new}
-use Rattle.client_parts.specs.Cache.{Cache, cache_new}
+use Rattle.system_parts.specs.SessionSteps.{SessionEntry, session_new}
+use Rattle.system_parts.specs.Cache.{Cache, cache_new}
 
 -- its entry, and what it remembers of other transactions
 pub record SessionParts : Type 0 where

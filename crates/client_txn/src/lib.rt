@@ -4,5 +4,5 @@
 mod memory;
 mod session;
 
-pub use client_parts::{Known, State};
 pub use session::{Session, check_key};
+pub use system_parts::{Known, State};

@@ -1,14 +1,14 @@
 // What a session remembers, in a map that lets the decision go which was longest not used.
 ghost use Rattle.std.specs.Prelude.{◌≡◌, ◌<◌, Some, None, IfOk, OnOk, OnErr};
-ghost use Rattle.client_parts.specs.Cache.{cache_new, known_of, used, put_fresh, cache_learnt};
+ghost use Rattle.system_parts.specs.Cache.{cache_new, known_of, used, put_fresh, cache_learnt};
 ghost use Rattle.client_txn.specs.Remembering.{cache_of};
 
-use client_parts::Known;
 use lru::LruCache;
 use stamp_base::{NoMemory, TxnId};
 use std::alloc::Global;
 use std::marker::Model;
 use std::num::NonZeroUsize;
+use system_parts::Known;
 
 /// The decisions that are kept, by their transactions, and one that was just made.
 #[derive(Drop)]
@@ -19,7 +19,7 @@ pub(crate) struct Memory {
 
 impl Model for Memory {
     ghost use Rattle.std.specs.Prelude.{◌<◌};
-    ghost use Rattle.client_parts.specs.Cache.{Cache};
+    ghost use Rattle.system_parts.specs.Cache.{Cache};
 
     ghost Value = { Cache };
 

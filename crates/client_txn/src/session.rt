@@ -1,14 +1,14 @@
 ghost use Rattle.std.specs.Prelude.{◌≡◌, MatchResult, Some, None, IfOk, OnOk, OnErr};
-ghost use Rattle.client_parts.specs.SessionSteps as step;
-ghost use Rattle.client_parts.specs.Cache.{cache_new, known_of, used, put_fresh, cache_learnt};
+ghost use Rattle.system_parts.specs.SessionSteps as step;
+ghost use Rattle.system_parts.specs.Cache.{cache_new, known_of, used, put_fresh, cache_learnt};
 ghost use Rattle.client_txn.specs.Remembering.{opened_with, cache_of};
 
 use crate::memory::Memory;
-use client_parts::{Known, State};
 use history_book::Cause;
 use stamp_base::{KEY_LIMIT, KeyList, KeyNo, NoMemory, Stamp, TxnId};
 use std::alloc::Global;
 use std::marker::Model;
+use system_parts::{Known, State};
 
 /// A client session. Its start, keys and commit are those of its transaction; what it remembers of other transactions stays
 /// until it vanishes.
@@ -29,7 +29,7 @@ impl Model for Session {
 
     ghost view = { λ s. record { entry = record { state = s.state; start = s.start; epoch = s.epoch; keys = s.keys; commit = s.commit }; cache = cache_of s.memory } };
 
-    ghost use Rattle.client_parts.specs.SessionSteps.{MakesSense};
+    ghost use Rattle.system_parts.specs.SessionSteps.{MakesSense};
 
     ghost invariant = { λ s. MakesSense (record { state = s.state; start = s.start; epoch = s.epoch; keys = s.keys; commit = s.commit }) };
 }

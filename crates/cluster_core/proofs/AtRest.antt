@@ -4,9 +4,9 @@ use Rattle.std.specs.Prelude.{Option, None, Some}
 use Rattle.std.proofs.lemmas.Option.{none-some}
 use Rattle.history_book.specs.Isolation.{last_write}
 use Rattle.history_book.specs.declared.item.Item.{Item}
-use Rattle.store_parts.specs.declared.rows.Cell.{Cell}
-use Rattle.store_parts.specs.Rows.{looked}
-use Rattle.store_parts.specs.Pairs.{Pairs}
+use Rattle.system_parts.specs.declared.rows.Cell.{Cell}
+use Rattle.system_parts.specs.Rows.{looked}
+use Rattle.system_parts.specs.Pairs.{Pairs}
 use Rattle.isolation_laws.specs.Words.{cell_with, HasRecord}
 use Rattle.isolation_laws.specs.Cells.{AreShadowed}
 use Rattle.machine.specs.State.{State}

@@ -2,8 +2,8 @@
 -- Each kind of event, by the parts that it touches: the parts are looked up, and put back.
 use Rattle.std.proofs.Common.{◌≡◌, ℕ, List, slice_get, Option, Some, Result, refl}
 use Rattle.history_book.specs.declared.item.Item.{Item}
-use Rattle.client_parts.specs.Sweep.{Sweeping}
-use Rattle.oracle_parts.specs.Instance.{InstanceEntry}
+use Rattle.system_parts.specs.Sweep.{Sweeping}
+use Rattle.system_parts.specs.Instance.{InstanceEntry}
 use Rattle.machine.specs.State.{Client, State}
 use Rattle.machine.specs.Effect.{Effect}
 use Rattle.machine.specs.Machine.{with_post, with_client, with_reading, on_clients, on_ask, on_request, on_client, on_sweep}

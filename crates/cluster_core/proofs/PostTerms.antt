@@ -1,6 +1,6 @@
 -- The term at a post is what the machine reads off the node there.
 use Rattle.std.proofs.Common.{◌≡◌, Option, None, Some, refl}
-use Rattle.oracle_parts.specs.Instance.{InstanceEntry}
+use Rattle.system_parts.specs.Instance.{InstanceEntry}
 use Rattle.machine.specs.Readers.{term_at}
 use Rattle.takeover_core.specs.Holding.{term_held}
 

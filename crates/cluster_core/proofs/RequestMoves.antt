@@ -15,29 +15,29 @@ use Rattle.history_book.specs.declared.cause.Cause.TheVariants as cause
 use Rattle.history_book.specs.declared.item.Actor.TheVariants.{Node, Session}
 use Rattle.history_book.specs.declared.item.Item.{Item}
 use Rattle.history_book.specs.declared.item.Item.TheVariants as item
-use Rattle.store_parts.specs.Pairs.{Pairs, Places, mark_of}
-use Rattle.store_parts.specs.Record.{MasterRecord}
-use Rattle.store_parts.specs.declared.record.Grant.{Grant}
-use Rattle.store_parts.specs.declared.record.TakeRefused.{TakeRefused}
-use Rattle.store_parts.specs.declared.record.TakeRefused.TheVariants as not_taken
-use Rattle.store_parts.specs.declared.record.RenewRefused.{RenewRefused}
-use Rattle.store_parts.specs.declared.record.RenewRefused.TheVariants as not_renewed
-use Rattle.store_parts.specs.declared.record.ExtendRefused.{ExtendRefused}
-use Rattle.store_parts.specs.declared.record.ExtendRefused.TheVariants as not_extended
-use Rattle.oracle_parts.specs.declared.buckets.Verdict.{Verdict}
-use Rattle.oracle_parts.specs.declared.buckets.Verdict.TheVariants as verdict
-use Rattle.oracle_parts.specs.declared.instance.Decided.{Decided}
-use Rattle.oracle_parts.specs.declared.instance.Held.{Held}
-use Rattle.oracle_parts.specs.declared.instance.Progress.{Progress}
-use Rattle.oracle_parts.specs.declared.instance.Progress.TheVariants.{Asked, Accepted, Drawn, Settled, Handed}
-use Rattle.oracle_parts.specs.declared.instance.Reply.{Reply}
-use Rattle.oracle_parts.specs.declared.instance.Reply.TheVariants as reply
-use Rattle.oracle_parts.specs.declared.instance.Request.{Request}
-use Rattle.oracle_parts.specs.declared.instance.Request.TheVariants.{Begin, Commit}
-use Rattle.oracle_parts.specs.declared.instance.Settled.{Settled as How}
-use Rattle.oracle_parts.specs.declared.instance.Settled.TheVariants as how
-use Rattle.oracle_parts.specs.Instance.{InstanceEntry, held_of, in_flight, with_request, session_of, unsettled_by, stamps_by, stamps_of_held, least_unsettled}
-use Rattle.oracle_parts.specs.InstanceSteps.{InstanceStep, stays, just_asked, instance_ask, without_request, no_stamp_told, accept_refusal, accept_unless, accept_if_asked, out_of_stamps, drawn_as, decide_drawn, decide_by as decided, reply_of, answer_begin, answer_if_ready, answer_held, instance_answer, moved as moved_on, settle_if_drawn, settle_held, instance_settle}
+use Rattle.system_parts.specs.Pairs.{Pairs, Places, mark_of}
+use Rattle.system_parts.specs.Record.{MasterRecord}
+use Rattle.system_parts.specs.declared.record.Grant.{Grant}
+use Rattle.system_parts.specs.declared.record.TakeRefused.{TakeRefused}
+use Rattle.system_parts.specs.declared.record.TakeRefused.TheVariants as not_taken
+use Rattle.system_parts.specs.declared.record.RenewRefused.{RenewRefused}
+use Rattle.system_parts.specs.declared.record.RenewRefused.TheVariants as not_renewed
+use Rattle.system_parts.specs.declared.record.ExtendRefused.{ExtendRefused}
+use Rattle.system_parts.specs.declared.record.ExtendRefused.TheVariants as not_extended
+use Rattle.system_parts.specs.declared.buckets.Verdict.{Verdict}
+use Rattle.system_parts.specs.declared.buckets.Verdict.TheVariants as verdict
+use Rattle.system_parts.specs.declared.instance.Decided.{Decided}
+use Rattle.system_parts.specs.declared.instance.Held.{Held}
+use Rattle.system_parts.specs.declared.instance.Progress.{Progress}
+use Rattle.system_parts.specs.declared.instance.Progress.TheVariants.{Asked, Accepted, Drawn, Settled, Handed}
+use Rattle.system_parts.specs.declared.instance.Reply.{Reply}
+use Rattle.system_parts.specs.declared.instance.Reply.TheVariants as reply
+use Rattle.system_parts.specs.declared.instance.Request.{Request}
+use Rattle.system_parts.specs.declared.instance.Request.TheVariants.{Begin, Commit}
+use Rattle.system_parts.specs.declared.instance.Settled.{Settled as How}
+use Rattle.system_parts.specs.declared.instance.Settled.TheVariants as how
+use Rattle.system_parts.specs.Instance.{InstanceEntry, held_of, in_flight, with_request, session_of, unsettled_by, stamps_by, stamps_of_held, least_unsettled}
+use Rattle.system_parts.specs.InstanceSteps.{InstanceStep, stays, just_asked, instance_ask, without_request, no_stamp_told, accept_refusal, accept_unless, accept_if_asked, out_of_stamps, drawn_as, decide_drawn, decide_by as decided, reply_of, answer_begin, answer_if_ready, answer_held, instance_answer, moved as moved_on, settle_if_drawn, settle_held, instance_settle}
 use Rattle.machine.specs.State.{Client}
 use Rattle.machine.specs.Effect.{Effect, Stop}
 use Rattle.machine.specs.Events.Take.{take_by}

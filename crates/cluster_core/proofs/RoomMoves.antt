@@ -1,9 +1,9 @@
--- For turn_engine too.
+-- For run_board too.
 -- How far an event moves the room that is kept for requests: an accept reserves at most five items, no other event reserves any, and
 -- what serves a request uses up as much as it appends.
 use Rattle.std.proofs.Common.{◌≡◌, ◌≤◌, ◌+◌, ℕ, Bool, true, false, List, length, Option, Some, None, Result, arith}
 use Rattle.history_book.specs.declared.item.Item.{Item}
-use Rattle.oracle_parts.specs.declared.instance.Held.{Held}
+use Rattle.system_parts.specs.declared.instance.Held.{Held}
 use Rattle.machine.specs.declared.event.Event.{Event}
 use Rattle.machine.specs.declared.event.Event.TheVariants as event
 use Rattle.event_parts.specs.declared.stopped.Stopped.{Stopped}

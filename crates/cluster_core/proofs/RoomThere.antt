@@ -4,14 +4,14 @@ use Rattle.std.specs.Prelude.{slice_get, replicate, is_some}
 use Rattle.std.specs.List.{sum_by}
 use Rattle.std.proofs.lemmas.List.Sums.{sum_by-cons}
 use Rattle.history_book.specs.declared.item.Item.{Item}
-use Rattle.store_parts.specs.Pairs.{Places}
+use Rattle.system_parts.specs.Pairs.{Places}
 use Rattle.stamp_base.specs.SetupNumbers.{SetupNumbers}
-use Rattle.oracle_parts.specs.declared.instance.Held.{Held}
-use Rattle.oracle_parts.specs.declared.instance.Progress.{Progress}
-use Rattle.oracle_parts.specs.declared.instance.Progress.TheVariants.{Asked, Accepted, Drawn, Settled, Handed}
-use Rattle.oracle_parts.specs.declared.instance.Request.{Request}
-use Rattle.oracle_parts.specs.declared.instance.Request.TheVariants.{Begin, Commit}
-use Rattle.oracle_parts.specs.Instance.{InstanceEntry, held_of}
+use Rattle.system_parts.specs.declared.instance.Held.{Held}
+use Rattle.system_parts.specs.declared.instance.Progress.{Progress}
+use Rattle.system_parts.specs.declared.instance.Progress.TheVariants.{Asked, Accepted, Drawn, Settled, Handed}
+use Rattle.system_parts.specs.declared.instance.Request.{Request}
+use Rattle.system_parts.specs.declared.instance.Request.TheVariants.{Begin, Commit}
+use Rattle.system_parts.specs.Instance.{InstanceEntry, held_of}
 use Rattle.machine.specs.State.{opening}
 use Rattle.machine.specs.Events.Put.{to_place}
 use Rattle.machine.specs.declared.event.Event.{Event}

@@ -14,15 +14,15 @@ use Rattle.event_parts.specs.Made.{fate_ahead, ended}
 use Rattle.event_parts.specs.declared.stopped.Stopped.{Stopped}
 use Rattle.event_parts.specs.declared.stopped.Stopped.TheVariants.{Refused, StoreFault, NoMemory}
 use Rattle.cause_laws.proofs.AlwaysExplained.{tells_stay, tells_at_first}
-use Rattle.client_parts.specs.Sweep.{Sweeping, sweep_ask}
+use Rattle.system_parts.specs.Sweep.{Sweeping, sweep_ask}
 use Rattle.machine.specs.Calls.{KeepsShadowNext}
-use Rattle.call_laws.specs.Bounds.{ExtensionMayBeMade}
-use Rattle.call_laws.specs.Stores.{SweepMayStep}
-use Rattle.call_laws.proofs.BoundsKept.{bounded_first, bounds_stay}
-use Rattle.call_laws.proofs.RecordCalls.{extensions_fit}
-use Rattle.call_laws.proofs.RequestCalls.{begins_ask, commits_ask, requests_wait}
-use Rattle.call_laws.proofs.StoreCalls.{heals_only, writes_bare, sweeps_ask}
-use Rattle.call_laws.proofs.StepCalls.{steps_ask}
+use Rattle.cause_laws.specs.Bounds.{ExtensionMayBeMade}
+use Rattle.cause_laws.specs.StoreCalls.{SweepMayStep}
+use Rattle.cause_laws.proofs.BoundsKept.{bounded_first, bounds_stay}
+use Rattle.cause_laws.proofs.RecordCalls.{extensions_fit}
+use Rattle.cause_laws.proofs.RequestCalls.{begins_ask, commits_ask, requests_wait}
+use Rattle.cause_laws.proofs.StoreCalls.{heals_only, writes_bare, sweeps_ask}
+use Rattle.cause_laws.proofs.StepCalls.{steps_ask}
 use Rattle.cluster_core.specs.Whole.{Whole, MakesStep, step_under}
 use Rattle.cluster_core.specs.Required.{CanMake, MayExtend}
 use Rattle.cluster_core.specs.Served.{LeavesRoom, NeverLacksIf, is_served}

@@ -4,14 +4,14 @@ use Rattle.std.specs.Coded.{Coded, code_by, coded×, coded_ℕ, coded_bool, code
 use Rattle.stamp_base.specs.SetupNumbers.{SetupNumbers}
 use Rattle.history_book.specs.declared.item.Item.{Item}
 use Rattle.history_book.specs.contracts.item.Item as items
-use Rattle.store_parts.specs.Rows.{Row}
-use Rattle.store_parts.specs.Pairs.{Pairs, Places, pairs_code, places_code}
-use Rattle.store_parts.specs.Record.{MasterRecord}
+use Rattle.system_parts.specs.Rows.{Row}
+use Rattle.system_parts.specs.Pairs.{Pairs, Places, pairs_code, places_code}
+use Rattle.system_parts.specs.Record.{MasterRecord}
 use Rattle.cell_store.specs.Seen.{SeenCells}
 use Rattle.cell_store.specs.contracts.Cells as cells
-use Rattle.client_parts.specs.Sweep.{Sweeping}
+use Rattle.system_parts.specs.Sweep.{Sweeping}
 use Rattle.invalidator.specs.contracts.sweep.Sweep as sweeps
-use Rattle.oracle_parts.specs.Instance.{InstanceEntry}
+use Rattle.system_parts.specs.Instance.{InstanceEntry}
 use Rattle.oracle_core.specs.contracts.instance.Instance as instances
 use Rattle.machine.specs.State.{Client, State}
 use Rattle.event_parts.specs.contracts.client.Client as clients

@@ -1,8 +1,8 @@
 -- The request of a session, as the node that holds it tells.
 use Rattle.std.specs.Prelude.{ℕ, Bool, false, Option, None, Some}
-use Rattle.oracle_parts.specs.declared.instance.Held.{Held}
-use Rattle.oracle_parts.specs.declared.instance.Place.{Place}
-use Rattle.oracle_parts.specs.Instance.{place_of_progress}
+use Rattle.system_parts.specs.declared.instance.Held.{Held}
+use Rattle.system_parts.specs.declared.instance.Place.{Place}
+use Rattle.system_parts.specs.Instance.{place_of_progress}
 use Rattle.machine.specs.Readers.{is_commit}
 
 -- whether it is a commit

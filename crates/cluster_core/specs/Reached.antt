@@ -1,6 +1,6 @@
 -- What a cluster keeps of its state and its history, from the opening on.
 use Rattle.cause_laws.specs.Shows.{Tells}
-use Rattle.call_laws.specs.Bounds.{Bounded}
+use Rattle.cause_laws.specs.Bounds.{Bounded}
 use Rattle.cluster_core.specs.Whole.{Whole}
 use Rattle.cluster_core.specs.Room.{AreRoomy, ArePlacesKept}
 

@@ -1,10 +1,10 @@
 -- What an event requires of the parts that it touches, so that its calls on them may be made. It speaks of no other part.
 use Rattle.std.specs.Prelude.{◌≡◌, ◌≤◌, ◌^◌, ℕ, Option, None, IfSome}
-use Rattle.store_parts.specs.Rows.{IsBare, HasOnly}
-use Rattle.store_parts.specs.Record.{MasterRecord}
-use Rattle.client_parts.specs.SessionSteps.{begin_refusal, work_refusal, handed_commit}
-use Rattle.client_parts.specs.Sweep.{sweep_ask}
-use Rattle.oracle_parts.specs.Instance.{InstanceEntry}
+use Rattle.system_parts.specs.Rows.{IsBare, HasOnly}
+use Rattle.system_parts.specs.Record.{MasterRecord}
+use Rattle.system_parts.specs.SessionSteps.{begin_refusal, work_refusal, handed_commit}
+use Rattle.system_parts.specs.Sweep.{sweep_ask}
+use Rattle.system_parts.specs.Instance.{InstanceEntry}
 use Rattle.machine.specs.declared.event.Event.{Event}
 use Rattle.machine.specs.declared.event.Event.TheVariants as event
 use Rattle.machine.specs.State.{Client, State}
@@ -14,7 +14,7 @@ use Rattle.machine.specs.Events.Step.{work_of, next_of}
 use Rattle.machine.specs.Events.Write.{write_refused}
 use Rattle.machine.specs.Events.Heal.{offer_of}
 use Rattle.isolation_laws.specs.Words.{ClientAt}
-use Rattle.call_laws.specs.Requests.{PostAt}
+use Rattle.cause_laws.specs.RequestCalls.{PostAt}
 
 -- ---- a node and the record
 -- the record of the instance's own term reaches as far as the instance may draw

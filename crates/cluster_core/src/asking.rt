@@ -26,9 +26,9 @@ impl Engine {
             Event::Fetch { session, key } => {
                 session_events::fetch_store(&self.clients[session.index()], &self.setup, *key)
             }
-            Event::Step { session } => step_events::next_store(&self.clients[session.index()]),
-            Event::Heal { session } => step_events::heal_store(&self.clients[session.index()]),
-            Event::SweepStep => step_events::sweep_store(&self.sweep),
+            Event::Step { session } => session_events::next_store(&self.clients[session.index()]),
+            Event::Heal { session } => session_events::heal_store(&self.clients[session.index()]),
+            Event::SweepStep => session_events::sweep_store(&self.sweep),
             _ => None,
         }
     }

@@ -15,11 +15,11 @@ use crate::Engine;
 use event_parts::Stopped;
 use history_book::Item;
 use machine::{Doing, Event};
-use oracle_parts::Place;
 use port_io::Weather;
 use stamp_base::{NoMemory, NodeNo, SessionNo, Setup, Term};
 use std::alloc::Global;
 use std::marker::Model;
+use system_parts::Place;
 
 /// The nodes with their oracles, the sessions, the janitor and the stores, with the history of their events. Each event is
 /// one call. The history is isolated, each of its refusals is shown by what stands before it, and where the setup asks for strict

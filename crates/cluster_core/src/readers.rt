@@ -4,11 +4,10 @@ ghost use Rattle.machine.specs.Readers as read;
 ghost use Rattle.cluster_core.specs.Holders.{holds_commit, standing_held, standing_of};
 
 use crate::Engine;
-use client_parts::State;
 use event_parts::Client;
 use machine::Doing;
-use oracle_parts::{Held, Place, Request};
 use stamp_base::{NodeNo, SessionNo, Term};
+use system_parts::{Held, Place, Request, State};
 use takeover_core::Post;
 
 impl Engine {

@@ -22,7 +22,7 @@ impl Engine {
             return Ok(());
         }
         let post = &self.posts[node.index()];
-        step_events::sweep_open(&mut self.book, &mut self.sweep, post, node, txn)
+        session_events::sweep_open(&mut self.book, &mut self.sweep, post, node, txn)
     }
 
     /// The janitor makes the next step of the sweep.
@@ -33,7 +33,7 @@ impl Engine {
             (W.faults weather.old) (W.faults weather.new) }
         ensures room { LeavesRoom Event.SweepStep self.old self.new result }
     {
-        step_events::sweep_step(
+        session_events::sweep_step(
             weather,
             &mut self.book,
             &mut self.sweep,

@@ -76,7 +76,7 @@ impl Engine {
         ensures room { LeavesRoom (Event.Step session) self.old self.new result }
     {
         let client = &mut self.clients[session.index()];
-        step_events::step(
+        session_events::step(
             weather,
             &mut self.book,
             client,
@@ -99,7 +99,7 @@ impl Engine {
         ensures room { LeavesRoom (Event.Heal session) self.old self.new result }
     {
         let client = &mut self.clients[session.index()];
-        step_events::heal(weather, &mut self.book, client, &mut self.cells, session)
+        session_events::heal(weather, &mut self.book, client, &mut self.cells, session)
     }
 
     /// The session ends its transaction without a commit.

@@ -13,7 +13,7 @@ use Rattle.indexmap.specs.IndexMap as held
 use Rattle.indexmap.specs.IndexSet as kept
 use Rattle.stamp_base.specs.declared.stores.Mark.{Mark}
 use Rattle.commit_table.specs.Entries.{pairs_from, places_from}
-use Rattle.store_parts.specs.Pairs.{Places, put_pair, put_over, mark_of, without_committed, removed_from}
+use Rattle.system_parts.specs.Pairs.{Places, put_pair, put_over, mark_of, without_committed, removed_from}
 
 ties : (q k : ℕ) → eq_by_cmp nat_cmp q k ≡ nat_eq k q
 ties q k = grind (arith, nat_tests)

@@ -3,7 +3,7 @@ use Rattle.std.specs.Prelude.{ℕ, List}
 use Rattle.std.specs.FinMap as map_of
 use Rattle.std.specs.FinSet as set_of
 use Rattle.stamp_base.specs.declared.stores.Mark.{Mark}
-use Rattle.store_parts.specs.Pairs.{Pairs, Places}
+use Rattle.system_parts.specs.Pairs.{Pairs, Places}
 
 abbrev pub pairs_from : List (ℕ × Mark) → Pairs
 pairs_from entries = map_of.from_entries entries

@@ -2,7 +2,7 @@
 use Rattle.std.specs.Prelude.{◌≤◌, ◌+◌, if◌then◌else◌}
 use Rattle.indexmap.specs.IndexMap.{spare}
 use Rattle.indexmap.specs.IndexSet.{index_set_len}
-use Rattle.store_parts.specs.Pairs.{Pairs, Places}
+use Rattle.system_parts.specs.Pairs.{Pairs, Places}
 use Rattle.commit_table.specs.Entries.{pairs_from, places_from}
 use Rattle.commit_table.specs.declared.Table.TheInside.{Inside}
 

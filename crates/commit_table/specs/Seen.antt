@@ -1,7 +1,7 @@
 -- A commit table as contracts see it.
 use Rattle.std.specs.Prelude.{Bool, refl}
 use Rattle.std.specs.Coded.{Coded, code_by, coded×, coded_bool}
-use Rattle.store_parts.specs.Pairs.{Pairs, Places, pairs_code, places_code}
+use Rattle.system_parts.specs.Pairs.{Pairs, Places, pairs_code, places_code}
 
 -- the marks of the transactions, the transactions for which a put takes no memory, and whether there is room for one mark more
 pub record SeenTable : Type 0 where

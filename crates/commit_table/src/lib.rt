@@ -14,8 +14,8 @@ use port_io::{Store, Weather};
 use stamp_base::{Mark, NoMemory, TxnId};
 use std::alloc::Global;
 use std::marker::Model;
-use store_parts::answered_under;
-pub use store_parts::{Put, StoreError, StoreFault};
+use system_parts::answered_under;
+pub use system_parts::{Put, StoreError, StoreFault};
 
 /// The marks of transactions. A call finds, adds and removes in constant time, so the order of the
 /// entries means nothing, and contracts see them as a map.

@@ -2,10 +2,10 @@
 use Rattle.std.proofs.Common.{◌≡◌, ℕ, zero, suc, ◌-◌, length, List, [], ◌∷◌, ◌++◌, Some, take, drop, slice_get, slice_set, refl, sym, subst, ap, ◌∙◌, arith}
 use Rattle.std.proofs.lemmas.Bool.{eq-eqb}
 use Rattle.std.proofs.lemmas.Option.{same_Some}
-use Rattle.oracle_parts.specs.declared.buckets.Recorded.{Recorded}
-use Rattle.oracle_parts.specs.Buckets.{replaced, without}
-use Rattle.oracle_parts.proofs.BucketPairs.{IsAmong, length-without}
-use Rattle.oracle_parts.proofs.BucketSteps.{oldest-among}
+use Rattle.system_parts.specs.declared.buckets.Recorded.{Recorded}
+use Rattle.system_parts.specs.Buckets.{replaced, without}
+use Rattle.system_parts.proofs.BucketPairs.{IsAmong, length-without}
+use Rattle.system_parts.proofs.BucketSteps.{oldest-among}
 use Rattle.conflict_buckets.specs.Oldest.{IsOldest, ForgetsOldest}
 
 pub replaced-found : (pairs : List Recorded) (i : ℕ) (old pair : Recorded) → slice_get pairs i ≡ Some old → old.key ≡ pair.key → take i pairs ++ replaced (drop i pairs) pair ≡ slice_set pairs i pair

@@ -5,8 +5,8 @@ use Rattle.std.proofs.lemmas.List.{same_lists, get_or-set_same, get_or-set_other
 use Rattle.std.proofs.lemmas.Nat.{row_fits}
 use Rattle.std.proofs.lemmas.Slice.{take-put_mid_below, drop-put_mid}
 use borrow.Rule.Slice.PartMut.{put_mid, post_of}
-use Rattle.oracle_parts.specs.declared.buckets.Recorded.{Recorded}
-use Rattle.oracle_parts.specs.Buckets.{Bucket, empty_bucket, place_of, bucket_of}
+use Rattle.system_parts.specs.declared.buckets.Recorded.{Recorded}
+use Rattle.system_parts.specs.Buckets.{Bucket, empty_bucket, place_of, bucket_of}
 use Rattle.conflict_buckets.specs.declared.bucket.Head.{Head}
 use Rattle.conflict_buckets.specs.Runs.{bucket_in, buckets_in}
 

@@ -3,10 +3,10 @@ use Rattle.std.proofs.Common.{◌≡◌, ℕ, ◌+◌, ◌/◌, ◌%◌, ◌<◌
 use Rattle.std.proofs.lemmas.Bool.{cases_lt}
 use Rattle.std.proofs.Math.Nat.{div-mul-le_self}
 use Rattle.std.proofs.lemmas.Nat.{div-add-mod', mul-le, le-div}
-use Rattle.oracle_parts.specs.declared.buckets.Recorded.{Recorded}
-use Rattle.oracle_parts.specs.Buckets.{Bucket, kept_commit, added, recorded, without}
-use Rattle.oracle_parts.proofs.BucketPairs.{Every, Ascends, every-added, every-replaced, every-without, ascends-added, length-added}
-use Rattle.oracle_parts.proofs.BucketSteps.{recorded_cases, ordered-recorded}
+use Rattle.system_parts.specs.declared.buckets.Recorded.{Recorded}
+use Rattle.system_parts.specs.Buckets.{Bucket, kept_commit, added, recorded, without}
+use Rattle.system_parts.proofs.BucketPairs.{Every, Ascends, every-added, every-replaced, every-without, ascends-added, length-added}
+use Rattle.system_parts.proofs.BucketSteps.{recorded_cases, ordered-recorded}
 use Rattle.conflict_buckets.specs.Runs.{room_of}
 use Rattle.conflict_buckets.specs.Sound.{IsOf, IsSound}
 

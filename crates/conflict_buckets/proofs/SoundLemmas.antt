@@ -4,9 +4,9 @@ use Rattle.std.proofs.lemmas.Bool.{cases_eq}
 use Rattle.std.proofs.lemmas.List.{get_or-set_same, get_or-set_other, get_or-replicate, length-set, length-replicate, length-append, length-take-le, length-drop, take-take}
 use Rattle.std.proofs.lemmas.Nat.{row_fits}
 use borrow.Rule.Slice.PartMut.{put_mid}
-use Rattle.oracle_parts.specs.declared.buckets.Recorded.{Recorded}
-use Rattle.oracle_parts.specs.Buckets.{Bucket, empty_bucket, kept_commit, recorded, place_of, record_pair}
-use Rattle.oracle_parts.proofs.BucketLaws.{ordered-empty}
+use Rattle.system_parts.specs.declared.buckets.Recorded.{Recorded}
+use Rattle.system_parts.specs.Buckets.{Bucket, empty_bucket, kept_commit, recorded, place_of, record_pair}
+use Rattle.system_parts.proofs.BucketLaws.{ordered-empty}
 use Rattle.conflict_buckets.specs.declared.bucket.Head.{Head}
 use Rattle.conflict_buckets.specs.Runs.{room_of, bucket_in, buckets_in}
 use Rattle.conflict_buckets.specs.Sound.{IsOf, IsSound, AreSound}

@@ -1,4 +1,4 @@
 pub mod Oldest
 pub mod Runs
 pub mod Sound
-pub use Rattle.oracle_parts.specs.Buckets
+pub use Rattle.system_parts.specs.Buckets

@@ -1,7 +1,7 @@
 -- How a full bucket makes room.
 use Rattle.std.specs.Prelude.{◌≡◌, ℕ, List, [], ◌∷◌}
-use Rattle.oracle_parts.specs.declared.buckets.Recorded.{Recorded}
-use Rattle.oracle_parts.specs.Buckets.{oldest, without}
+use Rattle.system_parts.specs.declared.buckets.Recorded.{Recorded}
+use Rattle.system_parts.specs.Buckets.{oldest, without}
 
 -- the pair is the oldest one
 abbrev pub IsOldest : List Recorded → Recorded → Type 0

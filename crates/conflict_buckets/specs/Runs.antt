@@ -1,7 +1,7 @@
 -- How the buckets lie in one piece of memory: each has a run of it, and its pairs stand at the front of the run.
 use Rattle.std.specs.Prelude.{ℕ, ◌+◌, ◌/◌, min, List, [], ◌∷◌, take, drop}
-use Rattle.oracle_parts.specs.declared.buckets.Recorded.{Recorded}
-use Rattle.oracle_parts.specs.Buckets.{Bucket}
+use Rattle.system_parts.specs.declared.buckets.Recorded.{Recorded}
+use Rattle.system_parts.specs.Buckets.{Bucket}
 use Rattle.conflict_buckets.specs.declared.bucket.Head.{Head}
 
 -- how many pairs each of so many buckets of a width may come to: of 4,096 keys each has its share

@@ -1,9 +1,9 @@
 -- What holds of the memory of all buckets: each lies within its run, and keeps keys of its own alone.
 use Rattle.std.specs.Prelude.{◌≡◌, ℕ, ◌*◌, ◌<◌, ◌≤◌, List, length, slice_index_or}
-use Rattle.oracle_parts.specs.declared.buckets.Recorded.{Recorded}
-use Rattle.oracle_parts.specs.Buckets.{Bucket, empty_bucket, place_of}
-use Rattle.oracle_parts.proofs.BucketPairs.{Every}
-use Rattle.oracle_parts.proofs.BucketSteps.{IsOrdered}
+use Rattle.system_parts.specs.declared.buckets.Recorded.{Recorded}
+use Rattle.system_parts.specs.Buckets.{Bucket, empty_bucket, place_of}
+use Rattle.system_parts.proofs.BucketPairs.{Every}
+use Rattle.system_parts.proofs.BucketSteps.{IsOrdered}
 use Rattle.conflict_buckets.specs.declared.bucket.Head.{Head}
 use Rattle.conflict_buckets.specs.Runs.{room_of, buckets_in}
 

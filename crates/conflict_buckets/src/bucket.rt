@@ -1,11 +1,11 @@
 // A bucket lies in a run of the memory that all buckets share: its pairs stand at the front of the run.
 ghost use Rattle.std.specs.Prelude.{◌≡◌, ◌<◌, ◌≤◌, ℕ, None, length, take};
-ghost use Rattle.oracle_parts.specs.Buckets as memory;
+ghost use Rattle.system_parts.specs.Buckets as memory;
 ghost use Rattle.conflict_buckets.specs.Runs.{bucket_in};
 
 use crate::pairs;
-use oracle_parts::{Recorded, Verdict};
 use stamp_base::{KeyNo, Stamp};
+use system_parts::{Recorded, Verdict};
 
 /// What a bucket has beside its run.
 #[derive(Clone, Copy)]

@@ -1,13 +1,13 @@
 ghost use Rattle.std.specs.Prelude.{◌≡◌, [], IfOk};
 ghost use Rattle.stamp_base.specs.Ranges.{IsWithin};
-ghost use Rattle.oracle_parts.specs.Buckets as memory;
+ghost use Rattle.system_parts.specs.Buckets as memory;
 
 use crate::bucket::Head;
 use crate::runs;
-use oracle_parts::{Recorded, Verdict};
 use stamp_base::{KeyList, KeyNo, NoMemory, Stamp};
 use std::alloc::Global;
 use std::marker::Model;
+use system_parts::{Recorded, Verdict};
 
 /// The latest commits of keys, in buckets of bounded width. A key's bucket is its number modulo the number of
 /// buckets, and each look-up walks over that one bucket alone.
@@ -23,7 +23,7 @@ pub struct Buckets {
 
 impl Model for Buckets {
     ghost use Rattle.std.specs.Prelude.{List};
-    ghost use Rattle.oracle_parts.specs.Buckets.{Bucket as Held};
+    ghost use Rattle.system_parts.specs.Buckets.{Bucket as Held};
     ghost use Rattle.conflict_buckets.specs.Runs.{buckets_in};
     ghost use Rattle.conflict_buckets.specs.Sound.{AreSound};
 
@@ -59,7 +59,7 @@ impl Buckets {
     }
 
     /// The first key, in order, that has a kept commit above the start or is hidden from it.
-    #[tactic(auto, unfolding(oracle_parts::specs::Buckets::verdict))]
+    #[tactic(auto, unfolding(system_parts::specs::Buckets::verdict))]
     pub fn check(&self, start: Stamp, keys: &KeyList) -> Verdict
         ensures { result ≡ memory.verdict self.now start keys.now }
     {
@@ -74,7 +74,7 @@ impl Buckets {
 
     /// Records the keys, in order, with a commit. Where commits never fall from one call to the next, the last
     /// commit of each key is kept with it or is at most its bucket's water.
-    #[tactic(auto, unfolding(oracle_parts::specs::Buckets::record_pairs))]
+    #[tactic(auto, unfolding(system_parts::specs::Buckets::record_pairs))]
     pub fn keep(&mut self, keys: &KeyList, commit: Stamp)
         ensures { self.new ≡ memory.record_pairs self.old (memory.pairs_of keys.now commit) }
     {

@@ -8,4 +8,4 @@ mod pairs;
 mod runs;
 
 pub use buckets::Buckets;
-pub use oracle_parts::{Recorded, Verdict};
+pub use system_parts::{Recorded, Verdict};

@@ -1,14 +1,14 @@
 // The work on a bucket's pairs. Each walk goes over one bucket at most.
 ghost use Rattle.std.specs.Prelude.{◌≡◌, ◌+◌, ◌-◌, ◌<◌, ◌≤◌, length, take, insert};
-ghost use Rattle.oracle_parts.specs.declared.buckets.Recorded.{Recorded};
-ghost use Rattle.oracle_parts.specs.Buckets as memory;
+ghost use Rattle.system_parts.specs.declared.buckets.Recorded.{Recorded};
+ghost use Rattle.system_parts.specs.Buckets as memory;
 ghost use Rattle.conflict_buckets.specs.Oldest.{ForgetsOldest, IsOldest};
 
-use oracle_parts::Recorded;
 use stamp_base::{KeyNo, Stamp};
+use system_parts::Recorded;
 
 /// The commit that is kept for a key.
-#[tactic(auto, unfolding(oracle_parts::specs::Buckets::kept_commit))]
+#[tactic(auto, unfolding(system_parts::specs::Buckets::kept_commit))]
 pub fn kept_commit(kept: &[Recorded], key: KeyNo) -> Option<Stamp>
     ensures { result ≡ memory.kept_commit kept.now key }
 {
@@ -21,7 +21,7 @@ pub fn kept_commit(kept: &[Recorded], key: KeyNo) -> Option<Stamp>
 }
 
 /// Gives a key that is there a new commit.
-#[tactic(auto, unfolding(oracle_parts::specs::Buckets::replaced))]
+#[tactic(auto, unfolding(system_parts::specs::Buckets::replaced))]
 pub fn replace(kept: &mut [Recorded], pair: Recorded)
     ensures { kept.new ≡ memory.replaced kept.old pair }
 {
@@ -45,7 +45,7 @@ pub fn add(run: &mut [Recorded], len: usize, pair: Recorded)
 }
 
 /// The number of pairs before the first of a greater key.
-#[tactic(auto, unfolding(oracle_parts::specs::Buckets::added))]
+#[tactic(auto, unfolding(system_parts::specs::Buckets::added))]
 fn place_among(kept: &[Recorded], key: KeyNo) -> usize
     ensures within { result ≤ length kept.now }
     ensures place { (pair : Recorded) → pair.key ≡ key → insert kept.now result pair ≡ memory.added kept.now pair }
@@ -59,7 +59,7 @@ fn place_among(kept: &[Recorded], key: KeyNo) -> usize
 }
 
 /// The oldest of some pairs.
-#[tactic(auto, unfolding(oracle_parts::specs::Buckets::oldest))]
+#[tactic(auto, unfolding(system_parts::specs::Buckets::oldest))]
 fn oldest(first: Recorded, others: &[Recorded]) -> Recorded
     ensures { result ≡ memory.oldest first others.now }
 {
@@ -88,7 +88,7 @@ fn older(a: Recorded, b: Recorded) -> Recorded
 }
 
 /// Moves the pairs behind the one of a key over it.
-#[tactic(auto, unfolding(oracle_parts::specs::Buckets::without))]
+#[tactic(auto, unfolding(system_parts::specs::Buckets::without))]
 fn remove(kept: &mut [Recorded], key: KeyNo)
     ensures removed { take (length (memory.without kept.old key)) kept.new ≡ memory.without kept.old key }
     ensures len { length kept.new ≡ length kept.old }

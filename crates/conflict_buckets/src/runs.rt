@@ -1,14 +1,14 @@
 // The buckets of all places, each of which lies in a run of one piece of memory.
 ghost use Rattle.std.specs.Prelude.{◌≡◌, ◌*◌, ◌<◌, ◌≤◌, ℕ, length, slice_index_or};
-ghost use Rattle.oracle_parts.specs.Buckets as memory;
+ghost use Rattle.system_parts.specs.Buckets as memory;
 ghost use Rattle.conflict_buckets.specs.declared.bucket.Head.{Head as HeadOf};
 ghost use Rattle.conflict_buckets.specs.Runs as share;
 ghost use Rattle.conflict_buckets.specs.Runs.{buckets_in};
 ghost use Rattle.conflict_buckets.specs.Sound.{AreSound};
 
 use crate::bucket::Head;
-use oracle_parts::{Recorded, Verdict};
 use stamp_base::{KeyNo, Stamp};
+use system_parts::{Recorded, Verdict};
 
 /// How many pairs a bucket may come to, where there are so many buckets of a width.
 pub fn room_of(count: usize, width: usize) -> usize

@@ -1,4 +1,4 @@
--- For node_events and step_events too.
+-- For node_events and session_events too.
 -- For the crates of the events: a placing that failed shows its record exactly where the table has it since.
 use Rattle.std.proofs.Common.{◌≡◌, ◌≢◌, ℕ, [], ◌∷◌, refl, Option, None, Some, arith}
 use Rattle.stamp_base.specs.declared.stores.Mark.{Mark}
@@ -7,8 +7,8 @@ use Rattle.port_io.specs.declared.weather.Fate.{Fate}
 use Rattle.port_io.specs.declared.weather.Fate.TheVariants.{Works, FailsUnchanged, FailsApplied}
 use Rattle.port_io.specs.Fates.{fated}
 use Rattle.history_book.specs.declared.item.Item.TheVariants as item
-use Rattle.store_parts.specs.Pairs.{Pairs, mark_of, put_pair}
-use Rattle.store_parts.proofs.PairLaws.{entry_or, mark_of-put_pair}
+use Rattle.system_parts.specs.Pairs.{Pairs, mark_of, put_pair}
+use Rattle.system_parts.proofs.PairLaws.{entry_or, mark_of-put_pair}
 use Rattle.machine.specs.Effect.{kept_items}
 use Rattle.event_parts.specs.Kept.{placed_kept}
 

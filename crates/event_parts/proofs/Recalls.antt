@@ -2,20 +2,20 @@
 -- A read that recalls, by what it has left and what it says is next, is the read of the definitions. For the crates of the events too.
 use Rattle.std.proofs.Common.{◌≡◌, ℕ, ◌+◌, ◌<◌, ◌==◌, Bool, true, false, ◌||◌, is_some, nat_eq, nat_lt, List, [], ◌∷◌, Option, None, Some, IfSome, length, refl, sym, ap, ◌∙◌, subst, arith}
 use Rattle.std.specs.Map.{lookup, lookup_entry}
-use Rattle.store_parts.specs.declared.rows.Cell.{Cell}
-use Rattle.client_parts.specs.declared.known.Known.{Known}
-use Rattle.client_parts.specs.declared.asks.Told.{Told}
-use Rattle.client_parts.specs.declared.key_read.Next.{Next}
-use Rattle.client_parts.specs.declared.key_read.Next.TheVariants.{Recall as NextRecall, Ask as NextAsk, Done as NextDone}
-use Rattle.client_parts.specs.declared.resolve.Outcome.{Outcome}
-use Rattle.client_parts.specs.declared.resolve.Outcome.TheVariants.{Committed, Dead}
-use Rattle.client_parts.specs.Resolve.{SettleTurn, Goes, Decides, settle_turn}
-use Rattle.client_parts.specs.KeyRead.{Reading, ReadTurn, Asks, Answers, is_passed, after_passed, settling_of, read_over, read_by, read_told, reading_left, next_of, next_reached, next_turned, next_ask, is_recall}
-use Rattle.client_parts.specs.Cache.{Cache, cache_new, known_of, used, cache_learnt, learnt_by}
-use Rattle.client_parts.specs.Recalled.{Remembering, outcome_known, recalled_over, recalled_turn, recalled_told, recalled_known, recalled_from, read_recalled, next_recalled}
-use Rattle.client_parts.proofs.RecalledLemmas.{over_from, decided_from}
+use Rattle.system_parts.specs.declared.rows.Cell.{Cell}
+use Rattle.system_parts.specs.declared.known.Known.{Known}
+use Rattle.system_parts.specs.declared.asks.Told.{Told}
+use Rattle.system_parts.specs.declared.key_read.Next.{Next}
+use Rattle.system_parts.specs.declared.key_read.Next.TheVariants.{Recall as NextRecall, Ask as NextAsk, Done as NextDone}
+use Rattle.system_parts.specs.declared.resolve.Outcome.{Outcome}
+use Rattle.system_parts.specs.declared.resolve.Outcome.TheVariants.{Committed, Dead}
+use Rattle.system_parts.specs.Resolve.{SettleTurn, Goes, Decides, settle_turn}
+use Rattle.system_parts.specs.KeyRead.{Reading, ReadTurn, Asks, Answers, is_passed, after_passed, settling_of, read_over, read_by, read_told, reading_left, next_of, next_reached, next_turned, next_ask, is_recall}
+use Rattle.system_parts.specs.Cache.{Cache, cache_new, known_of, used, cache_learnt, learnt_by}
+use Rattle.system_parts.specs.Recalled.{Remembering, outcome_known, recalled_over, recalled_turn, recalled_told, recalled_known, recalled_from, read_recalled, next_recalled}
+use Rattle.system_parts.proofs.RecalledLemmas.{over_from, decided_from}
 use Rattle.reader_resolve.specs.Runs.{Run, run_reached, run_recalled, run_told, next_told}
-use Rattle.client_parts.specs.Asks.{FitsNext}
+use Rattle.system_parts.specs.Asks.{FitsNext}
 use Rattle.event_parts.specs.Working.{told_over}
 use Rattle.event_parts.specs.Recalling.{Shows, remembers, recalls_left}
 

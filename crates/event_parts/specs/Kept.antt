@@ -6,9 +6,9 @@ use Rattle.port_io.specs.declared.weather.Fate.{Fate}
 use Rattle.port_io.specs.declared.weather.Fate.TheVariants.{FailsApplied}
 use Rattle.history_book.specs.declared.item.Item.{Item}
 use Rattle.history_book.specs.declared.item.Item.TheVariants.{Placed}
-use Rattle.store_parts.specs.declared.record.Grant.{Grant}
-use Rattle.store_parts.specs.declared.record.TakeRefused.{TakeRefused}
-use Rattle.oracle_parts.specs.Instance.{InstanceEntry}
+use Rattle.system_parts.specs.declared.record.Grant.{Grant}
+use Rattle.system_parts.specs.declared.record.TakeRefused.{TakeRefused}
+use Rattle.system_parts.specs.Instance.{InstanceEntry}
 use Rattle.machine.specs.Events.Take.{instance_of}
 
 -- the item of a change, where it was made

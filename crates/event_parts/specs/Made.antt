@@ -4,7 +4,7 @@ use Rattle.stamp_base.specs.declared.stores.Store.{Store}
 use Rattle.port_io.specs.declared.weather.Fate.{Fate}
 use Rattle.port_io.specs.declared.weather.Fate.TheVariants.{Works}
 use Rattle.history_book.specs.declared.item.Item.{Item}
-use Rattle.store_parts.specs.StoreCalls.{AsksOnce}
+use Rattle.system_parts.specs.StoreCalls.{AsksOnce}
 use Rattle.machine.specs.Effect.{Effect, Stop, Refuses, Faults}
 use Rattle.event_parts.specs.declared.stopped.Stopped.{Stopped}
 use Rattle.event_parts.specs.declared.stopped.Stopped.TheVariants.{Refused, StoreFault, NoMemory}

@@ -1,8 +1,8 @@
 -- What the code's parts stand for in the machine.
 use Rattle.std.specs.Prelude.{◌≡◌, Option, None, Some}
-use Rattle.client_parts.specs.declared.session.State.{State}
-use Rattle.client_parts.specs.declared.session.State.TheVariants.{OpenOutcome, Completing}
-use Rattle.client_parts.specs.KeyRead.{Reading}
+use Rattle.system_parts.specs.declared.session.State.{State}
+use Rattle.system_parts.specs.declared.session.State.TheVariants.{OpenOutcome, Completing}
+use Rattle.system_parts.specs.KeyRead.{Reading}
 use Rattle.machine.specs.State as machine
 use Rattle.event_parts.specs.declared.client.UnderWay.{UnderWay}
 use Rattle.event_parts.specs.declared.client.UnderWay.TheVariants as work

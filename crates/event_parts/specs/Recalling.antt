@@ -1,10 +1,10 @@
 -- How the code goes over a read's recalls: by what the read has left, and what it says is next.
 use Rattle.std.specs.Prelude.{◌≡◌, ℕ, ◌+◌, length, Option, None, Some}
-use Rattle.client_parts.specs.declared.key_read.Next.{Next}
-use Rattle.client_parts.specs.declared.key_read.Next.TheVariants.{Recall as NextRecall, Ask as NextAsk, Done as NextDone}
-use Rattle.client_parts.specs.KeyRead.{Reading, ReadTurn, Asks, Answers, found_none, read_ask}
-use Rattle.client_parts.specs.Cache.{Cache, known_of}
-use Rattle.client_parts.specs.Recalled.{Remembering, recalled_known}
+use Rattle.system_parts.specs.declared.key_read.Next.{Next}
+use Rattle.system_parts.specs.declared.key_read.Next.TheVariants.{Recall as NextRecall, Ask as NextAsk, Done as NextDone}
+use Rattle.system_parts.specs.KeyRead.{Reading, ReadTurn, Asks, Answers, found_none, read_ask}
+use Rattle.system_parts.specs.Cache.{Cache, known_of}
+use Rattle.system_parts.specs.Recalled.{Remembering, recalled_known}
 
 -- the read's turn
 abbrev pub turn_shown : Option Reading → Next → ReadTurn

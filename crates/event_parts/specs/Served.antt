@@ -2,12 +2,12 @@
 use Rattle.std.specs.Prelude.{◌≡◌, ℕ, ◌+◌, ◌≤◌, Bool, true, false, List, length, Option, None, Some, is_some, Result, Err, IsTrue}
 use Rattle.std.specs.FinSet as set
 use Rattle.history_book.specs.declared.item.Item.{Item}
-use Rattle.store_parts.specs.Pairs.{Places}
-use Rattle.oracle_parts.specs.declared.instance.Held.{Held}
-use Rattle.oracle_parts.specs.declared.instance.Progress.{Progress}
-use Rattle.oracle_parts.specs.declared.instance.Progress.TheVariants.{Accepted, Drawn, Settled, Handed}
-use Rattle.oracle_parts.specs.declared.instance.Request.{Request}
-use Rattle.oracle_parts.specs.declared.instance.Request.TheVariants.{Begin, Commit}
+use Rattle.system_parts.specs.Pairs.{Places}
+use Rattle.system_parts.specs.declared.instance.Held.{Held}
+use Rattle.system_parts.specs.declared.instance.Progress.{Progress}
+use Rattle.system_parts.specs.declared.instance.Progress.TheVariants.{Accepted, Drawn, Settled, Handed}
+use Rattle.system_parts.specs.declared.instance.Request.{Request}
+use Rattle.system_parts.specs.declared.instance.Request.TheVariants.{Begin, Commit}
 use Rattle.machine.specs.Events.Put.{to_place}
 use Rattle.event_parts.specs.declared.stopped.Stopped.{Stopped}
 use Rattle.event_parts.specs.declared.stopped.Stopped.TheVariants.{NoMemory}

@@ -1,11 +1,11 @@
 -- What the answer to the next step makes of a client, whatever it has under way, and what a failure makes of it.
 use Rattle.std.specs.Prelude.{◌≡◌, ℕ, Bool, true, false, List, [], ◌∷◌, Option, None, Some}
 use Rattle.history_book.specs.declared.item.Item.{Item}
-use Rattle.client_parts.specs.declared.asks.Told.{Told}
-use Rattle.client_parts.specs.Resolve.{Settling, settle_turn}
-use Rattle.client_parts.specs.KeyRead.{Reading, ReadTurn, Asks, Answers}
-use Rattle.client_parts.specs.Cache.{Cache, cache_learnt, learnt_by}
-use Rattle.client_parts.specs.Recalled.{Remembering, recalled_told}
+use Rattle.system_parts.specs.declared.asks.Told.{Told}
+use Rattle.system_parts.specs.Resolve.{Settling, settle_turn}
+use Rattle.system_parts.specs.KeyRead.{Reading, ReadTurn, Asks, Answers}
+use Rattle.system_parts.specs.Cache.{Cache, cache_learnt, learnt_by}
+use Rattle.system_parts.specs.Recalled.{Remembering, recalled_told}
 use Rattle.machine.specs.State.{UnderWay, Nothing, Reads, Settles, Completes, Client}
 use Rattle.machine.specs.Clients.{client_freed}
 pub use Rattle.machine.specs.Calls.{MayStep}

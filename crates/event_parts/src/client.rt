@@ -1,6 +1,6 @@
 ghost use Rattle.std.specs.Prelude.{◌≡◌, None, IfOk, OnOk, OnErr};
-ghost use Rattle.client_parts.specs.KeyRead.{ReadTurn, is_recall, next_of, reading_left};
-ghost use Rattle.client_parts.specs.SessionSteps as step;
+ghost use Rattle.system_parts.specs.KeyRead.{ReadTurn, is_recall, next_of, reading_left};
+ghost use Rattle.system_parts.specs.SessionSteps as step;
 ghost use Rattle.stamp_base.specs.Setups.{numbers_of};
 ghost use Rattle.machine.specs.State as state;
 ghost use Rattle.machine.specs.Clients as left;
@@ -11,17 +11,16 @@ ghost use Rattle.event_parts.specs.Parts.{way_of};
 ghost use Rattle.event_parts.specs.Recalling.{Shows, remembers};
 
 use crate::recalling::recall_all;
-use client_parts::State;
 use client_txn::{Session, check_key};
 use history_book::Cause;
 use invalidator::Settle;
-use oracle_parts::{Reply, Request};
 use read_sets::ReadSet;
 use reader_resolve::{Next, ReadRun};
 use shadow_cells::Completion;
 use stamp_base::{KeyList, KeyNo, NoMemory, Setup, Stamp, TxnId};
 use std::alloc::Global;
 use std::marker::Model;
+use system_parts::{Reply, Request, State};
 
 /// What a session has under way between two of its events.
 #[derive(Drop)]

@@ -1,7 +1,7 @@
 // How an event tells what it did: its items in the book, in room that was made for them.
 ghost use Rattle.std.specs.Prelude.{◌≡◌, ◌+◌, ◌≤◌, ◌++◌, ◌∷◌, [], length, Err, if◌then◌else◌};
-ghost use Rattle.store_parts.specs.StoreCalls.{AsksOnce};
-ghost use Rattle.client_parts.specs.KeyRead.{ReadTurn, next_of};
+ghost use Rattle.system_parts.specs.StoreCalls.{AsksOnce};
+ghost use Rattle.system_parts.specs.KeyRead.{ReadTurn, next_of};
 ghost use Rattle.machine.specs.Effect as effect;
 ghost use Rattle.machine.specs.Events.Fetch.{read_items, found_of as found_item_of};
 ghost use Rattle.event_parts.specs.Made.{Makes, no_parts};

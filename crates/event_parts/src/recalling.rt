@@ -1,6 +1,6 @@
 // The recalls of a read: what its session keeps of the cells that it comes to, one after the other.
 ghost use Rattle.std.specs.Prelude.{◌≡◌, ◌<◌, true};
-ghost use Rattle.client_parts.specs.KeyRead.{is_recall, next_of, reading_left};
+ghost use Rattle.system_parts.specs.KeyRead.{is_recall, next_of, reading_left};
 ghost use Rattle.event_parts.specs.Recalling.{Shows, remembers, recalls_left};
 
 use client_txn::Session;

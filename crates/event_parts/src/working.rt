@@ -1,12 +1,12 @@
 // How a client goes on with what it has under way: what it asks next, and what the answer makes of it.
 ghost use Rattle.std.specs.Prelude.{◌≡◌, ◌≤◌, ◌++◌, Bool, None, Some, IfSome, OnOk, OnErr};
-ghost use Rattle.client_parts.specs.SessionSteps.{IsAnswer, step_refusal, handed_by, handed_commit, CanCommit};
-ghost use Rattle.client_parts.specs.declared.session.State.TheVariants.{OpenOutcome};
-ghost use Rattle.client_parts.specs.Asks.{FitsNext};
-ghost use Rattle.client_parts.specs.Sweep.{IsKeys};
-ghost use Rattle.client_parts.specs.Resolve.{Settling, SettleTurn, Decides, settle_by, outcome_of};
-ghost use Rattle.client_parts.specs.KeyRead.{ReadTurn, next_of as next_after, next_ask, reading_left};
-ghost use Rattle.client_parts.specs.Cache.{cache_learnt};
+ghost use Rattle.system_parts.specs.SessionSteps.{IsAnswer, step_refusal, handed_by, handed_commit, CanCommit};
+ghost use Rattle.system_parts.specs.declared.session.State.TheVariants.{OpenOutcome};
+ghost use Rattle.system_parts.specs.Asks.{FitsNext};
+ghost use Rattle.system_parts.specs.Sweep.{IsKeys};
+ghost use Rattle.system_parts.specs.Resolve.{Settling, SettleTurn, Decides, settle_by, outcome_of};
+ghost use Rattle.system_parts.specs.KeyRead.{ReadTurn, next_of as next_after, next_ask, reading_left};
+ghost use Rattle.system_parts.specs.Cache.{cache_learnt};
 ghost use Rattle.machine.specs.State as state;
 ghost use Rattle.machine.specs.Clients.{is_reading};
 ghost use Rattle.machine.specs.Events.Fetch.{read_items};
@@ -17,12 +17,12 @@ use crate::Client;
 use crate::client::UnderWay;
 use crate::ledger::tell_read;
 use crate::recalling::recall_all;
-use client_parts::{Ask, Known, Outcome, State, Told};
 use client_txn::Session;
 use history_book::{Book, Cause, Ending, Item};
 use invalidator::Settle;
 use reader_resolve::{Next, ReadRun};
 use stamp_base::{KeyNo, NoMemory, SessionNo, Stamp, TxnId};
+use system_parts::{Ask, Known, Outcome, State, Told};
 
 impl Client {
     /// Whether there is a step to make: refused as gone, or idle.

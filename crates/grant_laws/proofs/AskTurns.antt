@@ -4,13 +4,13 @@ use Rattle.std.specs.Prelude.{slice_get}
 use Rattle.history_book.specs.declared.item.Actor.TheVariants.{Session}
 use Rattle.history_book.specs.declared.item.Item.{Item}
 use Rattle.history_book.specs.declared.item.Item.TheVariants as item
-use Rattle.client_parts.specs.declared.session.State.TheVariants as phase
-use Rattle.oracle_parts.specs.declared.instance.Progress.TheVariants as progress
-use Rattle.oracle_parts.specs.declared.instance.Request.{Request}
-use Rattle.oracle_parts.specs.declared.instance.Request.TheVariants.{Begin, Commit}
-use Rattle.oracle_parts.specs.Instance.{InstanceEntry, held_of, in_flight}
-use Rattle.oracle_parts.specs.InstanceSteps.{just_asked}
-use Rattle.oracle_parts.proofs.InstanceRequests.{held_of-with_request_same}
+use Rattle.system_parts.specs.declared.session.State.TheVariants as phase
+use Rattle.system_parts.specs.declared.instance.Progress.TheVariants as progress
+use Rattle.system_parts.specs.declared.instance.Request.{Request}
+use Rattle.system_parts.specs.declared.instance.Request.TheVariants.{Begin, Commit}
+use Rattle.system_parts.specs.Instance.{InstanceEntry, held_of, in_flight}
+use Rattle.system_parts.specs.InstanceSteps.{just_asked}
+use Rattle.system_parts.proofs.InstanceRequests.{held_of-with_request_same}
 use Rattle.machine.specs.State.{Client, State}
 use Rattle.machine.specs.Clients.{client_asked}
 use Rattle.machine.specs.Effect.{Effect, done}
@@ -22,7 +22,7 @@ use Rattle.machine.specs.Events.AskCommit.{ask_commit_on}
 use Rattle.script_data.specs.Data.{ScriptData}
 use Rattle.isolation_laws.specs.Words.{InstanceAt, ClientAt}
 use Rattle.machine.proofs.Lookups.{set_found}
-use Rattle.line_steps.specs.Runs.{Played, step_of, played}
+use Rattle.command_semantics.specs.Runs.{Played, step_of, played}
 use Rattle.turn_rules.specs.declared.ahead.Ahead.TheVariants.{Makes}
 use Rattle.turn_rules.specs.declared.turn.Turn.TheVariants as turn
 use Rattle.turn_rules.specs.Carried.{Carried, own_ahead, made_by, carried}

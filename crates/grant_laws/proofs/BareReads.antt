@@ -2,18 +2,18 @@
 use Rattle.std.proofs.Common.{◌≡◌, ℕ, ◌+◌, ◌*◌, ◌<◌, ◌≤◌, ◌==◌, ◌||◌, nat_lt, is_some, not, cond, Bool, true, false, List, [], ◌∷◌, length, Option, Some, None, inl, inr, refl, ap, arith}
 use Rattle.std.specs.List.{filter}
 use Rattle.std.proofs.lemmas.Bool.{cases_Bool}
-use Rattle.store_parts.specs.declared.rows.Cell.{Cell}
-use Rattle.client_parts.specs.declared.asks.Told.{Told}
-use Rattle.client_parts.specs.declared.resolve.Outcome.{Outcome}
-use Rattle.client_parts.specs.declared.resolve.Outcome.TheVariants.{Committed, Dead}
-use Rattle.client_parts.specs.declared.resolve.SettlePoint.{SettlePoint}
-use Rattle.client_parts.specs.declared.resolve.SettlePoint.TheVariants.{FirstLook, Table, Marking, LastLook}
-use Rattle.client_parts.specs.Cache.{Cache, cache_new}
-use Rattle.client_parts.specs.Recalled.{outcome_known, recalled_over, recalled_turn, recalled_told}
-use Rattle.client_parts.specs.RecalledReads.{RecalledReadsEnd}
-use Rattle.client_parts.specs.Resolve.{settle_left, SettleTurn, Goes, Decides, settle_turn}
-use Rattle.client_parts.specs.KeyRead.{Reading, ReadTurn, Asks, Answers, is_passed, after_passed, turn_at, found_cell, found_by, settling_of, read_over, read_by, read_left}
-use Rattle.client_parts.proofs.RecalledLemmas.{AnyCache, Recalls, over_holds, told_holds}
+use Rattle.system_parts.specs.declared.rows.Cell.{Cell}
+use Rattle.system_parts.specs.declared.asks.Told.{Told}
+use Rattle.system_parts.specs.declared.resolve.Outcome.{Outcome}
+use Rattle.system_parts.specs.declared.resolve.Outcome.TheVariants.{Committed, Dead}
+use Rattle.system_parts.specs.declared.resolve.SettlePoint.{SettlePoint}
+use Rattle.system_parts.specs.declared.resolve.SettlePoint.TheVariants.{FirstLook, Table, Marking, LastLook}
+use Rattle.system_parts.specs.Cache.{Cache, cache_new}
+use Rattle.system_parts.specs.Recalled.{outcome_known, recalled_over, recalled_turn, recalled_told}
+use Rattle.system_parts.specs.RecalledReads.{RecalledReadsEnd}
+use Rattle.system_parts.specs.Resolve.{settle_left, SettleTurn, Goes, Decides, settle_turn}
+use Rattle.system_parts.specs.KeyRead.{Reading, ReadTurn, Asks, Answers, is_passed, after_passed, turn_at, found_cell, found_by, settling_of, read_over, read_by, read_left}
+use Rattle.system_parts.proofs.RecalledLemmas.{AnyCache, Recalls, over_holds, told_holds}
 use Rattle.isolation_laws.specs.Bare.{is_bare}
 use Rattle.grant_laws.specs.Turns.{read_steps}
 

@@ -7,10 +7,10 @@ use Rattle.script_data.specs.Data.{ScriptData}
 use Rattle.script_data.specs.Ticks.{ticks_of}
 use Rattle.cause_laws.specs.Shows.{Tells}
 use Rattle.cause_laws.proofs.AlwaysExplained.{tells_stay, tells_at_first}
-use Rattle.line_steps.specs.Runs.{Played, line_run, lines_played, opening_played, script_played}
-use Rattle.line_steps.specs.Laws.{EventsLowerWhatIsLeft, IsPlayable, IsReached}
-use Rattle.line_steps.proofs.AlwaysFit.{Fit, fit_stays, fit_at_first}
-use Rattle.line_steps.proofs.Ending.{lines_keep, opening_reached}
+use Rattle.command_semantics.specs.Runs.{Played, line_run, lines_played, opening_played, script_played}
+use Rattle.command_semantics.specs.Laws.{EventsLowerWhatIsLeft, IsPlayable, IsReached}
+use Rattle.command_semantics.proofs.AlwaysFit.{Fit, fit_stays, fit_at_first}
+use Rattle.command_semantics.proofs.Ending.{lines_keep, opening_reached}
 use Rattle.grant_laws.specs.Granted.{IsBefore, Appends, Grants}
 use Rattle.grant_laws.proofs.LongerRuns.{Longer, appended_still, in_last, lines_longer}
 

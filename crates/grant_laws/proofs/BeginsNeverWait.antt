@@ -3,18 +3,18 @@ use Rattle.std.proofs.Common.{◌≡◌, ℕ, zero, suc, Bool, true, false, List
 use Rattle.std.specs.Prelude.{slice_index_or}
 use Rattle.stamp_base.specs.SetupNumbers.{SetupNumbers}
 use Rattle.history_book.specs.declared.item.Item.{Item}
-use Rattle.oracle_parts.specs.declared.instance.Held.{Held}
-use Rattle.oracle_parts.specs.declared.instance.Progress.{Progress}
-use Rattle.oracle_parts.specs.declared.instance.Progress.TheVariants as progress
-use Rattle.oracle_parts.specs.declared.instance.Request.{Request}
-use Rattle.oracle_parts.specs.declared.instance.Request.TheVariants.{Begin, Commit}
-use Rattle.oracle_parts.specs.Instance.{InstanceEntry, unsettled_by, only_below, lesser, least_unsettled}
+use Rattle.system_parts.specs.declared.instance.Held.{Held}
+use Rattle.system_parts.specs.declared.instance.Progress.{Progress}
+use Rattle.system_parts.specs.declared.instance.Progress.TheVariants as progress
+use Rattle.system_parts.specs.declared.instance.Request.{Request}
+use Rattle.system_parts.specs.declared.instance.Request.TheVariants.{Begin, Commit}
+use Rattle.system_parts.specs.Instance.{InstanceEntry, unsettled_by, only_below, lesser, least_unsettled}
 use Rattle.machine.specs.State.{State}
 use Rattle.isolation_laws.specs.Words.{InstanceAt}
 use Rattle.machine.proofs.Lookups.{held_by}
 use Rattle.cause_laws.specs.Requests.{WhereNodesPut}
 use Rattle.cause_laws.specs.Shows.{Tells}
-use Rattle.line_steps.specs.Laws.{EventsLowerWhatIsLeft}
+use Rattle.command_semantics.specs.Laws.{EventsLowerWhatIsLeft}
 use Rattle.grant_laws.specs.Laws.{DirectBeginsNeverWait}
 use Rattle.grant_laws.proofs.Before.{Known, known_before}
 use Rattle.grant_laws.proofs.KnownTurns.{KnownTurns, known_carried}

@@ -10,27 +10,27 @@ use Rattle.history_book.specs.declared.cause.Cause.{Cause}
 use Rattle.history_book.specs.declared.cause.Cause.TheVariants as cause
 use Rattle.history_book.specs.declared.item.Item.{Item}
 use Rattle.history_book.specs.declared.item.Item.TheVariants as item
-use Rattle.store_parts.specs.declared.record.RenewRefused.{RenewRefused}
-use Rattle.store_parts.specs.declared.record.RenewRefused.TheVariants as not_renewed
-use Rattle.store_parts.specs.declared.record.ExtendRefused.{ExtendRefused}
-use Rattle.store_parts.specs.declared.record.ExtendRefused.TheVariants as not_extended
-use Rattle.store_parts.specs.Pairs.{Pairs, mark_of}
-use Rattle.store_parts.specs.Record.{MasterRecord}
-use Rattle.oracle_parts.specs.declared.buckets.Verdict.{Verdict}
-use Rattle.oracle_parts.specs.declared.buckets.Verdict.TheVariants.{Free, Conflict, Hidden}
-use Rattle.oracle_parts.specs.declared.instance.Decided.{Decided}
-use Rattle.oracle_parts.specs.declared.instance.Progress.{Progress}
-use Rattle.oracle_parts.specs.declared.instance.Progress.TheVariants as progress
-use Rattle.oracle_parts.specs.declared.instance.Held.{Held}
-use Rattle.oracle_parts.specs.declared.instance.Reply.{Reply}
-use Rattle.oracle_parts.specs.declared.instance.Reply.TheVariants as reply
-use Rattle.oracle_parts.specs.declared.instance.Request.{Request}
-use Rattle.oracle_parts.specs.declared.instance.Request.TheVariants.{Begin, Commit}
-use Rattle.oracle_parts.specs.declared.instance.Settled.TheVariants as how
-use Rattle.oracle_parts.specs.Instance.{InstanceEntry, held_of, session_of}
-use Rattle.oracle_parts.specs.InstanceSteps.{without_request, ends, request_verdict, decide_by as verdict_by, decide_if_accepted, decide_held, refuse_if_accepted, refuse_held, instance_ask, instance_accept, instance_decide, instance_refuse, instance_answer}
-use Rattle.oracle_parts.specs.InstanceLaws.{InstanceCall, Asks, Accepts, Decides, Refuses, Settles, Answers, after_call, call_session}
-use Rattle.oracle_parts.proofs.InstanceRequests.{held_of-after_call_other}
+use Rattle.system_parts.specs.declared.record.RenewRefused.{RenewRefused}
+use Rattle.system_parts.specs.declared.record.RenewRefused.TheVariants as not_renewed
+use Rattle.system_parts.specs.declared.record.ExtendRefused.{ExtendRefused}
+use Rattle.system_parts.specs.declared.record.ExtendRefused.TheVariants as not_extended
+use Rattle.system_parts.specs.Pairs.{Pairs, mark_of}
+use Rattle.system_parts.specs.Record.{MasterRecord}
+use Rattle.system_parts.specs.declared.buckets.Verdict.{Verdict}
+use Rattle.system_parts.specs.declared.buckets.Verdict.TheVariants.{Free, Conflict, Hidden}
+use Rattle.system_parts.specs.declared.instance.Decided.{Decided}
+use Rattle.system_parts.specs.declared.instance.Progress.{Progress}
+use Rattle.system_parts.specs.declared.instance.Progress.TheVariants as progress
+use Rattle.system_parts.specs.declared.instance.Held.{Held}
+use Rattle.system_parts.specs.declared.instance.Reply.{Reply}
+use Rattle.system_parts.specs.declared.instance.Reply.TheVariants as reply
+use Rattle.system_parts.specs.declared.instance.Request.{Request}
+use Rattle.system_parts.specs.declared.instance.Request.TheVariants.{Begin, Commit}
+use Rattle.system_parts.specs.declared.instance.Settled.TheVariants as how
+use Rattle.system_parts.specs.Instance.{InstanceEntry, held_of, session_of}
+use Rattle.system_parts.specs.InstanceSteps.{without_request, ends, request_verdict, decide_by as verdict_by, decide_if_accepted, decide_held, refuse_if_accepted, refuse_held, instance_ask, instance_accept, instance_decide, instance_refuse, instance_answer}
+use Rattle.system_parts.specs.InstanceLaws.{InstanceCall, Asks, Accepts, Decides, Refuses, Settles, Answers, after_call, call_session}
+use Rattle.system_parts.proofs.InstanceRequests.{held_of-after_call_other}
 use Rattle.machine.specs.State.{Client}
 use Rattle.machine.specs.Events.Renew.{renew_by}
 use Rattle.machine.specs.Events.Extend.{extend_by}

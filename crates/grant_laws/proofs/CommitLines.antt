@@ -9,14 +9,14 @@ use Rattle.history_book.specs.declared.cause.Cause.TheVariants as cause
 use Rattle.history_book.specs.declared.item.Actor.TheVariants.{Session}
 use Rattle.history_book.specs.declared.item.Item.{Item}
 use Rattle.history_book.specs.declared.item.Item.TheVariants as item
-use Rattle.store_parts.specs.Pairs.{Pairs, mark_of}
-use Rattle.client_parts.specs.declared.session.State.TheVariants as phase
-use Rattle.client_parts.specs.SessionSteps.{asked_state}
-use Rattle.oracle_parts.specs.declared.instance.Request.{Request}
-use Rattle.oracle_parts.specs.declared.instance.Request.TheVariants.{Commit}
-use Rattle.oracle_parts.specs.Instance.{InstanceEntry, held_of}
-use Rattle.oracle_parts.specs.InstanceSteps.{just_asked, accept_refusal, epoch_refusal}
-use Rattle.oracle_parts.proofs.InstanceRequests.{held_of-with_request_same}
+use Rattle.system_parts.specs.Pairs.{Pairs, mark_of}
+use Rattle.system_parts.specs.declared.session.State.TheVariants as phase
+use Rattle.system_parts.specs.SessionSteps.{asked_state}
+use Rattle.system_parts.specs.declared.instance.Request.{Request}
+use Rattle.system_parts.specs.declared.instance.Request.TheVariants.{Commit}
+use Rattle.system_parts.specs.Instance.{InstanceEntry, held_of}
+use Rattle.system_parts.specs.InstanceSteps.{just_asked, accept_refusal, epoch_refusal}
+use Rattle.system_parts.proofs.InstanceRequests.{held_of-with_request_same}
 use Rattle.machine.specs.State.{Client}
 use Rattle.machine.specs.Clients.{client_asked}
 use Rattle.machine.specs.Effect.{Stop}
@@ -27,10 +27,10 @@ use Rattle.machine.specs.Events.AskCommit.{ask_commit_on}
 use Rattle.script_data.specs.declared.line.Line.{Line}
 use Rattle.script_data.specs.declared.line.Verb.{Verb}
 use Rattle.script_data.specs.declared.line.Verb.TheVariants as verb
-use Rattle.line_steps.specs.declared.point.Point.TheVariants.{Opens, Drives}
-use Rattle.line_steps.specs.Halts.{halt_of, follows}
-use Rattle.line_steps.specs.Laws.{EventsLowerWhatIsLeft}
-use Rattle.line_steps.specs.Runs.{Played, fate_by, step_of, played, opened}
+use Rattle.command_semantics.specs.declared.point.Point.TheVariants.{Opens, Drives}
+use Rattle.command_semantics.specs.Halts.{halt_of, follows}
+use Rattle.command_semantics.specs.Laws.{EventsLowerWhatIsLeft}
+use Rattle.command_semantics.specs.Runs.{Played, fate_by, step_of, played, opened}
 use Rattle.grant_laws.specs.Granted.{line_of, reading_of, node_asked}
 use Rattle.grant_laws.specs.Laws.{CommitsAreGranted}
 use Rattle.grant_laws.proofs.LongerRuns.{Longer, longer_still, appended_before, Leads, leads_on, leads_to, line_appends, run_at}

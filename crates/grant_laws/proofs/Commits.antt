@@ -9,14 +9,14 @@ use Rattle.history_book.specs.declared.item.Actor.TheVariants.{Session}
 use Rattle.history_book.specs.declared.item.Item.{Item}
 use Rattle.history_book.specs.declared.item.Item.TheVariants as item
 use Rattle.history_book.specs.declared.item.StoreStep.TheVariants.{Handed}
-use Rattle.store_parts.specs.Pairs.{Pairs, mark_of, put_pair}
-use Rattle.client_parts.specs.declared.session.State.{State as SessionState}
-use Rattle.client_parts.specs.declared.session.State.TheVariants as phase
-use Rattle.oracle_parts.specs.declared.instance.Held.{Held}
-use Rattle.oracle_parts.specs.declared.instance.Request.TheVariants.{Commit}
-use Rattle.oracle_parts.specs.Instance.{InstanceEntry, held_of, with_request}
-use Rattle.oracle_parts.proofs.InstanceRequests.{held_of-with_request_same}
-use Rattle.oracle_parts.specs.InstanceSteps.{without_request}
+use Rattle.system_parts.specs.Pairs.{Pairs, mark_of, put_pair}
+use Rattle.system_parts.specs.declared.session.State.{State as SessionState}
+use Rattle.system_parts.specs.declared.session.State.TheVariants as phase
+use Rattle.system_parts.specs.declared.instance.Held.{Held}
+use Rattle.system_parts.specs.declared.instance.Request.TheVariants.{Commit}
+use Rattle.system_parts.specs.Instance.{InstanceEntry, held_of, with_request}
+use Rattle.system_parts.proofs.InstanceRequests.{held_of-with_request_same}
+use Rattle.system_parts.specs.InstanceSteps.{without_request}
 use Rattle.machine.specs.State.{Client, State}
 use Rattle.machine.specs.Clients.{is_reading, client_handed}
 use Rattle.machine.specs.Readers.{doing_by, doing_at, doing_of, holder_of, place_held, commit_held, sweeping}
@@ -32,10 +32,10 @@ use Rattle.script_data.specs.declared.line.Verb.{Verb}
 use Rattle.script_data.specs.declared.line.Verb.TheVariants as verb
 use Rattle.script_data.specs.Data.{ScriptData}
 use Rattle.isolation_laws.specs.Words.{ClientAt}
-use Rattle.line_steps.specs.declared.point.Point.TheVariants.{Drives}
-use Rattle.line_steps.specs.Next.{Clocks, placing_next, drive_next}
-use Rattle.line_steps.specs.Runs.{Calls, Played, fate_by, fate_of, step_of, calls_after, one_more, played, Run, clocks_of, next_in, run_after}
-use Rattle.line_steps.proofs.Serving.{on_both}
+use Rattle.command_semantics.specs.declared.point.Point.TheVariants.{Drives}
+use Rattle.command_semantics.specs.Next.{Clocks, placing_next, drive_next}
+use Rattle.command_semantics.specs.Runs.{Calls, Played, fate_by, fate_of, step_of, calls_after, one_more, played, Run, clocks_of, next_in, run_after}
+use Rattle.command_semantics.proofs.Serving.{on_both}
 use Rattle.grant_laws.specs.Granted.{line_of, Appends}
 use Rattle.grant_laws.specs.Turns.{IsPlacing}
 use Rattle.grant_laws.proofs.LongerRuns.{in_last, in_one, appended_before, Leads, leads_on, leads_one, run_at}

@@ -13,24 +13,24 @@ use Rattle.history_book.specs.declared.item.Actor.TheVariants.{Session}
 use Rattle.history_book.specs.declared.item.Item.{Item}
 use Rattle.history_book.specs.declared.item.Item.TheVariants as item
 use Rattle.history_book.specs.declared.item.StoreStep.TheVariants.{Handed}
-use Rattle.store_parts.specs.Pairs.{Pairs, mark_of, put_pair}
-use Rattle.store_parts.specs.declared.record.ExtendRefused.{ExtendRefused}
-use Rattle.store_parts.specs.declared.record.ExtendRefused.TheVariants as not_extended
-use Rattle.store_parts.specs.Record.{Leasing, MasterRecord, is_spent, extend_refused, extended, answered}
-use Rattle.client_parts.specs.declared.session.State.{State as SessionState}
-use Rattle.client_parts.specs.declared.session.State.TheVariants as phase
-use Rattle.client_parts.specs.SessionSteps.{begin_refusal, work_refusal}
-use Rattle.oracle_parts.specs.declared.buckets.Verdict.{Verdict}
-use Rattle.oracle_parts.specs.declared.buckets.Verdict.TheVariants.{Free}
-use Rattle.oracle_parts.specs.declared.instance.Held.{Held}
-use Rattle.oracle_parts.specs.declared.instance.Progress.{Progress}
-use Rattle.oracle_parts.specs.declared.instance.Progress.TheVariants as progress
-use Rattle.oracle_parts.specs.declared.instance.Request.{Request}
-use Rattle.oracle_parts.specs.declared.instance.Request.TheVariants.{Begin, Commit}
-use Rattle.oracle_parts.specs.declared.instance.Settled.TheVariants as how
-use Rattle.oracle_parts.specs.Instance.{InstanceEntry, held_of, in_flight, with_request, session_of, stamps_by, stamps_of_held, least_unsettled, not_yet_of_held, was_told_not_yet}
-use Rattle.oracle_parts.specs.InstanceSteps.{InstanceStep, stays, just_asked, moved, no_stamp_told, accept_refusal, accept_unless, accept_held, out_of_stamps, drawn_as, decided_by, decide_drawn, decide_by, settle_held, without_request, answer_begin, answer_if_ready, answer_held, instance_widened}
-use Rattle.oracle_parts.specs.InstanceLaws.{stamp_of}
+use Rattle.system_parts.specs.Pairs.{Pairs, mark_of, put_pair}
+use Rattle.system_parts.specs.declared.record.ExtendRefused.{ExtendRefused}
+use Rattle.system_parts.specs.declared.record.ExtendRefused.TheVariants as not_extended
+use Rattle.system_parts.specs.Record.{Leasing, MasterRecord, is_spent, extend_refused, extended, answered}
+use Rattle.system_parts.specs.declared.session.State.{State as SessionState}
+use Rattle.system_parts.specs.declared.session.State.TheVariants as phase
+use Rattle.system_parts.specs.SessionSteps.{begin_refusal, work_refusal}
+use Rattle.system_parts.specs.declared.buckets.Verdict.{Verdict}
+use Rattle.system_parts.specs.declared.buckets.Verdict.TheVariants.{Free}
+use Rattle.system_parts.specs.declared.instance.Held.{Held}
+use Rattle.system_parts.specs.declared.instance.Progress.{Progress}
+use Rattle.system_parts.specs.declared.instance.Progress.TheVariants as progress
+use Rattle.system_parts.specs.declared.instance.Request.{Request}
+use Rattle.system_parts.specs.declared.instance.Request.TheVariants.{Begin, Commit}
+use Rattle.system_parts.specs.declared.instance.Settled.TheVariants as how
+use Rattle.system_parts.specs.Instance.{InstanceEntry, held_of, in_flight, with_request, session_of, stamps_by, stamps_of_held, least_unsettled, not_yet_of_held, was_told_not_yet}
+use Rattle.system_parts.specs.InstanceSteps.{InstanceStep, stays, just_asked, moved, no_stamp_told, accept_refusal, accept_unless, accept_held, out_of_stamps, drawn_as, decided_by, decide_drawn, decide_by, settle_held, without_request, answer_begin, answer_if_ready, answer_held, instance_widened}
+use Rattle.system_parts.specs.InstanceLaws.{stamp_of}
 use Rattle.machine.specs.State.{Client}
 use Rattle.machine.specs.Effect.{Refuses, done}
 use Rattle.machine.specs.Clients.{is_reading, client_asked, client_handed, unless_gone_by}

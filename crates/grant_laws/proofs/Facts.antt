@@ -7,13 +7,13 @@ use Rattle.stamp_base.specs.declared.stores.Mark.TheVariants.{Committed as Commi
 use Rattle.stamp_base.specs.SetupNumbers.{SetupNumbers}
 use Rattle.port_io.specs.declared.weather.Fate.TheVariants.{Works}
 use Rattle.history_book.specs.Isolation.{Committed}
-use Rattle.store_parts.specs.Pairs.{mark_of}
-use Rattle.client_parts.specs.declared.session.State.TheVariants as phase
-use Rattle.oracle_parts.specs.Instance.{InstanceEntry}
+use Rattle.system_parts.specs.Pairs.{mark_of}
+use Rattle.system_parts.specs.declared.session.State.TheVariants as phase
+use Rattle.system_parts.specs.Instance.{InstanceEntry}
 use Rattle.machine.specs.State.{Client}
 use Rattle.script_data.specs.Data.{ScriptData}
 use Rattle.isolation_laws.specs.Words.{InstanceAt, ClientAt, Marked, epoch_or_none}
-use Rattle.line_steps.specs.Runs.{Played, fate_by}
+use Rattle.command_semantics.specs.Runs.{Played, fate_by}
 use Rattle.grant_laws.specs.Granted.{HasStamp}
 use Rattle.grant_laws.proofs.Before.{Known}
 use Rattle.grant_laws.proofs.Spots.{Spot, IsAt, none_held}

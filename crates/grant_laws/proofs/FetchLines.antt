@@ -9,15 +9,15 @@ use Rattle.history_book.specs.declared.item.Actor.TheVariants.{Session}
 use Rattle.history_book.specs.declared.item.StoreStep.TheVariants as store_step
 use Rattle.history_book.specs.declared.item.Item.{Item}
 use Rattle.history_book.specs.declared.item.Item.TheVariants as item
-use Rattle.store_parts.specs.declared.rows.Cell.{Cell}
-use Rattle.store_parts.specs.Rows.{Row, fetched, front_of}
-use Rattle.client_parts.specs.declared.key_read.Answer.{Answer}
-use Rattle.client_parts.specs.declared.session.State.{State as SessionState}
-use Rattle.client_parts.specs.declared.session.State.TheVariants as phase
-use Rattle.client_parts.specs.SessionSteps.{work_refusal}
-use Rattle.client_parts.specs.KeyRead.{Reading, ReadTurn, Asks, Answers}
-use Rattle.client_parts.specs.Cache.{Cache, put_fresh}
-use Rattle.client_parts.specs.Recalled.{Remembering}
+use Rattle.system_parts.specs.declared.rows.Cell.{Cell}
+use Rattle.system_parts.specs.Rows.{Row, fetched, front_of}
+use Rattle.system_parts.specs.declared.key_read.Answer.{Answer}
+use Rattle.system_parts.specs.declared.session.State.{State as SessionState}
+use Rattle.system_parts.specs.declared.session.State.TheVariants as phase
+use Rattle.system_parts.specs.SessionSteps.{work_refusal}
+use Rattle.system_parts.specs.KeyRead.{Reading, ReadTurn, Asks, Answers}
+use Rattle.system_parts.specs.Cache.{Cache, put_fresh}
+use Rattle.system_parts.specs.Recalled.{Remembering}
 use Rattle.machine.specs.State.{Reads as UnderRead, Client, State}
 use Rattle.machine.specs.Clients.{is_reading}
 use Rattle.machine.specs.Effect.{Effect}
@@ -32,19 +32,19 @@ use Rattle.script_data.specs.declared.line.Verb.TheVariants as verb
 use Rattle.script_data.specs.Data.{ScriptData}
 use Rattle.isolation_laws.specs.Words.{ClientAt}
 use Rattle.machine.proofs.Lookups.{set_found}
-use Rattle.line_steps.specs.declared.point.Point.TheVariants.{Opens, Reads}
-use Rattle.line_steps.specs.Halts.{halt_of, follows}
-use Rattle.line_steps.specs.Laws.{EventsLowerWhatIsLeft}
-use Rattle.line_steps.specs.Runs.{Calls, Played, one_more, calls_after, fate_by, fate_of, step_of, played, run_after, left_in, opened}
-use Rattle.line_steps.proofs.ReadLines.{OfRead, over_recalls}
+use Rattle.command_semantics.specs.declared.point.Point.TheVariants.{Opens, Reads}
+use Rattle.command_semantics.specs.Halts.{halt_of, follows}
+use Rattle.command_semantics.specs.Laws.{EventsLowerWhatIsLeft}
+use Rattle.command_semantics.specs.Runs.{Calls, Played, one_more, calls_after, fate_by, fate_of, step_of, played, run_after, left_in, opened}
+use Rattle.command_semantics.proofs.ReadLines.{OfRead, over_recalls}
 use Rattle.grant_laws.specs.Granted.{line_of, next_fate}
 use Rattle.grant_laws.proofs.LongerRuns.{in_one, in_last, appended_before, Leads, leads_on, leads_one, leads_to, run_appends, line_appends, run_at}
 use Rattle.grant_laws.proofs.ReadLines.{IsReading, HasAnswer, read_answers}
 use Rattle.grant_laws.proofs.Before.{Known, known_before, granted}
 use Rattle.grant_laws.specs.Laws.{ReadsAreGranted}
-use Rattle.line_steps.specs.Left.{of_client, cells_by, client_reads, client_fetches}
-use Rattle.line_steps.proofs.AlwaysFit.{Fit}
-use Rattle.line_steps.proofs.Fitting.{EpochFits, fit_at}
+use Rattle.command_semantics.specs.Left.{of_client, cells_by, client_reads, client_fetches}
+use Rattle.command_semantics.proofs.AlwaysFit.{Fit}
+use Rattle.command_semantics.proofs.Fitting.{EpochFits, fit_at}
 use Rattle.grant_laws.proofs.ReadTurns.{CallsWork, works_on, works_now}
 use Rattle.std.specs.Option.{option_or}
 use Rattle.stamp_base.specs.SetupNumbers.{SetupNumbers}
@@ -53,7 +53,7 @@ use Rattle.grant_laws.proofs.BareReads.{BareReadsEnd}
 use Rattle.isolation_laws.specs.Bare.{is_bare}
 use Rattle.std.proofs.lemmas.List.Sums.{length-filter, count_by-le-length}
 use Rattle.grant_laws.specs.Turns.{read_steps}
-use Rattle.planned_laws.specs.Laws.{ScriptsArePlanned}
+use Rattle.command_semantics.specs.PlannedLaws.{ScriptsArePlanned}
 use Rattle.grant_laws.proofs.ShortReads.{reads_are_short}
 
 -- ---- the fetch

@@ -3,11 +3,11 @@ use Rattle.std.proofs.Common.{◌≡◌, ◌≢◌, ℕ, ◌==◌, ◌&&◌, Boo
 use Rattle.std.specs.Prelude.{slice_get, slice_set, IfSome}
 use Rattle.std.proofs.lemmas.Bool.{eq-eqb, eqb-false}
 use Rattle.port_io.specs.declared.weather.Fate.{Fate}
-use Rattle.client_parts.specs.SessionSteps.{begin_refusal, work_refusal}
-use Rattle.oracle_parts.specs.declared.instance.Held.{Held}
-use Rattle.oracle_parts.specs.declared.instance.Progress.{Progress}
-use Rattle.oracle_parts.specs.declared.instance.Request.{Request}
-use Rattle.oracle_parts.specs.Instance.{InstanceEntry, held_of, stamps_at}
+use Rattle.system_parts.specs.SessionSteps.{begin_refusal, work_refusal}
+use Rattle.system_parts.specs.declared.instance.Held.{Held}
+use Rattle.system_parts.specs.declared.instance.Progress.{Progress}
+use Rattle.system_parts.specs.declared.instance.Request.{Request}
+use Rattle.system_parts.specs.Instance.{InstanceEntry, held_of, stamps_at}
 use Rattle.machine.specs.State.{State}
 use Rattle.machine.specs.Clients.{is_reading}
 use Rattle.machine.specs.declared.event.Event.{Event}
@@ -26,7 +26,7 @@ use Rattle.machine.specs.Events.Answer.{answer_on}
 use Rattle.machine.proofs.LookedUp.{of_post, of_both}
 use Rattle.machine.proofs.PartsKept.{leaves_parts}
 use Rattle.script_data.specs.Data.{ScriptData}
-use Rattle.line_steps.specs.Runs.{fate_of, step_of}
+use Rattle.command_semantics.specs.Runs.{fate_of, step_of}
 use Rattle.turn_rules.specs.declared.turn.Turn.{Turn}
 use Rattle.turn_rules.specs.Carried.{Carried, event_of, turned_by, carried}
 use Rattle.grant_laws.specs.Turns.{IsServed, touches, RequestsStay}

@@ -7,8 +7,8 @@ use Rattle.script_data.specs.Data.{ScriptData}
 use Rattle.cause_laws.specs.Shows.{Tells}
 use Rattle.cause_laws.proofs.AlwaysExplained.{tells_stay, tells_at_first}
 use Rattle.isolation_laws.specs.Sound.{Stands}
-use Rattle.line_steps.specs.Laws.{IsPlayable}
-use Rattle.line_steps.specs.Runs.{fate_of}
+use Rattle.command_semantics.specs.Laws.{IsPlayable}
+use Rattle.command_semantics.specs.Runs.{fate_of}
 use Rattle.turn_rules.specs.declared.turn.Turn.{Turn}
 use Rattle.turn_rules.specs.Carried.{Carried, event_of, turned_by, turned, carried, all_passed, at_first}
 use Rattle.turn_rules.proofs.Facts.{Facts, facts_turned, facts_at_first}

@@ -6,9 +6,9 @@ use Rattle.history_book.specs.declared.item.Item.{Item}
 use Rattle.machine.specs.declared.event.Event.{Event}
 use Rattle.script_data.specs.declared.line.Line.{Line}
 use Rattle.script_data.specs.Data.{ScriptData}
-use Rattle.line_steps.specs.declared.point.Point.{Point}
-use Rattle.line_steps.specs.Halts.{halt_of, follows}
-use Rattle.line_steps.specs.Runs.{Played, step_of, played, Run, next_in, run_after, left_in, going_on, run_for, opened, line_run, lines_played}
+use Rattle.command_semantics.specs.declared.point.Point.{Point}
+use Rattle.command_semantics.specs.Halts.{halt_of, follows}
+use Rattle.command_semantics.specs.Runs.{Played, step_of, played, Run, next_in, run_after, left_in, going_on, run_for, opened, line_run, lines_played}
 use Rattle.grant_laws.specs.Granted.{Appends}
 
 -- ---- a history that has gone on

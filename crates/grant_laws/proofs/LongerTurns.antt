@@ -6,7 +6,7 @@ use Rattle.history_book.specs.Members.{◌∈◌}
 use Rattle.history_book.specs.declared.item.Item.{Item}
 use Rattle.machine.specs.declared.event.Event.{Event}
 use Rattle.script_data.specs.Data.{ScriptData}
-use Rattle.line_steps.specs.Runs.{step_of}
+use Rattle.command_semantics.specs.Runs.{step_of}
 use Rattle.turn_rules.specs.declared.turn.Turn.{Turn}
 use Rattle.turn_rules.specs.Carried.{Carried, event_of, turned_by, turned, carried, carried_items}
 use Rattle.grant_laws.specs.Granted.{Appends}

@@ -12,14 +12,14 @@ use Rattle.history_book.specs.declared.cause.Cause.{Cause}
 use Rattle.history_book.specs.declared.item.Actor.TheVariants.{Node, Session}
 use Rattle.history_book.specs.declared.item.Item.{Item}
 use Rattle.history_book.specs.declared.item.Item.TheVariants as item
-use Rattle.store_parts.specs.Rows.{Row}
-use Rattle.store_parts.specs.declared.record.TakeRefused.{TakeRefused}
-use Rattle.store_parts.specs.declared.record.TakeRefused.TheVariants as refused
-use Rattle.store_parts.specs.Record.{Leasing, MasterRecord, is_early, is_spent, take_refused, granted as granted_at, taken, answered}
-use Rattle.client_parts.specs.declared.session.State.{State as SessionState}
-use Rattle.client_parts.specs.declared.session.State.TheVariants as phase
-use Rattle.client_parts.specs.SessionSteps.{work_refusal, key_refusal}
-use Rattle.oracle_parts.specs.Instance.{InstanceEntry}
+use Rattle.system_parts.specs.Rows.{Row}
+use Rattle.system_parts.specs.declared.record.TakeRefused.{TakeRefused}
+use Rattle.system_parts.specs.declared.record.TakeRefused.TheVariants as refused
+use Rattle.system_parts.specs.Record.{Leasing, MasterRecord, is_early, is_spent, take_refused, granted as granted_at, taken, answered}
+use Rattle.system_parts.specs.declared.session.State.{State as SessionState}
+use Rattle.system_parts.specs.declared.session.State.TheVariants as phase
+use Rattle.system_parts.specs.SessionSteps.{work_refusal, key_refusal}
+use Rattle.system_parts.specs.Instance.{InstanceEntry}
 use Rattle.machine.specs.State.{Client, State}
 use Rattle.machine.specs.Clients.{is_reading}
 use Rattle.machine.specs.declared.event.Event.{Event}
@@ -30,8 +30,8 @@ use Rattle.machine.specs.Events.Write.{write_refused, write_on, write_open, writ
 use Rattle.script_data.specs.declared.line.Line.{Line}
 use Rattle.script_data.specs.declared.line.Verb.TheVariants as verb
 use Rattle.script_data.specs.Data.{ScriptData}
-use Rattle.line_steps.specs.Laws.{EventsLowerWhatIsLeft}
-use Rattle.line_steps.specs.Runs.{Played, fate_by, fate_of, step_of, played, next_in, run_after, left_in, opened}
+use Rattle.command_semantics.specs.Laws.{EventsLowerWhatIsLeft}
+use Rattle.command_semantics.specs.Runs.{Played, fate_by, fate_of, step_of, played, next_in, run_after, left_in, opened}
 use Rattle.grant_laws.specs.Granted.{line_of, reading_of, Appends}
 use Rattle.grant_laws.specs.Premises.{CanWrite, CanTake}
 use Rattle.grant_laws.specs.Laws.{WritesAreGranted, TakesAreGranted}

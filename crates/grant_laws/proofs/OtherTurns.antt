@@ -2,14 +2,14 @@
 use Rattle.std.proofs.Common.{◌≡◌, ℕ, Bool, true, false, Option, Some, None, inl, refl, sym, ◌∙◌, ap}
 use Rattle.history_book.specs.declared.item.Actor.{Actor}
 use Rattle.history_book.specs.declared.item.Actor.TheVariants.{Session}
-use Rattle.client_parts.specs.KeyRead.{Reading}
+use Rattle.system_parts.specs.KeyRead.{Reading}
 use Rattle.machine.specs.declared.event.Event.{Event}
 use Rattle.machine.specs.Machine.{Step}
 use Rattle.script_data.specs.Data.{ScriptData}
-use Rattle.line_steps.specs.Answers.{same_actor}
-use Rattle.line_steps.specs.Runs.{fate_of, played}
-use Rattle.line_steps.specs.Views.{view_of}
-use Rattle.line_steps.proofs.ScriptWalks.{actor_same, same_itself}
+use Rattle.command_semantics.specs.Answers.{same_actor}
+use Rattle.command_semantics.specs.Runs.{fate_of, played}
+use Rattle.command_semantics.specs.Views.{view_of}
+use Rattle.command_semantics.proofs.ScriptWalks.{actor_same, same_itself}
 use Rattle.turn_rules.specs.declared.seat.Seat.{Seat}
 use Rattle.turn_rules.specs.declared.turn.Turn.{Turn}
 use Rattle.turn_rules.specs.declared.turn.Turn.TheVariants as turn

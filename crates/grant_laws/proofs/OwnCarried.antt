@@ -6,7 +6,7 @@ use Rattle.history_book.specs.declared.item.Item.TheVariants as item
 use Rattle.machine.specs.declared.event.Event.{Event}
 use Rattle.machine.specs.declared.event.Event.TheVariants as event
 use Rattle.script_data.specs.Data.{ScriptData}
-use Rattle.line_steps.specs.Runs.{step_of, played}
+use Rattle.command_semantics.specs.Runs.{step_of, played}
 use Rattle.turn_rules.specs.declared.turn.Turn.{Turn}
 use Rattle.turn_rules.specs.declared.turn.Turn.TheVariants as turn
 use Rattle.turn_rules.specs.declared.ahead.Ahead.TheVariants.{Makes}

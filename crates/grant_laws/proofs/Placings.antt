@@ -10,11 +10,11 @@ use Rattle.port_io.specs.Fates.{fated}
 use Rattle.history_book.specs.declared.item.Actor.TheVariants.{Session}
 use Rattle.history_book.specs.declared.item.Item.{Item}
 use Rattle.history_book.specs.declared.item.Item.TheVariants as item
-use Rattle.store_parts.specs.Pairs.{Pairs, mark_of, put_pair}
-use Rattle.client_parts.specs.declared.session.State.{State as SessionState}
-use Rattle.client_parts.specs.declared.session.State.TheVariants as phase
-use Rattle.client_parts.specs.SessionSteps.{step_refusal}
-use Rattle.oracle_parts.specs.declared.instance.Held.{Held}
+use Rattle.system_parts.specs.Pairs.{Pairs, mark_of, put_pair}
+use Rattle.system_parts.specs.declared.session.State.{State as SessionState}
+use Rattle.system_parts.specs.declared.session.State.TheVariants as phase
+use Rattle.system_parts.specs.SessionSteps.{step_refusal}
+use Rattle.system_parts.specs.declared.instance.Held.{Held}
 use Rattle.machine.specs.State.{Client, State}
 use Rattle.machine.specs.Clients.{is_reading}
 use Rattle.machine.specs.declared.event.Event.{Event}
@@ -29,12 +29,12 @@ use Rattle.script_data.specs.Data.{ScriptData}
 use Rattle.isolation_laws.specs.Pending.{Has, InFlight, is_placing, PlacingAt}
 use Rattle.isolation_laws.specs.Sound.{Stands}
 use Rattle.isolation_laws.specs.Words.{ClientAt, Marked}
-use Rattle.line_steps.specs.declared.point.Point.TheVariants.{Drives}
-use Rattle.line_steps.specs.Laws.{IsPlayable}
-use Rattle.line_steps.specs.Next.{placing_next}
-use Rattle.line_steps.specs.Runs.{Played, fate_by, fate_of, step_of}
-use Rattle.line_steps.proofs.Stepping.{place_is}
-use Rattle.line_steps.proofs.Working.{PlaceWork, handed_is}
+use Rattle.command_semantics.specs.declared.point.Point.TheVariants.{Drives}
+use Rattle.command_semantics.specs.Laws.{IsPlayable}
+use Rattle.command_semantics.specs.Next.{placing_next}
+use Rattle.command_semantics.specs.Runs.{Played, fate_by, fate_of, step_of}
+use Rattle.command_semantics.proofs.Stepping.{place_is}
+use Rattle.command_semantics.proofs.Working.{PlaceWork, handed_is}
 use Rattle.turn_rules.specs.declared.ahead.Ahead.{Ahead}
 use Rattle.turn_rules.specs.declared.ahead.Ahead.TheVariants.{Makes}
 use Rattle.turn_rules.specs.Waiting.{made_next, drive_ahead}

@@ -7,16 +7,16 @@ use Rattle.history_book.specs.declared.item.Actor.TheVariants.{Session}
 use Rattle.history_book.specs.declared.item.Found.{Found}
 use Rattle.history_book.specs.declared.item.Item.{Item}
 use Rattle.history_book.specs.declared.item.Item.TheVariants as item
-use Rattle.store_parts.specs.Rows.{Row}
-use Rattle.store_parts.specs.Pairs.{Pairs}
-use Rattle.client_parts.specs.declared.asks.Told.{Told}
-use Rattle.client_parts.specs.declared.key_read.Answer.{Answer}
-use Rattle.client_parts.specs.declared.session.State.{State as SessionState}
-use Rattle.client_parts.specs.declared.session.State.TheVariants as phase
-use Rattle.client_parts.specs.SessionSteps.{step_refusal}
-use Rattle.client_parts.specs.KeyRead.{Reading, ReadTurn, Asks, Answers, read_ask}
-use Rattle.client_parts.specs.Cache.{Cache}
-use Rattle.client_parts.specs.Recalled.{Remembering}
+use Rattle.system_parts.specs.Rows.{Row}
+use Rattle.system_parts.specs.Pairs.{Pairs}
+use Rattle.system_parts.specs.declared.asks.Told.{Told}
+use Rattle.system_parts.specs.declared.key_read.Answer.{Answer}
+use Rattle.system_parts.specs.declared.session.State.{State as SessionState}
+use Rattle.system_parts.specs.declared.session.State.TheVariants as phase
+use Rattle.system_parts.specs.SessionSteps.{step_refusal}
+use Rattle.system_parts.specs.KeyRead.{Reading, ReadTurn, Asks, Answers, read_ask}
+use Rattle.system_parts.specs.Cache.{Cache}
+use Rattle.system_parts.specs.Recalled.{Remembering}
 use Rattle.machine.specs.State.{UnderWay, Reads as UnderRead, Client, State}
 use Rattle.machine.specs.Clients.{is_reading, is_reading_by}
 use Rattle.machine.specs.Readers.{doing_at, doing_by}
@@ -33,12 +33,12 @@ use Rattle.script_data.specs.declared.line.Verb.TheVariants as verb
 use Rattle.script_data.specs.Data.{ScriptData}
 use Rattle.isolation_laws.specs.Words.{ClientAt}
 use Rattle.machine.proofs.Lookups.{set_found}
-use Rattle.line_steps.specs.declared.point.Point.TheVariants.{Reads}
-use Rattle.line_steps.specs.Halts.{halt_of, follows}
-use Rattle.line_steps.specs.Next.{read_next}
-use Rattle.line_steps.specs.Runs.{Calls, Played, one_more, calls_after, fate_by, fate_of, step_of, played, Run, run_after, next_in}
-use Rattle.line_steps.proofs.Stepping.{unhanded}
-use Rattle.line_steps.proofs.ReadLines.{OfRead, told_recalls}
+use Rattle.command_semantics.specs.declared.point.Point.TheVariants.{Reads}
+use Rattle.command_semantics.specs.Halts.{halt_of, follows}
+use Rattle.command_semantics.specs.Next.{read_next}
+use Rattle.command_semantics.specs.Runs.{Calls, Played, one_more, calls_after, fate_by, fate_of, step_of, played, Run, run_after, next_in}
+use Rattle.command_semantics.proofs.Stepping.{unhanded}
+use Rattle.command_semantics.proofs.ReadLines.{OfRead, told_recalls}
 use Rattle.grant_laws.specs.Granted.{line_of, Appends, next_fate}
 use Rattle.grant_laws.proofs.LongerRuns.{in_one, in_last, appended_before, Leads, leads_on, leads_one, leads_to, run_at}
 use Rattle.grant_laws.proofs.ReadTurns.{CallsWork, works_on, works_now, read_from}

@@ -4,12 +4,12 @@ use Rattle.stamp_base.specs.declared.stores.Store.{Store}
 use Rattle.stamp_base.specs.declared.stores.Store.TheVariants.{Cells, Table, Master}
 use Rattle.port_io.specs.declared.weather.Fate.TheVariants as fate
 use Rattle.port_io.specs.Planned.{planned_fate}
-use Rattle.client_parts.specs.declared.asks.Ask.{Ask}
-use Rattle.client_parts.specs.declared.asks.Ask.TheVariants as ask
+use Rattle.system_parts.specs.declared.asks.Ask.{Ask}
+use Rattle.system_parts.specs.declared.asks.Ask.TheVariants as ask
 use Rattle.machine.specs.StoreSteps.{store_of}
 use Rattle.grant_laws.specs.Premises.{IsReadFrom}
 use Rattle.script_data.specs.Data.{ScriptData}
-use Rattle.line_steps.specs.Runs.{Calls, calls_on, one_more}
+use Rattle.command_semantics.specs.Runs.{Calls, calls_on, one_more}
 
 -- ---- calls that work
 -- on each store the next so many calls work

@@ -5,22 +5,22 @@ use Rattle.history_book.specs.declared.item.Actor.TheVariants.{Session}
 use Rattle.history_book.specs.declared.item.StoreStep.TheVariants as store_step
 use Rattle.history_book.specs.declared.item.Item.{Item}
 use Rattle.history_book.specs.declared.item.Item.TheVariants as item
-use Rattle.store_parts.specs.declared.rows.Cell.{Cell}
-use Rattle.store_parts.specs.Rows.{fetched, front_of}
-use Rattle.client_parts.specs.KeyRead.{Reading, ReadTurn, Asks, Answers, read_ask}
-use Rattle.client_parts.specs.Cache.{Cache, put_fresh}
-use Rattle.client_parts.specs.Recalled.{Remembering}
+use Rattle.system_parts.specs.declared.rows.Cell.{Cell}
+use Rattle.system_parts.specs.Rows.{fetched, front_of}
+use Rattle.system_parts.specs.KeyRead.{Reading, ReadTurn, Asks, Answers, read_ask}
+use Rattle.system_parts.specs.Cache.{Cache, put_fresh}
+use Rattle.system_parts.specs.Recalled.{Remembering}
 use Rattle.machine.specs.State.{Reads as UnderRead, Client}
-use Rattle.machine.specs.StoreSteps.{store_of}
+use Rattle.machine.specs.StoreSteps.{store_of, met}
 use Rattle.machine.specs.declared.event.Event.TheVariants as event
 use Rattle.machine.specs.Machine.{Step}
 use Rattle.machine.specs.Events.Fetch.{marks_every, client_fetched, found_of}
 use Rattle.script_data.specs.Data.{ScriptData}
 use Rattle.isolation_laws.specs.Words.{ClientAt}
 use Rattle.machine.proofs.Lookups.{set_found}
-use Rattle.line_steps.specs.Laws.{IsPlayable}
-use Rattle.line_steps.specs.Runs.{Played, step_of, played}
-use Rattle.line_steps.proofs.ReadLines.{OfRead, over_recalls, told_recalls}
+use Rattle.command_semantics.specs.Laws.{IsPlayable}
+use Rattle.command_semantics.specs.Runs.{Played, step_of, played}
+use Rattle.command_semantics.proofs.ReadLines.{OfRead, over_recalls, told_recalls}
 use Rattle.grant_laws.specs.Granted.{next_fate}
 use Rattle.grant_laws.proofs.LongerRuns.{in_one, in_last}
 use Rattle.grant_laws.proofs.OwnCarried.{own_plays}
@@ -34,7 +34,6 @@ use Rattle.turn_rules.specs.Carried.{Carried, own_ahead, turned, carried, all_pa
 use Rattle.turn_rules.proofs.Facts.{Facts, facts_all, facts_at_first}
 use Rattle.grant_laws.specs.Premises.{cells_to_read, CanFetch}
 use Rattle.grant_laws.proofs.FetchLines.{has_epoch, may_fetch, first_recall, FetchesSo, fetches_so}
-use Rattle.machine.specs.StoreSteps.{met}
 use Rattle.grant_laws.proofs.BareReads.{BareReadsEnd}
 
 -- ---- a step

@@ -11,19 +11,19 @@ use Rattle.port_io.specs.Fates.{fated}
 use Rattle.history_book.specs.declared.cause.Cause.{Cause}
 use Rattle.history_book.specs.declared.item.Item.{Item}
 use Rattle.history_book.specs.declared.item.Item.TheVariants as item
-use Rattle.store_parts.specs.Pairs.{Pairs, mark_of, put_pair}
-use Rattle.oracle_parts.specs.declared.buckets.Verdict.{Verdict}
-use Rattle.oracle_parts.specs.declared.buckets.Verdict.TheVariants.{Free}
-use Rattle.oracle_parts.specs.declared.instance.Held.{Held}
-use Rattle.oracle_parts.specs.declared.instance.Progress.{Progress}
-use Rattle.oracle_parts.specs.declared.instance.Progress.TheVariants as progress
-use Rattle.oracle_parts.specs.declared.instance.Request.{Request}
-use Rattle.oracle_parts.specs.declared.instance.Request.TheVariants.{Begin, Commit}
-use Rattle.oracle_parts.specs.declared.instance.Settled.TheVariants as how
-use Rattle.oracle_parts.specs.Instance.{InstanceEntry, held_of, with_request, stamps_by, stamps_of_held, unsettled_by, least_unsettled}
-use Rattle.oracle_parts.specs.InstanceSteps.{moved, accept_refusal, accept_unless, accept_if_asked, accept_held, out_of_stamps, decided_by, decide_drawn, decide_by, settle_if_drawn, settle_held, answer_begin, answer_if_ready, answer_held}
-use Rattle.oracle_parts.specs.InstanceLaws.{stamp_of}
-use Rattle.oracle_parts.proofs.InstanceRequests.{held_of-with_request_same}
+use Rattle.system_parts.specs.Pairs.{Pairs, mark_of, put_pair}
+use Rattle.system_parts.specs.declared.buckets.Verdict.{Verdict}
+use Rattle.system_parts.specs.declared.buckets.Verdict.TheVariants.{Free}
+use Rattle.system_parts.specs.declared.instance.Held.{Held}
+use Rattle.system_parts.specs.declared.instance.Progress.{Progress}
+use Rattle.system_parts.specs.declared.instance.Progress.TheVariants as progress
+use Rattle.system_parts.specs.declared.instance.Request.{Request}
+use Rattle.system_parts.specs.declared.instance.Request.TheVariants.{Begin, Commit}
+use Rattle.system_parts.specs.declared.instance.Settled.TheVariants as how
+use Rattle.system_parts.specs.Instance.{InstanceEntry, held_of, with_request, stamps_by, stamps_of_held, unsettled_by, least_unsettled}
+use Rattle.system_parts.specs.InstanceSteps.{moved, accept_refusal, accept_unless, accept_if_asked, accept_held, out_of_stamps, decided_by, decide_drawn, decide_by, settle_if_drawn, settle_held, answer_begin, answer_if_ready, answer_held}
+use Rattle.system_parts.specs.InstanceLaws.{stamp_of}
+use Rattle.system_parts.proofs.InstanceRequests.{held_of-with_request_same}
 use Rattle.machine.specs.State.{Client, State}
 use Rattle.machine.specs.Effect.{Effect, done}
 use Rattle.machine.specs.declared.event.Event.{Event}
@@ -38,8 +38,8 @@ use Rattle.isolation_laws.specs.Sound.{Stands}
 use Rattle.isolation_laws.specs.Pending.{Has, InFlight, HeldPending}
 use Rattle.isolation_laws.specs.Requests.{WaitsFor}
 use Rattle.machine.proofs.Lookups.{set_found}
-use Rattle.line_steps.specs.Runs.{Played, step_of, played}
-use Rattle.line_steps.proofs.Serving.{node_step, on_both}
+use Rattle.command_semantics.specs.Runs.{Played, step_of, played}
+use Rattle.command_semantics.proofs.Serving.{node_step, on_both}
 use Rattle.turn_rules.specs.declared.turn.Turn.{Turn}
 use Rattle.turn_rules.specs.Carried.{Carried, turned}
 use Rattle.grant_laws.specs.Turns.{Adds, IsServed, Serves}

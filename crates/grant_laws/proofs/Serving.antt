@@ -5,13 +5,13 @@ use Rattle.stamp_base.specs.declared.stores.Store.{Store}
 use Rattle.history_book.specs.declared.item.Actor.TheVariants.{Session}
 use Rattle.history_book.specs.declared.item.Item.{Item}
 use Rattle.history_book.specs.declared.item.Item.TheVariants as item
-use Rattle.oracle_parts.specs.declared.buckets.Verdict.TheVariants.{Free}
-use Rattle.oracle_parts.specs.declared.instance.Place.{Place}
-use Rattle.oracle_parts.specs.declared.instance.Progress.TheVariants as progress
-use Rattle.oracle_parts.specs.declared.instance.Request.{Request}
-use Rattle.oracle_parts.specs.Instance.{InstanceEntry, held_of}
-use Rattle.oracle_parts.specs.InstanceSteps.{just_asked, moved, accept_refusal, decided_by}
-use Rattle.oracle_parts.specs.InstanceLaws.{stamp_of}
+use Rattle.system_parts.specs.declared.buckets.Verdict.TheVariants.{Free}
+use Rattle.system_parts.specs.declared.instance.Place.{Place}
+use Rattle.system_parts.specs.declared.instance.Progress.TheVariants as progress
+use Rattle.system_parts.specs.declared.instance.Request.{Request}
+use Rattle.system_parts.specs.Instance.{InstanceEntry, held_of}
+use Rattle.system_parts.specs.InstanceSteps.{just_asked, moved, accept_refusal, decided_by}
+use Rattle.system_parts.specs.InstanceLaws.{stamp_of}
 use Rattle.machine.specs.State.{Client, State}
 use Rattle.machine.specs.Effect.{Effect, Stop}
 use Rattle.machine.specs.declared.event.Event.{Event}
@@ -23,10 +23,10 @@ use Rattle.script_data.specs.declared.line.Line.{Line}
 use Rattle.script_data.specs.declared.line.Verb.{Verb}
 use Rattle.script_data.specs.Data.{ScriptData}
 use Rattle.machine.proofs.Lookups.{set_found}
-use Rattle.line_steps.specs.declared.point.Point.TheVariants.{Drives}
-use Rattle.line_steps.specs.Next.{is_served}
-use Rattle.line_steps.specs.Runs.{Played, step_of, calls_after, clock_after, played}
-use Rattle.line_steps.proofs.Serving.{node_step, on_both}
+use Rattle.command_semantics.specs.declared.point.Point.TheVariants.{Drives}
+use Rattle.command_semantics.specs.Next.{is_served}
+use Rattle.command_semantics.specs.Runs.{Played, step_of, calls_after, clock_after, played}
+use Rattle.command_semantics.proofs.Serving.{node_step, on_both}
 use Rattle.grant_laws.specs.Granted.{line_of}
 use Rattle.grant_laws.proofs.LongerRuns.{Longer, Leads, run_at}
 use Rattle.grant_laws.proofs.Spots.{Spot, IsAt, Makes, leads_there, serves_on}

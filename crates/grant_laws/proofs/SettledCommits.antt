@@ -3,18 +3,18 @@ use Rattle.std.proofs.Common.{◌≡◌, ℕ, ◌+◌, Bool, true, false, List, 
 use Rattle.std.specs.Prelude.{fold, slice_set}
 use Rattle.std.proofs.lemmas.Option.{same_Some, none-some}
 use Rattle.stamp_base.specs.SetupNumbers.{AreInRange, SetupNumbers}
-use Rattle.oracle_parts.specs.declared.instance.Held.{Held}
-use Rattle.oracle_parts.specs.declared.instance.Progress.{Progress}
-use Rattle.oracle_parts.specs.declared.instance.Progress.TheVariants as progress
-use Rattle.oracle_parts.specs.declared.instance.Request.{Request}
-use Rattle.oracle_parts.specs.declared.instance.Request.TheVariants.{Begin, Commit}
-use Rattle.oracle_parts.specs.Instance.{InstanceEntry, held_of, with_request}
-use Rattle.oracle_parts.specs.InstanceSteps.{drawn_as, just_asked}
-use Rattle.oracle_parts.proofs.InstanceRequests.{held_of-instance_new}
+use Rattle.system_parts.specs.declared.instance.Held.{Held}
+use Rattle.system_parts.specs.declared.instance.Progress.{Progress}
+use Rattle.system_parts.specs.declared.instance.Progress.TheVariants as progress
+use Rattle.system_parts.specs.declared.instance.Request.{Request}
+use Rattle.system_parts.specs.declared.instance.Request.TheVariants.{Begin, Commit}
+use Rattle.system_parts.specs.Instance.{InstanceEntry, held_of, with_request}
+use Rattle.system_parts.specs.InstanceSteps.{drawn_as, just_asked}
+use Rattle.system_parts.proofs.InstanceRequests.{held_of-instance_new}
 use Rattle.machine.specs.State.{State}
 use Rattle.machine.specs.declared.event.Event.{Event}
 use Rattle.machine.specs.Machine.{reading_of, IsSteadyAt}
-use Rattle.store_parts.specs.Record.{granted}
+use Rattle.system_parts.specs.Record.{granted}
 use Rattle.machine.specs.Events.Take.{rules_of, instance_of}
 use Rattle.script_data.specs.Data.{ScriptData}
 use Rattle.isolation_laws.specs.Words.{InstanceAt}
@@ -24,9 +24,9 @@ use Rattle.machine.specs.Outcome.OutcomesOfRecord.{AlikeNodes, Granted, granted_
 use Rattle.machine.specs.Outcome.OutcomesOfStamps.{AtDrawn, settled_nodes}
 use Rattle.machine.specs.Outcome.Outcomes.{Outcome, OfStill, OfGranted, OfRenewed, OfExtended, OfCrashed, OfAskedBegin, OfAskedCommit, OfAccepted, OfEnded, OfDrew, OfPlaced, OfNotPlaced, OfAnsweredBegin, OfAnsweredCommit, OfHanded, left_by}
 use Rattle.isolation_laws.proofs.AlwaysHolds.{each_outcome}
-use Rattle.line_steps.specs.Laws.{IsPlayable}
-use Rattle.line_steps.specs.Runs.{fate_of, clocks_of}
-use Rattle.line_steps.proofs.Timing.{tick_ahead, Timed, in_time}
+use Rattle.command_semantics.specs.Laws.{IsPlayable}
+use Rattle.command_semantics.specs.Runs.{fate_of, clocks_of}
+use Rattle.command_semantics.proofs.Timing.{tick_ahead, Timed, in_time}
 use Rattle.history_book.specs.declared.item.Actor.{Actor}
 use Rattle.turn_rules.specs.declared.turn.Turn.{Turn}
 use Rattle.turn_rules.specs.declared.turn.Turn.TheVariants as turn
@@ -105,7 +105,7 @@ by_alike old new alike all n s j held at has =
     let before = was.2.requests s held has in
     subst (λ (request : Request). MaySettle request held.progress) (sym before.2) (subst (λ (p : Progress). MaySettle before.0.request p) (sym before.3) (all n s was.0 before.0 was.1 before.1))
 
-settled_fits : (w : State) (it : AtDrawn w) (by : Rattle.oracle_parts.specs.declared.instance.Settled.Settled) → AllFit w.nodes → AllFit (settled_nodes w it by)
+settled_fits : (w : State) (it : AtDrawn w) (by : Rattle.system_parts.specs.declared.instance.Settled.Settled) → AllFit w.nodes → AllFit (settled_nodes w it by)
 settled_fits w it by all = by_request w.nodes it.node it.session it.i _ (Some (record it.held { progress = progress.Settled it.commit by })) all it.at refl (λ held is. new_fits (record it.held { progress = progress.Settled it.commit by }) held (commit_fits it.held.request (progress.Settled it.commit by) it.asker it.start it.keys it.request_is) is)
 
 over_fits : (w : State) (node session : ℕ) (i : InstanceEntry) → InstanceAt w.nodes node i → AllFit w.nodes → AllFit (slice_set w.nodes node (Some (with_request i session None)))

@@ -9,18 +9,18 @@ use Rattle.stamp_base.specs.declared.stores.Store.TheVariants.{Cells, Table, Mas
 use Rattle.port_io.specs.Planned.{PlannedFault, same_store}
 use Rattle.history_book.specs.declared.item.Item.{Item}
 use Rattle.history_book.specs.declared.item.Item.TheVariants as item
-use Rattle.store_parts.specs.declared.rows.Cell.{Cell}
-use Rattle.store_parts.specs.Rows.{fetched, is_below, front_of}
+use Rattle.system_parts.specs.declared.rows.Cell.{Cell}
+use Rattle.system_parts.specs.Rows.{fetched, is_below, front_of}
 use Rattle.script_data.specs.declared.limits.TheConstants.{FAULT_LIMIT}
 use Rattle.script_data.specs.Data.{ScriptData}
 use Rattle.machine.specs.Faults.{is_fault, faults_in}
 use Rattle.isolation_laws.specs.Bare.{is_bare}
 use Rattle.isolation_laws.proofs.Bare.FewBare.{few_bare}
-use Rattle.line_steps.specs.Planned.{is_fault_of, plans, FaultsArePlanned}
-use Rattle.line_steps.specs.Laws.{EventsLowerWhatIsLeft}
-use Rattle.line_steps.specs.Runs.{Played, calls_on, script_played}
-use Rattle.planned_laws.specs.Laws.{ScriptsArePlanned}
-use Rattle.planned_laws.proofs.FaultCounts.{faults_append, due_planned}
+use Rattle.command_semantics.specs.Planned.{is_fault_of, plans, FaultsArePlanned}
+use Rattle.command_semantics.specs.Laws.{EventsLowerWhatIsLeft}
+use Rattle.command_semantics.specs.Runs.{Played, calls_on, script_played}
+use Rattle.command_semantics.specs.PlannedLaws.{ScriptsArePlanned}
+use Rattle.command_semantics.proofs.FaultCounts.{faults_append, due_planned}
 use Rattle.turn_rules.specs.Carried.{Carried, carried}
 use Rattle.turn_rules.specs.Laws.{TurnsArePlannedSoFar}
 use Rattle.grant_laws.specs.Laws.{ReadsAreShort, ReadsOnThreadsAreShort}

@@ -4,15 +4,15 @@ use Rattle.std.specs.Prelude.{slice_get}
 use Rattle.std.proofs.lemmas.Option.{none-some}
 use Rattle.stamp_base.specs.declared.stage.Stage.TheVariants as stage
 use Rattle.history_book.specs.declared.item.Item.{Item}
-use Rattle.oracle_parts.specs.declared.instance.Held.{Held}
-use Rattle.oracle_parts.specs.declared.instance.Place.{Place}
-use Rattle.oracle_parts.specs.declared.instance.Place.TheVariants as place
-use Rattle.oracle_parts.specs.declared.instance.Progress.{Progress}
-use Rattle.oracle_parts.specs.declared.instance.Progress.TheVariants as progress
-use Rattle.oracle_parts.specs.declared.instance.Request.{Request}
-use Rattle.oracle_parts.specs.declared.instance.Request.TheVariants.{Begin, Commit}
-use Rattle.oracle_parts.specs.Instance.{InstanceEntry, held_of, place_of_progress, stamps_by, unsettled_by, least_unsettled}
-use Rattle.oracle_parts.specs.InstanceSteps.{answer_if_ready}
+use Rattle.system_parts.specs.declared.instance.Held.{Held}
+use Rattle.system_parts.specs.declared.instance.Place.{Place}
+use Rattle.system_parts.specs.declared.instance.Place.TheVariants as place
+use Rattle.system_parts.specs.declared.instance.Progress.{Progress}
+use Rattle.system_parts.specs.declared.instance.Progress.TheVariants as progress
+use Rattle.system_parts.specs.declared.instance.Request.{Request}
+use Rattle.system_parts.specs.declared.instance.Request.TheVariants.{Begin, Commit}
+use Rattle.system_parts.specs.Instance.{InstanceEntry, held_of, place_of_progress, stamps_by, unsettled_by, least_unsettled}
+use Rattle.system_parts.specs.InstanceSteps.{answer_if_ready}
 use Rattle.machine.specs.State.{Client, State}
 use Rattle.machine.specs.Readers.{holder_of, place_held, place_of, commit_held, asks_commit, is_commit}
 use Rattle.machine.specs.declared.event.Event.{Event}
@@ -24,10 +24,10 @@ use Rattle.script_data.specs.Data.{ScriptData}
 use Rattle.isolation_laws.specs.Sound.{Stands}
 use Rattle.isolation_laws.specs.Words.{InstanceAt, ClientAt}
 use Rattle.machine.proofs.Lookups.{held_by}
-use Rattle.line_steps.specs.Next.{reading_at}
-use Rattle.line_steps.specs.Runs.{step_of, clocks_of}
-use Rattle.line_steps.proofs.Holders.{Served, is_served_at}
-use Rattle.line_steps.proofs.Serving.{on_both}
+use Rattle.command_semantics.specs.Next.{reading_at}
+use Rattle.command_semantics.specs.Runs.{step_of, clocks_of}
+use Rattle.command_semantics.proofs.Holders.{Served, is_served_at}
+use Rattle.command_semantics.proofs.Serving.{on_both}
 use Rattle.turn_rules.specs.declared.turn.Turn.{Turn}
 use Rattle.turn_rules.specs.declared.turn.Turn.TheVariants as turn
 use Rattle.turn_rules.specs.Carried.{Carried}

@@ -6,18 +6,18 @@ use Rattle.std.proofs.lemmas.Bool.{eqb-true}
 use Rattle.std.proofs.lemmas.Option.{none-some}
 use Rattle.stamp_base.specs.declared.stage.Stage.{Stage}
 use Rattle.history_book.specs.declared.item.Item.{Item}
-use Rattle.oracle_parts.specs.declared.buckets.Verdict.{Verdict}
-use Rattle.oracle_parts.specs.declared.buckets.Verdict.TheVariants.{Free, Conflict, Hidden}
-use Rattle.oracle_parts.specs.declared.instance.Held.{Held}
-use Rattle.oracle_parts.specs.declared.instance.Place.{Place}
-use Rattle.oracle_parts.specs.declared.instance.Progress.{Progress}
-use Rattle.oracle_parts.specs.declared.instance.Progress.TheVariants as progress
-use Rattle.oracle_parts.specs.declared.instance.Request.{Request}
-use Rattle.oracle_parts.specs.declared.instance.Request.TheVariants.{Begin, Commit}
-use Rattle.oracle_parts.specs.declared.instance.Settled.{Settled}
-use Rattle.oracle_parts.specs.declared.instance.Settled.TheVariants as how
-use Rattle.oracle_parts.specs.Instance.{InstanceEntry, held_of, stamps_by, stamps_of_held, unsettled_by, unsettled_commit, only_below, lesser, least_unsettled}
-use Rattle.oracle_parts.specs.InstanceSteps.{out_of_stamps, decide_drawn, decide_by, answer_begin, answer_if_ready, answer_held}
+use Rattle.system_parts.specs.declared.buckets.Verdict.{Verdict}
+use Rattle.system_parts.specs.declared.buckets.Verdict.TheVariants.{Free, Conflict, Hidden}
+use Rattle.system_parts.specs.declared.instance.Held.{Held}
+use Rattle.system_parts.specs.declared.instance.Place.{Place}
+use Rattle.system_parts.specs.declared.instance.Progress.{Progress}
+use Rattle.system_parts.specs.declared.instance.Progress.TheVariants as progress
+use Rattle.system_parts.specs.declared.instance.Request.{Request}
+use Rattle.system_parts.specs.declared.instance.Request.TheVariants.{Begin, Commit}
+use Rattle.system_parts.specs.declared.instance.Settled.{Settled}
+use Rattle.system_parts.specs.declared.instance.Settled.TheVariants as how
+use Rattle.system_parts.specs.Instance.{InstanceEntry, held_of, stamps_by, stamps_of_held, unsettled_by, unsettled_commit, only_below, lesser, least_unsettled}
+use Rattle.system_parts.specs.InstanceSteps.{out_of_stamps, decide_drawn, decide_by, answer_begin, answer_if_ready, answer_held}
 use Rattle.machine.specs.State.{Client, State}
 use Rattle.machine.specs.declared.event.Event.{Event}
 use Rattle.machine.specs.Events.Answer.{answer_by, answer_request, answer_on}
@@ -27,7 +27,7 @@ use Rattle.isolation_laws.specs.Sound.{Stands}
 use Rattle.isolation_laws.specs.Words.{ClientAt}
 use Rattle.isolation_laws.specs.Requests.{WaitsFor}
 use Rattle.machine.proofs.Lookups.{held_by}
-use Rattle.line_steps.proofs.Holders.{Served}
+use Rattle.command_semantics.proofs.Holders.{Served}
 use Rattle.turn_rules.specs.declared.turn.Turn.{Turn}
 use Rattle.turn_rules.specs.Carried.{Carried, is_held, holds_at, event_of}
 use Rattle.turn_rules.specs.Lawful.{stage_of, IsFree, is_accepted, is_accepted_by, IsInPlace, IsTold, IsLawful}

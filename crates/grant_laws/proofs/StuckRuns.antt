@@ -9,12 +9,12 @@ use Rattle.script_data.specs.declared.line.Line.{Line}
 use Rattle.script_data.specs.declared.line.Verb.{Verb}
 use Rattle.script_data.specs.declared.line.Verb.TheVariants as verb
 use Rattle.script_data.specs.Data.{ScriptData}
-use Rattle.line_steps.specs.declared.point.View.{View}
-use Rattle.line_steps.specs.Laws.{IsPlayable, AreLinesOf}
-use Rattle.line_steps.specs.Answers.{same_actor}
-use Rattle.line_steps.specs.Runs.{clocks_of}
-use Rattle.line_steps.specs.Views.{view_of}
-use Rattle.line_steps.proofs.ScriptWalks.{actor_same}
+use Rattle.command_semantics.specs.declared.point.View.{View}
+use Rattle.command_semantics.specs.Laws.{IsPlayable, AreLinesOf}
+use Rattle.command_semantics.specs.Answers.{same_actor}
+use Rattle.command_semantics.specs.Runs.{clocks_of}
+use Rattle.command_semantics.specs.Views.{view_of}
+use Rattle.command_semantics.proofs.ScriptWalks.{actor_same}
 use Rattle.turn_rules.specs.declared.ahead.Ahead.{Ahead}
 use Rattle.turn_rules.specs.declared.ahead.Ahead.TheVariants.{Makes, Waits, Passes}
 use Rattle.turn_rules.specs.declared.ahead.Why.TheVariants.{Reply, Name}
@@ -22,7 +22,8 @@ use Rattle.turn_rules.specs.declared.seat.Seat.{Seat}
 use Rattle.turn_rules.specs.declared.turn.Turn.{Turn}
 use Rattle.turn_rules.specs.declared.turn.Turn.TheVariants as turn
 use Rattle.turn_rules.specs.Seats.{lines_of, lines_left, present_line, ahead_of, is_passed}
-use Rattle.turn_rules.specs.Carried.{Carried, aimed_clocks, is_posted, name_posted, ahead_at, seat_ahead, ahead_in, own_ahead, made_by, event_of, carried}
+use Rattle.session_script.specs.PostedNames.{is_posted}
+use Rattle.turn_rules.specs.Carried.{Carried, aimed_clocks, name_posted, ahead_at, seat_ahead, ahead_in, own_ahead, made_by, event_of, carried}
 use Rattle.turn_rules.specs.Lawful.{IsTold}
 use Rattle.turn_rules.specs.Told.{AreForThreads, OwnTurnsAreTold, StageTurnsAreTold}
 use Rattle.turn_rules.specs.Laws.{TurnsKeepFacts}

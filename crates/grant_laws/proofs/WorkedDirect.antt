@@ -9,18 +9,18 @@ use Rattle.history_book.specs.Members.{◌∈◌}
 use Rattle.history_book.specs.declared.item.Actor.TheVariants.{Session}
 use Rattle.history_book.specs.declared.item.Item.{Item}
 use Rattle.history_book.specs.declared.item.Item.TheVariants as item
-use Rattle.store_parts.specs.Rows.{put_row, fetched, front_of, without_bare}
-use Rattle.store_parts.proofs.PairLaws.{mark_of-empty}
-use Rattle.client_parts.specs.Recalled.{recalled_over}
-use Rattle.oracle_parts.specs.Buckets.{record_pairs, kept_commit, verdict}
-use Rattle.oracle_parts.specs.Instance.{InstanceEntry, in_flight, least_unsettled}
+use Rattle.system_parts.specs.Rows.{put_row, fetched, front_of, without_bare}
+use Rattle.system_parts.proofs.PairLaws.{mark_of-empty}
+use Rattle.system_parts.specs.Recalled.{recalled_over}
+use Rattle.system_parts.specs.Buckets.{record_pairs, kept_commit, verdict}
+use Rattle.system_parts.specs.Instance.{InstanceEntry, in_flight, least_unsettled}
 use Rattle.machine.specs.State.{Client}
 use Rattle.machine.specs.Readers.{holder_from}
 use Rattle.script_data.specs.declared.line.Target.TheVariants as target
 use Rattle.script_data.specs.Data.{ScriptData}
 use Rattle.script_data.specs.Ticks.{ticks_of}
-use Rattle.line_steps.specs.Laws.{IsPlayable}
-use Rattle.line_steps.specs.Runs.{Played, lines_played, replayed, run_for}
+use Rattle.command_semantics.specs.Laws.{IsPlayable}
+use Rattle.command_semantics.specs.Runs.{Played, lines_played, replayed, run_for}
 use Rattle.turn_rules.specs.declared.turn.Turn.TheVariants as turn
 use Rattle.turn_rules.specs.Carried.{Carried, carried_items}
 use Rattle.turn_rules.specs.Seats.{seats_of, passed}

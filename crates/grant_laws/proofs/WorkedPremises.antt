@@ -4,16 +4,16 @@ use Rattle.std.specs.Prelude.{slice_index_or}
 use Rattle.std.proofs.lemmas.Option.{none-some}
 use Rattle.stamp_base.specs.declared.stores.Mark.TheVariants.{Invalid as InvalidMark}
 use Rattle.port_io.specs.Planned.{planned_fate}
-use Rattle.store_parts.specs.Rows.{put_row, fetched, front_of, without_bare}
-use Rattle.store_parts.proofs.PairLaws.{mark_of-empty}
+use Rattle.system_parts.specs.Rows.{put_row, fetched, front_of, without_bare}
+use Rattle.system_parts.proofs.PairLaws.{mark_of-empty}
 use Rattle.history_book.specs.declared.item.Item.TheVariants as item
-use Rattle.client_parts.specs.Recalled.{recalled_over}
-use Rattle.oracle_parts.specs.Buckets.{record_pairs, kept_commit, verdict}
-use Rattle.oracle_parts.specs.Instance.{InstanceEntry, in_flight, least_unsettled}
+use Rattle.system_parts.specs.Recalled.{recalled_over}
+use Rattle.system_parts.specs.Buckets.{record_pairs, kept_commit, verdict}
+use Rattle.system_parts.specs.Instance.{InstanceEntry, in_flight, least_unsettled}
 use Rattle.machine.specs.State.{Client, client_new}
 use Rattle.isolation_laws.specs.Words.{InstanceAt}
 use Rattle.machine.specs.Readers.{holder_from}
-use Rattle.line_steps.specs.Runs.{Played}
+use Rattle.command_semantics.specs.Runs.{Played}
 use Rattle.turn_rules.specs.declared.turn.Turn.TheVariants as turn
 use Rattle.turn_rules.specs.Seats.{seats_of, passed}
 use Rattle.turn_rules.specs.Carried.{Carried, turned, carried}

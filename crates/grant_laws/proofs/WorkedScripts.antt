@@ -3,18 +3,18 @@ use Rattle.std.proofs.Common.{◌≡◌, ℕ, zero, suc, ◌+◌, ◌≤◌, fal
 use Rattle.std.specs.Prelude.{slice_index_or}
 use Rattle.stamp_base.specs.declared.stores.Store.TheVariants.{Cells, Table}
 use Rattle.port_io.specs.Planned.{planned_fate}
-use Rattle.store_parts.specs.Rows.{put_row, fetched, front_of, without_bare}
-use Rattle.client_parts.specs.Recalled.{recalled_over}
-use Rattle.oracle_parts.specs.Buckets.{record_pairs, kept_commit, verdict}
-use Rattle.oracle_parts.specs.Instance.{InstanceEntry, instance_new, in_flight, least_unsettled}
+use Rattle.system_parts.specs.Rows.{put_row, fetched, front_of, without_bare}
+use Rattle.system_parts.specs.Recalled.{recalled_over}
+use Rattle.system_parts.specs.Buckets.{record_pairs, kept_commit, verdict}
+use Rattle.system_parts.specs.Instance.{InstanceEntry, instance_new, in_flight, least_unsettled}
 use Rattle.machine.specs.State.{Client, client_new}
 use Rattle.machine.specs.Readers.{holder_from}
-use Rattle.line_steps.specs.Runs.{Calls, Played, calls_on, run_for, lines_played, replayed}
+use Rattle.command_semantics.specs.Runs.{Calls, Played, calls_on, run_for, lines_played, replayed}
 use Rattle.std.proofs.lemmas.Option.{none-some}
 use Rattle.stamp_base.specs.declared.stores.Store.{Store}
 use Rattle.stamp_base.specs.declared.stores.Mark.TheVariants.{Invalid as InvalidMark}
 use Rattle.port_io.specs.declared.weather.Fate.TheVariants.{Works}
-use Rattle.store_parts.proofs.PairLaws.{mark_of-empty}
+use Rattle.system_parts.proofs.PairLaws.{mark_of-empty}
 use Rattle.stamp_base.specs.SetupNumbers.{AreInRange, default_numbers}
 use Rattle.history_book.specs.declared.item.Item.{Item}
 use Rattle.history_book.specs.declared.item.Item.TheVariants as item

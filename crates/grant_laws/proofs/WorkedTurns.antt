@@ -2,17 +2,17 @@
 use Rattle.std.proofs.Common.{◌≡◌, [], ◌∷◌, refl, subst, arith}
 use Rattle.stamp_base.specs.declared.stores.Store.TheVariants.{Cells, Table}
 use Rattle.port_io.specs.Planned.{planned_fate}
-use Rattle.store_parts.specs.Rows.{put_row, fetched, front_of, without_bare}
+use Rattle.system_parts.specs.Rows.{put_row, fetched, front_of, without_bare}
 use Rattle.history_book.specs.Members.{◌∈◌}
 use Rattle.history_book.specs.declared.item.Actor.TheVariants.{Session}
 use Rattle.history_book.specs.declared.item.Item.{Item}
 use Rattle.history_book.specs.declared.item.Item.TheVariants as item
-use Rattle.client_parts.specs.Recalled.{recalled_over}
-use Rattle.oracle_parts.specs.Buckets.{record_pairs, kept_commit, verdict}
-use Rattle.oracle_parts.specs.Instance.{least_unsettled}
+use Rattle.system_parts.specs.Recalled.{recalled_over}
+use Rattle.system_parts.specs.Buckets.{record_pairs, kept_commit, verdict}
+use Rattle.system_parts.specs.Instance.{least_unsettled}
 use Rattle.machine.specs.Readers.{holder_from}
 use Rattle.script_data.specs.Ticks.{ticks_of}
-use Rattle.line_steps.specs.Laws.{IsPlayable}
+use Rattle.command_semantics.specs.Laws.{IsPlayable}
 use Rattle.turn_rules.specs.declared.turn.Turn.TheVariants as turn
 use Rattle.turn_rules.specs.Seats.{seats_of, passed}
 use Rattle.turn_rules.specs.Carried.{carried_items}

@@ -5,12 +5,12 @@ use Rattle.std.proofs.lemmas.Option.{none-some}
 use Rattle.history_book.specs.declared.item.Actor.{Actor}
 use Rattle.history_book.specs.declared.item.Actor.TheVariants.{Session}
 use Rattle.history_book.specs.declared.item.Item.{Item}
-use Rattle.oracle_parts.specs.declared.instance.Place.{Place}
-use Rattle.oracle_parts.specs.declared.instance.Place.TheVariants as place
+use Rattle.system_parts.specs.declared.instance.Place.{Place}
+use Rattle.system_parts.specs.declared.instance.Place.TheVariants as place
 use Rattle.machine.specs.Readers.{holder_from}
 use Rattle.machine.specs.declared.event.Event.{Event}
 use Rattle.script_data.specs.Data.{ScriptData}
-use Rattle.line_steps.specs.Answers.{same_actor}
+use Rattle.command_semantics.specs.Answers.{same_actor}
 use Rattle.turn_rules.specs.declared.seat.Seat.{Seat}
 use Rattle.turn_rules.specs.declared.turn.Turn.TheVariants as turn
 use Rattle.turn_rules.specs.Seats.{seats_of, passed}

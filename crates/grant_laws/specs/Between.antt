@@ -5,16 +5,16 @@ use Rattle.stamp_base.specs.SetupNumbers.{AreInRange}
 use Rattle.history_book.specs.declared.cause.Cause.TheVariants as cause
 use Rattle.history_book.specs.declared.item.Actor.TheVariants.{Session}
 use Rattle.history_book.specs.declared.item.Item.TheVariants as item
-use Rattle.client_parts.specs.declared.session.State.TheVariants as phase
-use Rattle.client_parts.specs.KeyRead.{Reading}
-use Rattle.oracle_parts.specs.declared.instance.Progress.TheVariants as progress
-use Rattle.oracle_parts.specs.declared.instance.Request.TheVariants.{Begin, Commit}
-use Rattle.oracle_parts.specs.Instance.{in_flight, was_told_not_yet, least_unsettled}
+use Rattle.system_parts.specs.declared.session.State.TheVariants as phase
+use Rattle.system_parts.specs.KeyRead.{Reading}
+use Rattle.system_parts.specs.declared.instance.Progress.TheVariants as progress
+use Rattle.system_parts.specs.declared.instance.Request.TheVariants.{Begin, Commit}
+use Rattle.system_parts.specs.Instance.{in_flight, was_told_not_yet, least_unsettled}
 use Rattle.machine.specs.State.{Client}
 use Rattle.machine.specs.declared.event.Event.TheVariants as event
 use Rattle.script_data.specs.Data.{ScriptData}
 use Rattle.isolation_laws.specs.Words.{ClientAt}
-use Rattle.line_steps.specs.Laws.{IsPlayable}
+use Rattle.command_semantics.specs.Laws.{IsPlayable}
 use Rattle.turn_rules.specs.declared.ahead.Ahead.TheVariants.{Makes}
 use Rattle.turn_rules.specs.declared.turn.Turn.{Turn}
 use Rattle.turn_rules.specs.declared.turn.Turn.TheVariants as turn

@@ -8,14 +8,14 @@ use Rattle.port_io.specs.declared.weather.Fate.TheVariants.{Works}
 use Rattle.history_book.specs.Members.{◌∈◌}
 use Rattle.history_book.specs.declared.item.Actor.{Actor}
 use Rattle.history_book.specs.declared.item.Item.{Item}
-use Rattle.oracle_parts.specs.Instance.{InstanceEntry}
+use Rattle.system_parts.specs.Instance.{InstanceEntry}
 use Rattle.script_data.specs.declared.line.Line.{Line}
 use Rattle.script_data.specs.declared.line.Target.{Target}
 use Rattle.script_data.specs.declared.line.Verb.{Verb}
 use Rattle.script_data.specs.Data.{ScriptData}
-use Rattle.line_steps.specs.Next.{reading_at, target_node}
-use Rattle.line_steps.specs.Runs.{Played, fate_by, clocks_of, run_for, opened, line_run, lines_played, opening_played, replayed}
-use Rattle.line_steps.specs.Laws.{IsPlayable}
+use Rattle.command_semantics.specs.Next.{reading_at, target_node}
+use Rattle.command_semantics.specs.Runs.{Played, fate_by, clocks_of, run_for, opened, line_run, lines_played, opening_played, replayed}
+use Rattle.command_semantics.specs.Laws.{IsPlayable}
 
 -- ---- before a line
 abbrev pub line_of : ℕ → Actor → Verb → Line

@@ -5,15 +5,15 @@ use Rattle.history_book.specs.declared.cause.Cause.TheVariants as cause
 use Rattle.history_book.specs.declared.item.Actor.TheVariants.{Node, Session}
 use Rattle.history_book.specs.declared.item.Found.{Found}
 use Rattle.history_book.specs.declared.item.Item.TheVariants as item
-use Rattle.oracle_parts.specs.Instance.{InstanceEntry, least_unsettled}
+use Rattle.system_parts.specs.Instance.{InstanceEntry, least_unsettled}
 use Rattle.script_data.specs.declared.limits.TheConstants.{FAULT_LIMIT}
 use Rattle.script_data.specs.declared.line.Line.{Line}
 use Rattle.script_data.specs.declared.line.Target.{Target}
 use Rattle.script_data.specs.declared.line.Verb.TheVariants as verb
 use Rattle.script_data.specs.Data.{ScriptData}
 use Rattle.isolation_laws.specs.Words.{InstanceAt}
-use Rattle.line_steps.specs.Laws.{IsPlayable}
-use Rattle.line_steps.specs.Runs.{Played}
+use Rattle.command_semantics.specs.Laws.{IsPlayable}
+use Rattle.command_semantics.specs.Runs.{Played}
 use Rattle.turn_rules.specs.declared.turn.Turn.{Turn}
 use Rattle.turn_rules.specs.Carried.{carried}
 use Rattle.grant_laws.specs.Granted.{line_of, IsBefore, reading_of, node_asked, AppendsWithin, Grants}

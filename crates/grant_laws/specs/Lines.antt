@@ -9,11 +9,11 @@ use Rattle.history_book.specs.declared.item.Actor.{Actor}
 use Rattle.history_book.specs.declared.item.Actor.TheVariants.{Node, Session}
 use Rattle.history_book.specs.declared.item.Found.{Found}
 use Rattle.history_book.specs.declared.item.Item.TheVariants as item
-use Rattle.client_parts.specs.declared.session.State.TheVariants as phase
-use Rattle.client_parts.specs.KeyRead.{Reading, read_ask}
-use Rattle.oracle_parts.specs.declared.buckets.Verdict.TheVariants.{Free}
-use Rattle.oracle_parts.specs.Buckets.{verdict_both}
-use Rattle.oracle_parts.specs.Instance.{InstanceEntry, in_flight, least_unsettled}
+use Rattle.system_parts.specs.declared.session.State.TheVariants as phase
+use Rattle.system_parts.specs.KeyRead.{Reading, read_ask}
+use Rattle.system_parts.specs.declared.buckets.Verdict.TheVariants.{Free}
+use Rattle.system_parts.specs.Buckets.{verdict_both}
+use Rattle.system_parts.specs.Instance.{InstanceEntry, in_flight, least_unsettled}
 use Rattle.machine.specs.State.{Client}
 use Rattle.machine.specs.StoreSteps.{store_of}
 use Rattle.machine.specs.declared.event.Event.TheVariants as event
@@ -23,11 +23,11 @@ use Rattle.script_data.specs.declared.line.Verb.{Verb}
 use Rattle.script_data.specs.declared.line.Verb.TheVariants as verb
 use Rattle.script_data.specs.Data.{ScriptData}
 use Rattle.isolation_laws.specs.Words.{InstanceAt, ClientAt, Marked}
-use Rattle.line_steps.specs.declared.point.Point.TheVariants.{Opens, Drives}
-use Rattle.line_steps.specs.Answers.{same_actor}
-use Rattle.line_steps.specs.Laws.{IsPlayable}
-use Rattle.line_steps.specs.Next.{target_node}
-use Rattle.line_steps.specs.Runs.{Played}
+use Rattle.command_semantics.specs.declared.point.Point.TheVariants.{Opens, Drives}
+use Rattle.command_semantics.specs.Answers.{same_actor}
+use Rattle.command_semantics.specs.Laws.{IsPlayable}
+use Rattle.command_semantics.specs.Next.{target_node}
+use Rattle.command_semantics.specs.Runs.{Played}
 use Rattle.turn_rules.specs.declared.seat.Seat.{Seat}
 use Rattle.turn_rules.specs.declared.turn.Turn.{Turn}
 use Rattle.turn_rules.specs.declared.turn.Turn.TheVariants as turn

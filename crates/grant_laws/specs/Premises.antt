@@ -6,17 +6,17 @@ use Rattle.stamp_base.specs.declared.stores.Store.{Store}
 use Rattle.stamp_base.specs.declared.stores.Store.TheVariants.{Cells, Table, Master}
 use Rattle.port_io.specs.declared.weather.Fate.TheVariants.{Works}
 use Rattle.port_io.specs.Planned.{planned_fate}
-use Rattle.store_parts.specs.Rows.{fetched, front_of}
-use Rattle.client_parts.specs.declared.session.State.TheVariants as phase
-use Rattle.client_parts.specs.SessionSteps.{key_refusal}
-use Rattle.oracle_parts.specs.declared.buckets.Verdict.TheVariants.{Free}
-use Rattle.oracle_parts.specs.Buckets.{verdict_both}
-use Rattle.oracle_parts.specs.Instance.{InstanceEntry, in_flight}
+use Rattle.system_parts.specs.Rows.{fetched, front_of}
+use Rattle.system_parts.specs.declared.session.State.TheVariants as phase
+use Rattle.system_parts.specs.SessionSteps.{key_refusal}
+use Rattle.system_parts.specs.declared.buckets.Verdict.TheVariants.{Free}
+use Rattle.system_parts.specs.Buckets.{verdict_both}
+use Rattle.system_parts.specs.Instance.{InstanceEntry, in_flight}
 use Rattle.machine.specs.State.{Client}
 use Rattle.machine.specs.Clients.{is_reading}
 use Rattle.machine.specs.Events.Fetch.{reads_refusal}
 use Rattle.script_data.specs.Data.{ScriptData}
-use Rattle.line_steps.specs.Runs.{Played, calls_on}
+use Rattle.command_semantics.specs.Runs.{Played, calls_on}
 use Rattle.isolation_laws.specs.Bare.{is_bare}
 use Rattle.isolation_laws.specs.Words.{InstanceAt, ClientAt, Marked}
 use Rattle.grant_laws.specs.Granted.{reading_of, next_fate, HasStamp}

@@ -5,18 +5,19 @@ use Rattle.stamp_base.specs.declared.stage.Stage.TheVariants.{Request, Persist, 
 use Rattle.stamp_base.specs.SetupNumbers.{AreInRange}
 use Rattle.history_book.specs.declared.item.Actor.{Actor}
 use Rattle.history_book.specs.declared.item.Actor.TheVariants.{Session}
-use Rattle.oracle_parts.specs.declared.instance.Place.{Place}
-use Rattle.oracle_parts.specs.declared.instance.Place.TheVariants as place
+use Rattle.system_parts.specs.declared.instance.Place.{Place}
+use Rattle.system_parts.specs.declared.instance.Place.TheVariants as place
 use Rattle.script_data.specs.declared.line.Line.{Line}
 use Rattle.script_data.specs.declared.line.Verb.TheVariants as verb
 use Rattle.script_data.specs.Data.{ScriptData}
-use Rattle.line_steps.specs.Laws.{IsPlayable, AreLinesOf}
+use Rattle.command_semantics.specs.Laws.{IsPlayable, AreLinesOf}
 use Rattle.turn_rules.specs.declared.ahead.Ahead.TheVariants.{Waits}
 use Rattle.turn_rules.specs.declared.ahead.Why.TheVariants as why
 use Rattle.turn_rules.specs.declared.seat.Seat.{Seat}
 use Rattle.turn_rules.specs.declared.turn.Turn.{Turn}
 use Rattle.turn_rules.specs.Seats.{lines_left, present_line}
-use Rattle.turn_rules.specs.Carried.{Carried, is_posted, is_held, holds_at, seat_ahead, seat_of, carried}
+use Rattle.session_script.specs.PostedNames.{is_posted}
+use Rattle.turn_rules.specs.Carried.{Carried, is_held, holds_at, seat_ahead, seat_of, carried}
 use Rattle.turn_rules.specs.Lawful.{session_view, IsLawful}
 use Rattle.turn_rules.specs.Told.{AreForThreads}
 

@@ -15,7 +15,7 @@ use Rattle.script_data.specs.declared.line.Target.TheVariants as target
 use Rattle.script_data.specs.declared.line.Verb.{Verb}
 use Rattle.script_data.specs.declared.line.Verb.TheVariants as verb
 use Rattle.script_data.specs.Data.{ScriptData}
-use Rattle.line_steps.specs.Runs.{Played, lines_played, opening_played}
+use Rattle.command_semantics.specs.Runs.{Played, lines_played, opening_played}
 use Rattle.grant_laws.specs.Granted.{line_of}
 
 abbrev v : List ℕ

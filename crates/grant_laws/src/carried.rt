@@ -1,7 +1,7 @@
 // What is asked for by the lines of a script that is carried out by turns is granted, whatever turns came before.
 ghost use Rattle.grant_laws.specs.Turns.{WritesAreCarried, TakesAreCarried, ServedTurnsAreGranted, PlacingsAreCarried, ExtensionsAreCarried, RequestsStay, ReadsAreCarried};
 
-use client_parts::recalled_reads_end;
+use system_parts::recalled_reads_end;
 use turn_rules::turns_keep_facts;
 
 /// An own turn that makes a write appends it, under the premises of a write line.

@@ -1,9 +1,8 @@
 // What is asked for by a line of a script that is carried out in file order is granted.
 ghost use Rattle.grant_laws.specs.Laws.{WritesAreGranted, TakesAreGranted, BeginsAreGranted, DirectBeginsNeverWait, CommitsAreGranted, ReadsAreGranted, ReadsAreShort};
 
-use client_parts::recalled_reads_end;
-use line_steps::events_lower_what_is_left;
-use planned_laws::scripts_are_planned;
+use command_semantics::{events_lower_what_is_left, scripts_are_planned};
+use system_parts::recalled_reads_end;
 
 /// A write line of an open transaction appends its write, in whatever state the lines before it have come to: all that is asked
 /// for is that no read is under way, that the key is written already or there is room for it, and that the cells' next call

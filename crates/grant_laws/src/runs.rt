@@ -3,7 +3,7 @@
 ghost use Rattle.grant_laws.specs.Lines.{RunsGrantWrites, RunsGrantTakes, RunsGrantBegins, RunsGrantCommits, CommitLinesPlace, RunsGrantReads};
 ghost use Rattle.grant_laws.specs.Laws.{ReadsOnThreadsAreShort};
 
-use client_parts::recalled_reads_end;
+use system_parts::recalled_reads_end;
 use turn_rules::turns_are_planned_so_far;
 
 /// A write line appends its write by its one turn, under the premises of a write line in file order.

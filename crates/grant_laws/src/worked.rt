@@ -4,7 +4,7 @@ ghost use Rattle.std.specs.Prelude.{◌≡◌, []};
 ghost use Rattle.stamp_base.specs.declared.stores.Store.TheVariants.{Cells, Table};
 ghost use Rattle.history_book.specs.declared.item.Item.TheVariants.{Begin, Committed};
 ghost use Rattle.script_data.specs.declared.line.Target.TheVariants.{Master};
-ghost use Rattle.line_steps.specs.Runs.{replayed};
+ghost use Rattle.command_semantics.specs.Runs.{replayed};
 ghost use Rattle.grant_laws.specs.Granted.{node_asked, Grants};
 ghost use Rattle.grant_laws.specs.Premises.{CanTake, CanBegin, CanWrite, CanRead, CanCommit, cells_to_read};
 ghost use Rattle.grant_laws.specs.Worked as worked;

@@ -1,4 +1,4 @@
--- For client_parts, cause_rules, isolation_rules and others above too.
+-- For system_parts, cause_rules, isolation_rules and others above too.
 -- What a list has after one more element.
 use Rattle.std.proofs.Common.{◌≡◌, ℕ, zero, suc, ◌≤◌, List, [], ◌∷◌, ◌++◌, Some, length, take, slice_get, ◌⊎◌, inl, inr, refl, sym, subst, ap, ◌∙◌, arith}
 use Rattle.std.proofs.lemmas.List.{take-append-le}

@@ -5,9 +5,9 @@ use Rattle.serde_json.specs.Read.{read}
 use Rattle.history_book.specs.declared.item.Item.{Item}
 use Rattle.history_book.specs.declared.item.Item.TheVariants as item
 use Rattle.history_book.specs.declared.item.Note.TheVariants.{Post, Await, Hold, Free}
-use Rattle.item_objects.specs.Expected.{are_leaves}
+use Rattle.history_json.specs.Expected.{are_leaves}
 use Rattle.history_json.specs.Json.{json_line, IsJsonLineOf}
-use Rattle.item_objects.specs.Members.{members_of}
+use Rattle.history_json.specs.Members.{members_of}
 use Rattle.history_json.proofs.PrintedLemmas.{put_all, printed_read}
 
 ordered : (item : Item) → put_all (members_of item) no_members ≡ members_of item

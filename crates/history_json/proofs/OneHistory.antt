@@ -10,7 +10,7 @@ use Rattle.stamp_base.specs.declared.limits.TheConstants.{BYTE_LIMIT}
 use Rattle.history_book.specs.declared.item.Item.{Item}
 use Rattle.history_text.specs.Fits.{FitsItem}
 use Rattle.history_reading.specs.History.{lines_of, says_something}
-use Rattle.item_objects.proofs.OneObject.{same_words, same_object}
+use Rattle.history_json.proofs.OneObject.{same_words, same_object}
 use Rattle.history_json.specs.declared.history.Format.{Format}
 use Rattle.history_json.specs.declared.history.Format.TheVariants.{Text, Json}
 use Rattle.history_json.specs.History.{IsLineOf, AreLinesOf, AreItems, IsNoItem, IsFirstBad, format_of}

@@ -12,7 +12,7 @@ use Rattle.serde_json.specs.Read.{of_json, of_members, max_depth, read}
 use Rattle.serde_json.specs.Written.{compact_text, outline, members_outline}
 use Rattle.serde_json.proofs.Numbers.{number_of-decimal}
 use Rattle.serde_json.proofs.Texts.{print-outline}
-use Rattle.item_objects.specs.Expected.{is_leaf, are_leaves}
+use Rattle.history_json.specs.Expected.{is_leaf, are_leaves}
 
 -- the members put in one after another
 abbrev pub put_all : Members → Members → Members

@@ -3,7 +3,7 @@ use Rattle.std.specs.Prelude.{◌≡◌, ℕ, List, [], ◌∷◌, ◌++◌, Som
 use Rattle.std.specs.List.{flat_map}
 use Rattle.serde_json.specs.Read.{read}
 use Rattle.history_book.specs.declared.item.Item.{Item}
-pub use Rattle.item_objects.specs.Object.{data_of, json_line}
+pub use Rattle.history_json.specs.Object.{data_of, json_line}
 
 -- The line is read as the item's object: its members are those of the item, each with its value.
 -- Blanks, escapes and the order of the members are free, and of a repeated member the last counts.

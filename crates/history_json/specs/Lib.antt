@@ -1,4 +1,7 @@
+pub mod Expected
+pub mod Members
+pub mod Object
+pub mod Words
 pub mod History
 pub mod Json
 pub mod Laws
-pub use Rattle.item_objects.specs.Members

@@ -2,10 +2,10 @@
 ghost use Rattle.std.specs.Prelude.{IfSome};
 ghost use Rattle.history_text.specs.Fits.{FitsItem};
 
+use crate::rows::row_of;
 use history_book::Item;
 use history_reading::read_item;
 use history_text::LineBuf;
-use item_objects::row_of;
 
 /// An item that the line may be: its own line decides. It takes no memory.
 pub fn glance(line: &[u8]) -> Option<Item>

@@ -5,8 +5,9 @@ ghost use Rattle.history_text.specs.Fits.{FitsItem};
 ghost use Rattle.history_json.specs.Json.{json_line, json_text, IsJsonLineOf};
 
 use crate::glance::glance;
+use crate::item::item_of;
+use crate::objects::line_of;
 use history_book::Item;
-use item_objects::{item_of, line_of};
 use serde_json::Value;
 use stamp_base::NoMemory;
 use std::alloc::{AllocError, Global};

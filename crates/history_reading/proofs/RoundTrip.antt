@@ -1,4 +1,4 @@
--- For item_objects too.
+-- For history_json too.
 -- Public laws, which the audit cites. What is written is read again, and no two items have one text.
 use Rattle.std.proofs.Common.{◌≡◌, [], ◌∷◌, Some, codes, decimal, refl, sym, ap, ◌∙◌, arith}
 use Rattle.std.proofs.lemmas.Option.{same_Some}

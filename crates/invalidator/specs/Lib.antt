@@ -1,5 +1,5 @@
 pub mod Stages
-pub use Rattle.client_parts.specs.Asks
-pub use Rattle.client_parts.specs.Completion
-pub use Rattle.client_parts.specs.Resolve
-pub use Rattle.client_parts.specs.Sweep
+pub use Rattle.system_parts.specs.Asks
+pub use Rattle.system_parts.specs.Completion
+pub use Rattle.system_parts.specs.Resolve
+pub use Rattle.system_parts.specs.Sweep

@@ -3,7 +3,7 @@ use Rattle.std.specs.Prelude.{ℕ, ◌+◌, ◌≤◌, drop}
 use Rattle.std.specs.Vec.{vec_len}
 use Rattle.invalidator.specs.declared.sweep.Stage.{Stage}
 use Rattle.invalidator.specs.declared.sweep.Stage.TheVariants.{Table as AtTable, Marking as AtMarking, Listing as AtListing, Listed as AtListed, Undecided as AtUndecided}
-use Rattle.client_parts.specs.Sweep.{SweepPoint, Table, Marking, Listing, Left, Undecided, sweep_asks}
+use Rattle.system_parts.specs.Sweep.{SweepPoint, Table, Marking, Listing, Left, Undecided, sweep_asks}
 
 abbrev pub point_of : ℕ → Stage → SweepPoint
 point_of txn AtTable = Table

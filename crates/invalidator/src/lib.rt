@@ -5,6 +5,6 @@
 mod settle;
 mod sweep;
 
-pub use client_parts::Outcome;
 pub use settle::Settle;
 pub use sweep::Sweep;
+pub use system_parts::Outcome;

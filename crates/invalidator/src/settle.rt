@@ -1,12 +1,12 @@
 ghost use Rattle.std.specs.Prelude.{◌≡◌, true, false};
-ghost use Rattle.client_parts.specs.Asks.{Fits};
-ghost use Rattle.client_parts.specs.Resolve.{Decides, settle_open, settle_ask, settle_turn, settle_by, outcome_of};
-ghost use Rattle.client_parts.specs.Cache.{learnt_of};
-ghost use Rattle.client_parts.specs.Sweep.{IsKeys};
+ghost use Rattle.system_parts.specs.Asks.{Fits};
+ghost use Rattle.system_parts.specs.Resolve.{Decides, settle_open, settle_ask, settle_turn, settle_by, outcome_of};
+ghost use Rattle.system_parts.specs.Cache.{learnt_of};
+ghost use Rattle.system_parts.specs.Sweep.{IsKeys};
 
-use client_parts::{Ask, Known, Outcome, SettlePoint, Told};
 use stamp_base::{KeyNo, Stamp, TxnId};
 use std::marker::Model;
+use system_parts::{Ask, Known, Outcome, SettlePoint, Told};
 
 /// The resolve of one cell: did its writer commit, and when?
 #[derive(Clone, Copy, Debug, PartialEq, Eq)]
@@ -18,7 +18,7 @@ pub struct Settle {
 }
 
 impl Model for Settle {
-    ghost use Rattle.client_parts.specs.Resolve.{Settling};
+    ghost use Rattle.system_parts.specs.Resolve.{Settling};
 
     ghost Value = { Settling };
 

@@ -1,12 +1,12 @@
 ghost use Rattle.std.specs.Prelude.{◌≡◌};
 ghost use Rattle.std.specs.List.Sorted.{IsStrictlyIncreasing};
-ghost use Rattle.client_parts.specs.Sweep.{sweep_open, sweep_ask, sweep_told, sweep_listed, IsListing, is_undecided};
-ghost use Rattle.client_parts.specs.Asks.{FitsNext};
+ghost use Rattle.system_parts.specs.Sweep.{sweep_open, sweep_ask, sweep_told, sweep_listed, IsListing, is_undecided};
+ghost use Rattle.system_parts.specs.Asks.{FitsNext};
 
-use client_parts::{Ask, Told};
 use shadow_cells::{finish_ask, undo_ask};
 use stamp_base::{KeyNo, Mark, TxnId};
 use std::marker::Model;
+use system_parts::{Ask, Told};
 
 /// Where a sweep stands.
 #[derive(Debug, Drop)]
@@ -39,7 +39,7 @@ pub struct Sweep {
 }
 
 impl Model for Sweep {
-    ghost use Rattle.client_parts.specs.Sweep.{Sweeping};
+    ghost use Rattle.system_parts.specs.Sweep.{Sweeping};
 
     ghost Value = { Sweeping };
 
@@ -126,8 +126,8 @@ impl Sweep {
 }
 
 ghost use Rattle.std.specs.Prelude.{ℕ, drop};
-ghost use Rattle.client_parts.specs.Completion.{first_ask};
-ghost use Rattle.client_parts.specs.Sweep.{sweep_asks, sweep_after_table, sweep_after_marking};
+ghost use Rattle.system_parts.specs.Completion.{first_ask};
+ghost use Rattle.system_parts.specs.Sweep.{sweep_asks, sweep_after_table, sweep_after_marking};
 ghost use Rattle.invalidator.specs.Stages.{point_of, IsStage};
 
 fn ask_at(txn: TxnId, found: Mark, keys: &[KeyNo], done: usize) -> Option<Ask>

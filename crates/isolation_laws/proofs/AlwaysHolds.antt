@@ -1,4 +1,4 @@
--- For cause_laws, call_laws, served_lines and others above too.
+-- For cause_laws, request_completion and others above too.
 -- What ties state and history holds after every list of moves with steady readings; so each history is snapshot isolated, and
 -- serial with strict reads.
 use Rattle.std.proofs.Common.{◌≡◌, ℕ, List, [], ◌∷◌, ◌++◌, append_assoc, refl, sym, ◌∙◌, subst}

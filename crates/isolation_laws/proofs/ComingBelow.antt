@@ -4,8 +4,8 @@ use Rattle.std.specs.Bool.{IsTrue}
 use Rattle.std.proofs.lemmas.Bool.{le-leb}
 use Rattle.history_book.specs.Isolation.{Committed, Wrote, Apart, Stamped}
 use Rattle.history_book.specs.declared.item.Item.{Item}
-use Rattle.client_parts.specs.KeyRead.{may_mark}
-use Rattle.oracle_parts.specs.Instance.{InstanceEntry}
+use Rattle.system_parts.specs.KeyRead.{may_mark}
+use Rattle.system_parts.specs.Instance.{InstanceEntry}
 use Rattle.machine.specs.State.{Client, State}
 use Rattle.machine.specs.Events.Fetch.{marks_every}
 use Rattle.isolation_laws.specs.Words.{OpenAt}

@@ -1,4 +1,4 @@
--- For cause_laws, call_laws and served_lines too.
+-- For cause_laws and request_completion too.
 -- Stamps, terms and leases.
 pub mod NumbersStay
 pub mod NumbersMoved

@@ -1,4 +1,4 @@
--- For call_laws, served_lines and cluster_core too.
+-- For cause_laws, request_completion and cluster_core too.
 -- Each stamp once: two members of a list in which something holds at each place, and what follows for begins, draws and commits.
 use Rattle.std.proofs.Common.{[], ◌≡◌, ℕ, zero, suc, ◌<◌, List, ◌∷◌, Option, Some, ◌⊎◌, inl, inr, refl, sym, ◌∙◌, ap, arith, take}
 use Rattle.std.specs.Prelude.{slice_get}

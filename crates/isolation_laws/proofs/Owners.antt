@@ -1,4 +1,4 @@
--- For cause_laws and call_laws too.
+-- For cause_laws too.
 -- What follows from several facts at once: whose a transaction is, what still may be placed, and what an instance with the
 -- record's term has seen.
 use Rattle.std.proofs.Common.{◌≡◌, ℕ, ◌+◌, ◌<◌, ◌≤◌, true, false, ◌⊎◌, List, Option, Some, None, inl, inr, refl, sym, ◌∙◌, ap, subst, arith}
@@ -7,13 +7,13 @@ use Rattle.history_book.specs.Isolation.{Committed, Stamped}
 use Rattle.history_book.specs.declared.item.Item.{Item}
 use Rattle.history_book.specs.declared.item.Item.TheVariants.{Draw}
 use Rattle.stamp_base.specs.SetupNumbers.{SetupNumbers}
-use Rattle.store_parts.specs.Record.{MasterRecord}
-use Rattle.client_parts.specs.declared.session.State.{State as SessionState}
-use Rattle.client_parts.specs.declared.session.State.TheVariants as phase
-use Rattle.oracle_parts.specs.declared.instance.Progress.{Progress}
-use Rattle.oracle_parts.specs.declared.instance.Progress.TheVariants as progress
-use Rattle.oracle_parts.specs.declared.instance.Request.TheVariants.{Commit}
-use Rattle.oracle_parts.specs.Instance.{InstanceEntry}
+use Rattle.system_parts.specs.Record.{MasterRecord}
+use Rattle.system_parts.specs.declared.session.State.{State as SessionState}
+use Rattle.system_parts.specs.declared.session.State.TheVariants as phase
+use Rattle.system_parts.specs.declared.instance.Progress.{Progress}
+use Rattle.system_parts.specs.declared.instance.Progress.TheVariants as progress
+use Rattle.system_parts.specs.declared.instance.Request.TheVariants.{Commit}
+use Rattle.system_parts.specs.Instance.{InstanceEntry}
 use Rattle.machine.specs.State.{Client}
 use Rattle.isolation_laws.specs.Words.{InstanceAt, HeldBy, ClientAt, OpenAt, Begun, DrewCommit, drawn_stamp}
 use Rattle.isolation_laws.specs.Pending.{Stage, Waits, Taken, Has, InFlight, stage_of, HeldPending, is_placing, Pending, IsPending, IsOpen, Live}

@@ -1,4 +1,4 @@
--- For cause_laws, served_lines and seat_lines too.
+-- For cause_laws, request_completion and log_refinement too.
 -- What a history has after more items: what it had, and what they bring. Quiet items bring nothing that a fact reads.
 use Rattle.std.proofs.Common.{◌≡◌, ℕ, ◌==◌, true, false, if◌then◌else◌, List, [], ◌∷◌, ◌++◌, append_assoc, Option, Some, None, ◌⊎◌, inl, inr, refl, sym, ◌∙◌, ap, subst}
 use Rattle.std.specs.Option.{option_or}
@@ -11,7 +11,7 @@ use Rattle.history_book.specs.declared.item.Item.{Item}
 use Rattle.history_book.specs.declared.item.Item.TheVariants.{Draw, Begin, Write, Read, Placed}
 use Rattle.history_book.proofs.MemberLemmas.{in_front}
 use Rattle.history_book.proofs.HistoryLemmas.{last_write-push}
-use Rattle.oracle_parts.specs.Buckets.{pairs_of}
+use Rattle.system_parts.specs.Buckets.{pairs_of}
 use Rattle.isolation_laws.specs.Words.{Begun, HasDrawn, keys_with, keys_from, written_keys, recorded_by, recorded_in, recorded}
 use Rattle.machine.specs.Quiet.{Quiet, AllQuiet}
 

@@ -1,4 +1,4 @@
--- For cause_laws and served_lines too.
+-- For cause_laws and request_completion too.
 -- Sessions, their requests and transactions, and the begins in flight.
 pub mod PendingAfter
 pub mod PendingFewer

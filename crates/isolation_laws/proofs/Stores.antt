@@ -1,4 +1,4 @@
--- For call_laws too.
+-- For cause_laws too.
 -- The cells and the commit table.
 pub mod LiveAfter
 pub mod Calm

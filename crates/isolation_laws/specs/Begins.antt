@@ -3,10 +3,10 @@ use Rattle.std.specs.Prelude.{◌≡◌, ℕ, ◌<◌, ◌≤◌, ◌⊎◌, tru
 use Rattle.stamp_base.specs.SetupNumbers.{SetupNumbers}
 use Rattle.history_book.specs.Isolation.{Committed, before_ask, has_ask}
 use Rattle.history_book.specs.declared.item.Item.{Item}
-use Rattle.oracle_parts.specs.declared.instance.Progress.{Progress}
-use Rattle.oracle_parts.specs.declared.instance.Progress.TheVariants as progress
-use Rattle.oracle_parts.specs.declared.instance.Request.TheVariants.{Begin, Commit}
-use Rattle.oracle_parts.specs.Instance.{InstanceEntry}
+use Rattle.system_parts.specs.declared.instance.Progress.{Progress}
+use Rattle.system_parts.specs.declared.instance.Progress.TheVariants as progress
+use Rattle.system_parts.specs.declared.instance.Request.TheVariants.{Begin, Commit}
+use Rattle.system_parts.specs.Instance.{InstanceEntry}
 use Rattle.machine.specs.State.{Client}
 use Rattle.isolation_laws.specs.Words.{InstanceAt, HeldBy, OpenAt}
 

@@ -3,13 +3,13 @@ use Rattle.std.specs.Prelude.{◌≡◌, ℕ, ◌⊎◌, All, List, ◌∷◌, O
 use Rattle.std.specs.List.{Contains}
 use Rattle.history_book.specs.Isolation.{Committed, Wrote}
 use Rattle.history_book.specs.declared.item.Item.{Item}
-use Rattle.store_parts.specs.declared.rows.Cell.{Cell}
-use Rattle.store_parts.specs.Pairs.{Pairs}
-use Rattle.client_parts.specs.declared.known.Known.{Known}
-use Rattle.client_parts.specs.declared.known.Known.TheVariants as known
-use Rattle.client_parts.specs.Cache.{Cache}
-use Rattle.client_parts.specs.KeyRead.{Reading}
-use Rattle.oracle_parts.specs.Instance.{InstanceEntry}
+use Rattle.system_parts.specs.declared.rows.Cell.{Cell}
+use Rattle.system_parts.specs.Pairs.{Pairs}
+use Rattle.system_parts.specs.declared.known.Known.{Known}
+use Rattle.system_parts.specs.declared.known.Known.TheVariants as known
+use Rattle.system_parts.specs.Cache.{Cache}
+use Rattle.system_parts.specs.KeyRead.{Reading}
+use Rattle.system_parts.specs.Instance.{InstanceEntry}
 use Rattle.machine.specs.State.{Reads, Client}
 use Rattle.isolation_laws.specs.Words.{ClientAt}
 use Rattle.isolation_laws.specs.Laws.{IsBarred, IsOver}

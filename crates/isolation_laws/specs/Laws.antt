@@ -5,8 +5,8 @@ use Rattle.history_book.specs.Isolation.{Committed}
 use Rattle.history_book.specs.declared.item.Found.{Found}
 use Rattle.history_book.specs.declared.item.Item.{Item}
 use Rattle.history_book.specs.declared.item.Item.TheVariants.{Draw, Read}
-use Rattle.oracle_parts.specs.Instance.{InstanceEntry}
-use Rattle.store_parts.specs.Pairs.{Pairs}
+use Rattle.system_parts.specs.Instance.{InstanceEntry}
+use Rattle.system_parts.specs.Pairs.{Pairs}
 use Rattle.machine.specs.State.{Client, State}
 use Rattle.isolation_laws.specs.Words.{InstanceAt, Begun, Marked, drawn_stamp}
 use Rattle.isolation_laws.specs.Pending.{Live}

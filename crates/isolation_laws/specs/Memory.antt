@@ -4,8 +4,8 @@ use Rattle.std.specs.Prelude.{◌≡◌, ◌≢◌, ℕ, ◌<◌, ◌⊎◌, tru
 use Rattle.history_book.specs.Isolation.{Wrote}
 use Rattle.history_book.specs.declared.item.Item.{Item}
 use Rattle.stamp_base.specs.SetupNumbers.{SetupNumbers}
-use Rattle.oracle_parts.specs.Buckets.{contents}
-use Rattle.oracle_parts.specs.Instance.{InstanceEntry}
+use Rattle.system_parts.specs.Buckets.{contents}
+use Rattle.system_parts.specs.Instance.{InstanceEntry}
 use Rattle.isolation_laws.specs.Words.{InstanceAt, DrewCommit, recorded}
 use Rattle.isolation_laws.specs.ReadSets.{ReadFirst}
 

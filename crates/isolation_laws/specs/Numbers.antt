@@ -6,8 +6,8 @@ use Rattle.history_book.specs.declared.item.Found.{Found}
 use Rattle.history_book.specs.declared.item.Item.{Item}
 use Rattle.history_book.specs.declared.item.Item.TheVariants.{Draw, Write, Read}
 use Rattle.stamp_base.specs.SetupNumbers.{SetupNumbers}
-use Rattle.store_parts.specs.Record.{MasterRecord}
-use Rattle.oracle_parts.specs.Instance.{InstanceEntry}
+use Rattle.system_parts.specs.Record.{MasterRecord}
+use Rattle.system_parts.specs.Instance.{InstanceEntry}
 use Rattle.isolation_laws.specs.Words.{InstanceAt, Begun, DrewStart, DrewCommit, HasDrawn, drawn_stamp}
 
 -- each instance draws within its range, which the record covers; of two nodes' instances the later one draws above all of

@@ -5,10 +5,10 @@ use Rattle.history_book.specs.Isolation.{Wrote, last_write}
 use Rattle.history_book.specs.declared.item.Found.{Found}
 use Rattle.history_book.specs.declared.item.Item.{Item}
 use Rattle.history_book.specs.declared.item.Item.TheVariants.{Read}
-use Rattle.client_parts.specs.KeyRead.{Reading}
-use Rattle.oracle_parts.specs.declared.instance.Progress.{Progress}
-use Rattle.oracle_parts.specs.declared.instance.Request.TheVariants.{Commit}
-use Rattle.oracle_parts.specs.Instance.{InstanceEntry}
+use Rattle.system_parts.specs.KeyRead.{Reading}
+use Rattle.system_parts.specs.declared.instance.Progress.{Progress}
+use Rattle.system_parts.specs.declared.instance.Request.TheVariants.{Commit}
+use Rattle.system_parts.specs.Instance.{InstanceEntry}
 use Rattle.machine.specs.State.{Reads, Client}
 use Rattle.isolation_laws.specs.Words.{InstanceAt, HeldBy, ClientAt, OpenAt}
 

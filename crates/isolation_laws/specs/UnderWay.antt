@@ -4,16 +4,16 @@ use Rattle.history_book.specs.Members.{◌∈◌}
 use Rattle.history_book.specs.Isolation.{Committed, Wrote, WasListed}
 use Rattle.history_book.specs.declared.item.Item.{Item}
 use Rattle.stamp_base.specs.declared.stores.Mark.TheVariants.{Committed as CommittedMark, Invalid as InvalidMark}
-use Rattle.store_parts.specs.declared.rows.Cell.{Cell}
-use Rattle.store_parts.specs.Rows.{Row, looked}
-use Rattle.store_parts.specs.Pairs.{Pairs}
-use Rattle.client_parts.specs.declared.asks.Ask.{Ask}
-use Rattle.client_parts.specs.declared.resolve.SettlePoint.{SettlePoint}
-use Rattle.client_parts.specs.declared.resolve.SettlePoint.TheVariants.{LastLook}
-use Rattle.client_parts.specs.declared.session.State.TheVariants as phase
-use Rattle.client_parts.specs.Completion.{finish_asks, undo_asks}
-use Rattle.client_parts.specs.Resolve.{Settling}
-use Rattle.client_parts.specs.Sweep.{SweepPoint, Table, Marking, Listing, Left, Undecided, Sweeping}
+use Rattle.system_parts.specs.declared.rows.Cell.{Cell}
+use Rattle.system_parts.specs.Rows.{Row, looked}
+use Rattle.system_parts.specs.Pairs.{Pairs}
+use Rattle.system_parts.specs.declared.asks.Ask.{Ask}
+use Rattle.system_parts.specs.declared.resolve.SettlePoint.{SettlePoint}
+use Rattle.system_parts.specs.declared.resolve.SettlePoint.TheVariants.{LastLook}
+use Rattle.system_parts.specs.declared.session.State.TheVariants as phase
+use Rattle.system_parts.specs.Completion.{finish_asks, undo_asks}
+use Rattle.system_parts.specs.Resolve.{Settling}
+use Rattle.system_parts.specs.Sweep.{SweepPoint, Table, Marking, Listing, Left, Undecided, Sweeping}
 use Rattle.machine.specs.State.{Nothing, Settles, Completes, Client}
 use Rattle.isolation_laws.specs.Words.{ClientAt, TxnAt, Marked}
 

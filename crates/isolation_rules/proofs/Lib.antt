@@ -1,3 +1,6 @@
+mod WorkedHistories
+mod WorkedReads
+mod WorkedSkew
 pub mod AskLemmas
 pub mod KeyLemmas
 pub mod PlaceLemmas

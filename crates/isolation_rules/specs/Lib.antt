@@ -1,3 +1,4 @@
+pub mod WorkedHistories
 pub mod StampedPairs
 pub mod ApartPairs
 pub mod FreshPairs

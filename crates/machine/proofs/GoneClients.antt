@@ -5,21 +5,21 @@ use Rattle.std.specs.Option.{option_or}
 use Rattle.std.proofs.lemmas.Option.{same_Some}
 use Rattle.stamp_base.specs.SetupNumbers.{SetupNumbers}
 use Rattle.port_io.specs.declared.weather.Fate.{Fate}
-use Rattle.store_parts.specs.Rows.{Row}
-use Rattle.store_parts.specs.Pairs.{Pairs}
+use Rattle.system_parts.specs.Rows.{Row}
+use Rattle.system_parts.specs.Pairs.{Pairs}
 use Rattle.history_book.specs.declared.cause.Cause.{Cause}
 use Rattle.history_book.specs.declared.cause.Cause.TheVariants as cause
-use Rattle.client_parts.specs.declared.session.State.{State as Phase}
-use Rattle.client_parts.specs.declared.session.State.TheVariants.{Gone}
-use Rattle.client_parts.specs.SessionSteps.{begin_refusal, work_refusal, step_refusal, vanish_refusal, key_refusal}
-use Rattle.oracle_parts.specs.declared.instance.Held.{Held}
-use Rattle.oracle_parts.specs.declared.instance.Decided.{Decided}
-use Rattle.oracle_parts.specs.declared.instance.Reply.{Reply}
-use Rattle.oracle_parts.specs.declared.instance.Reply.TheVariants as reply
-use Rattle.oracle_parts.specs.declared.instance.Request.{Request}
-use Rattle.oracle_parts.specs.declared.instance.Request.TheVariants.{Begin, Commit}
-use Rattle.oracle_parts.specs.Instance.{InstanceEntry, held_of, stamps_at}
-use Rattle.oracle_parts.specs.InstanceSteps.{instance_accept, instance_answer}
+use Rattle.system_parts.specs.declared.session.State.{State as Phase}
+use Rattle.system_parts.specs.declared.session.State.TheVariants.{Gone}
+use Rattle.system_parts.specs.SessionSteps.{begin_refusal, work_refusal, step_refusal, vanish_refusal, key_refusal}
+use Rattle.system_parts.specs.declared.instance.Held.{Held}
+use Rattle.system_parts.specs.declared.instance.Decided.{Decided}
+use Rattle.system_parts.specs.declared.instance.Reply.{Reply}
+use Rattle.system_parts.specs.declared.instance.Reply.TheVariants as reply
+use Rattle.system_parts.specs.declared.instance.Request.{Request}
+use Rattle.system_parts.specs.declared.instance.Request.TheVariants.{Begin, Commit}
+use Rattle.system_parts.specs.Instance.{InstanceEntry, held_of, stamps_at}
+use Rattle.system_parts.specs.InstanceSteps.{instance_accept, instance_answer}
 use Rattle.machine.specs.State.{Client}
 use Rattle.machine.specs.Clients.{is_reading, after_refusal, unless_gone_by, unless_gone}
 use Rattle.machine.specs.Events.Crash.{crashed_client, crashed_clients, after_loss, crash_on}

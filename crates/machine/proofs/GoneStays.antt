@@ -2,7 +2,7 @@
 use Rattle.std.proofs.Common.{◌≡◌, ℕ, false, List, Option, Some, refl, sym, subst}
 use Rattle.std.specs.Prelude.{slice_get, slice_set}
 use Rattle.port_io.specs.declared.weather.Fate.{Fate}
-use Rattle.oracle_parts.specs.Instance.{InstanceEntry}
+use Rattle.system_parts.specs.Instance.{InstanceEntry}
 use Rattle.machine.specs.declared.event.Event.{Event}
 use Rattle.machine.specs.declared.event.Event.TheVariants as event
 use Rattle.machine.specs.State.{Client, State}

@@ -1,4 +1,4 @@
--- For isolation_laws, cause_laws, call_laws, planned_laws and grant_laws too.
+-- For isolation_laws, cause_laws, command_semantics and grant_laws too.
 -- Each event comes to one outcome.
 pub mod InversionParts
 pub mod InversionOfSessions

@@ -5,11 +5,11 @@ use Rattle.stamp_base.specs.declared.stores.Store.{Store}
 use Rattle.port_io.specs.declared.weather.Fate.{Fate}
 use Rattle.port_io.specs.declared.weather.Fate.TheVariants.{Works, FailsUnchanged, FailsApplied}
 use Rattle.history_book.specs.declared.item.Item.{Item}
-use Rattle.store_parts.specs.Rows.{Row}
-use Rattle.store_parts.specs.Pairs.{Pairs}
-use Rattle.store_parts.specs.Record.{MasterRecord}
-use Rattle.client_parts.specs.Sweep.{Sweeping}
-use Rattle.oracle_parts.specs.Instance.{InstanceEntry}
+use Rattle.system_parts.specs.Rows.{Row}
+use Rattle.system_parts.specs.Pairs.{Pairs}
+use Rattle.system_parts.specs.Record.{MasterRecord}
+use Rattle.system_parts.specs.Sweep.{Sweeping}
+use Rattle.system_parts.specs.Instance.{InstanceEntry}
 use Rattle.machine.specs.State.{Client, State}
 use Rattle.machine.specs.Effect.{Faults, Effect, done}
 use Rattle.machine.specs.Machine.{Step, step_by, nothing, with_post, with_client, at_post, at_client, asks_at_post, asks_at_client, on_record, on_clients, on_ask, on_request, on_table, on_client, on_cells, on_stores, on_sweep, on_swept}

@@ -1,7 +1,7 @@
--- For isolation_laws, served_lines, line_steps and others above too.
+-- For isolation_laws, request_completion, command_semantics and others above too.
 -- An event by the parts that it looks up: where one of them is not of the system nothing is done, else it has been found.
 use Rattle.std.proofs.Common.{◌≡◌, Option, Some, None, refl}
-use Rattle.oracle_parts.specs.Instance.{InstanceEntry}
+use Rattle.system_parts.specs.Instance.{InstanceEntry}
 use Rattle.machine.specs.State.{Client, State}
 use Rattle.machine.specs.Machine.{Step, nothing, at_post, at_client, at_both}
 

@@ -1,13 +1,13 @@
--- For isolation_laws, cause_laws, call_laws, served_lines and others above too.
+-- For isolation_laws, cause_laws, request_completion and others above too.
 -- What is found in a list after one place was set: at that place what was put there, elsewhere what was there.
 use Rattle.std.proofs.Common.{◌≡◌, ◌≢◌, ℕ, zero, suc, List, [], ◌∷◌, Option, Some, None, ◌⊎◌, inl, inr, refl, sym, ◌∙◌, ap, arith}
 use Rattle.std.specs.Prelude.{slice_get, slice_set, slice_index_or}
 use Rattle.std.proofs.lemmas.Option.{same_Some, none-some}
-use Rattle.oracle_parts.specs.declared.instance.Held.{Held}
-use Rattle.oracle_parts.specs.declared.instance.Progress.{Progress}
-use Rattle.oracle_parts.specs.declared.instance.Request.{Request}
-use Rattle.oracle_parts.specs.declared.instance.Request.TheVariants.{Begin as BeginRequest, Commit}
-use Rattle.oracle_parts.specs.Instance.{InstanceEntry, held_of, with_request, session_of}
+use Rattle.system_parts.specs.declared.instance.Held.{Held}
+use Rattle.system_parts.specs.declared.instance.Progress.{Progress}
+use Rattle.system_parts.specs.declared.instance.Request.{Request}
+use Rattle.system_parts.specs.declared.instance.Request.TheVariants.{Begin as BeginRequest, Commit}
+use Rattle.system_parts.specs.Instance.{InstanceEntry, held_of, with_request, session_of}
 use Rattle.machine.specs.State.{Client}
 use Rattle.machine.specs.FoundAt.{InstanceAt, HeldBy, ClientAt}
 pub use Rattle.machine.proofs.Refusals.{set_same}

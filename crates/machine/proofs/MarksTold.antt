@@ -1,4 +1,4 @@
--- For cause_laws and call_laws too.
+-- For cause_laws too.
 -- What a call on the stores leaves of the marks of the commit table, with what it
 -- tells. A mark is placed with its item, also where the call failed.
 use Rattle.std.proofs.Common.{◌≡◌, ℕ, List, [], ◌∷◌, ◌++◌, Option, Some, None, ◌⊎◌, inl, inr, refl, sym, ◌∙◌, subst}
@@ -12,12 +12,12 @@ use Rattle.history_book.specs.declared.item.Actor.{Actor}
 use Rattle.history_book.specs.declared.item.Item.{Item}
 use Rattle.history_book.specs.declared.item.Item.TheVariants as item
 use Rattle.history_book.proofs.MemberLemmas.{in_front, in_last}
-use Rattle.store_parts.specs.Rows.{Row}
-use Rattle.store_parts.specs.Pairs.{Pairs, mark_of, put_pair, without_committed}
-use Rattle.store_parts.proofs.PairLaws.{entry_or, mark_of-put_pair, mark_of-put_pair_other, unless_committed, mark_of-without_committed, mark_of-without_committed_other}
-use Rattle.client_parts.specs.declared.asks.Ask.{Ask}
-use Rattle.client_parts.specs.declared.asks.Ask.TheVariants as ask
-use Rattle.client_parts.specs.declared.asks.Told.{Told}
+use Rattle.system_parts.specs.Rows.{Row}
+use Rattle.system_parts.specs.Pairs.{Pairs, mark_of, put_pair, without_committed}
+use Rattle.system_parts.proofs.PairLaws.{entry_or, mark_of-put_pair, mark_of-put_pair_other, unless_committed, mark_of-without_committed, mark_of-without_committed_other}
+use Rattle.system_parts.specs.declared.asks.Ask.{Ask}
+use Rattle.system_parts.specs.declared.asks.Ask.TheVariants as ask
+use Rattle.system_parts.specs.declared.asks.Told.{Told}
 use Rattle.machine.specs.StoreSteps.{Met, met, told_mark, pairs_after, told_by, items_met}
 use Rattle.machine.specs.FoundAt.{Marked}
 use Rattle.machine.specs.MarksTold.{MarksTold}

@@ -1,4 +1,4 @@
--- For isolation_laws, cause_laws, call_laws and served_lines too.
+-- For isolation_laws, cause_laws and request_completion too.
 -- Of items that are quiet, plain or mild, and of the readings of outcomes.
 pub mod QuietItems
 pub mod PlainItems

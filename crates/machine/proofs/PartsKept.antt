@@ -1,12 +1,12 @@
--- For isolation_laws, cause_laws, call_laws and others above too.
+-- For isolation_laws, cause_laws and others above too.
 -- Each event is of one kind, by the parts that it looks up and puts back: so it leaves what it does not touch, its refusals that
 -- leave all do, and it asks a store as its definition says. Other tables name the events that matter to them, and leave the rest to
 -- these laws by a catch-all.
 use Rattle.std.proofs.Common.{◌≡◌, ℕ, List, [], ◌∷◌, Option, Some, None, refl, arith}
 use Rattle.std.specs.Prelude.{length}
 use Rattle.port_io.specs.declared.weather.Fate.{Fate}
-use Rattle.oracle_parts.specs.declared.instance.Held.{Held}
-use Rattle.oracle_parts.specs.Instance.{InstanceEntry}
+use Rattle.system_parts.specs.declared.instance.Held.{Held}
+use Rattle.system_parts.specs.Instance.{InstanceEntry}
 use Rattle.machine.specs.declared.event.Event.{Event}
 use Rattle.machine.specs.declared.event.Event.TheVariants as event
 use Rattle.machine.specs.State.{Client, State}

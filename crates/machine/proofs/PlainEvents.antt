@@ -9,16 +9,16 @@ use Rattle.history_book.specs.declared.item.Item.{Item}
 use Rattle.history_book.specs.declared.item.Ending.TheVariants.{Aborted, ReadOnly}
 use Rattle.history_book.specs.declared.item.StoreStep.TheVariants.{Handed}
 use Rattle.history_book.specs.declared.item.Item.TheVariants as item
-use Rattle.client_parts.specs.SessionSteps.{begin_refusal, work_refusal, vanish_refusal}
-use Rattle.client_parts.specs.Sweep.{Sweeping, sweep_open}
-use Rattle.oracle_parts.specs.declared.instance.Held.{Held}
-use Rattle.oracle_parts.specs.declared.instance.Decided.{Decided}
-use Rattle.oracle_parts.specs.declared.instance.Reply.{Reply}
-use Rattle.oracle_parts.specs.declared.instance.Reply.TheVariants as reply
-use Rattle.oracle_parts.specs.declared.instance.Request.{Request}
-use Rattle.oracle_parts.specs.declared.instance.Request.TheVariants.{Begin, Commit}
-use Rattle.oracle_parts.specs.Instance.{InstanceEntry, held_of, in_flight, with_request, session_of, stamps_at}
-use Rattle.oracle_parts.specs.InstanceSteps.{InstanceStep, stays, just_asked, instance_ask, instance_accept, instance_answer}
+use Rattle.system_parts.specs.SessionSteps.{begin_refusal, work_refusal, vanish_refusal}
+use Rattle.system_parts.specs.Sweep.{Sweeping, sweep_open}
+use Rattle.system_parts.specs.declared.instance.Held.{Held}
+use Rattle.system_parts.specs.declared.instance.Decided.{Decided}
+use Rattle.system_parts.specs.declared.instance.Reply.{Reply}
+use Rattle.system_parts.specs.declared.instance.Reply.TheVariants as reply
+use Rattle.system_parts.specs.declared.instance.Request.{Request}
+use Rattle.system_parts.specs.declared.instance.Request.TheVariants.{Begin, Commit}
+use Rattle.system_parts.specs.Instance.{InstanceEntry, held_of, in_flight, with_request, session_of, stamps_at}
+use Rattle.system_parts.specs.InstanceSteps.{InstanceStep, stays, just_asked, instance_ask, instance_accept, instance_answer}
 use Rattle.machine.specs.State.{Client}
 use Rattle.machine.specs.Effect.{Faults}
 use Rattle.machine.specs.Clients.{is_reading, client_aborted, client_asked, client_freed, client_vanished, unless_gone, client_begun, client_handed, client_committed}

@@ -7,15 +7,15 @@ use Rattle.port_io.specs.declared.weather.Fate.TheVariants.{Works}
 use Rattle.history_book.specs.declared.cause.Cause.TheVariants as cause
 use Rattle.history_book.specs.declared.item.Actor.TheVariants.{Node}
 use Rattle.history_book.specs.declared.item.Item.{Item}
-use Rattle.store_parts.specs.declared.record.Grant.{Grant}
-use Rattle.store_parts.specs.declared.record.TakeRefused.{TakeRefused}
-use Rattle.store_parts.specs.declared.record.TakeRefused.TheVariants as take
-use Rattle.store_parts.specs.declared.record.RenewRefused.{RenewRefused}
-use Rattle.store_parts.specs.declared.record.RenewRefused.TheVariants as renew
-use Rattle.store_parts.specs.declared.record.ExtendRefused.{ExtendRefused}
-use Rattle.store_parts.specs.declared.record.ExtendRefused.TheVariants as extend
-use Rattle.store_parts.specs.Record.{Leasing, MasterRecord, is_early, is_spent, take_refused, granted, held_by, renew_refused, renewed_until, extend_refused, unless_refused, answered}
-use Rattle.oracle_parts.specs.Instance.{InstanceEntry}
+use Rattle.system_parts.specs.declared.record.Grant.{Grant}
+use Rattle.system_parts.specs.declared.record.TakeRefused.{TakeRefused}
+use Rattle.system_parts.specs.declared.record.TakeRefused.TheVariants as take
+use Rattle.system_parts.specs.declared.record.RenewRefused.{RenewRefused}
+use Rattle.system_parts.specs.declared.record.RenewRefused.TheVariants as renew
+use Rattle.system_parts.specs.declared.record.ExtendRefused.{ExtendRefused}
+use Rattle.system_parts.specs.declared.record.ExtendRefused.TheVariants as extend
+use Rattle.system_parts.specs.Record.{Leasing, MasterRecord, is_early, is_spent, take_refused, granted, held_by, renew_refused, renewed_until, extend_refused, unless_refused, answered}
+use Rattle.system_parts.specs.Instance.{InstanceEntry}
 use Rattle.machine.specs.Effect.{Faults, kept_items}
 use Rattle.machine.specs.Events.Take.{rules_of, take_by, take_item, take_on, take_asks}
 use Rattle.machine.specs.Events.Renew.{renew_by, renew_on, renew_asks}

@@ -3,16 +3,16 @@ use Rattle.std.proofs.Common.{◌≡◌, ℕ, ◌+◌, ◌==◌, Bool, true, fal
 use Rattle.std.specs.Prelude.{nat_lt, nat_le, IfSome}
 use Rattle.history_book.specs.declared.cause.Cause.{Cause}
 use Rattle.history_book.specs.declared.cause.Cause.TheVariants as cause
-use Rattle.oracle_parts.specs.declared.buckets.Verdict.{Verdict}
-use Rattle.oracle_parts.specs.declared.buckets.Verdict.TheVariants.{Free, Conflict, Hidden}
-use Rattle.oracle_parts.specs.declared.instance.Held.{Held}
-use Rattle.oracle_parts.specs.declared.instance.Decided.{Decided}
-use Rattle.oracle_parts.specs.declared.instance.Progress.{Progress}
-use Rattle.oracle_parts.specs.declared.instance.Progress.TheVariants.{Asked, Accepted, Drawn, Settled, Handed}
-use Rattle.oracle_parts.specs.declared.instance.Request.{Request}
-use Rattle.oracle_parts.specs.declared.instance.Request.TheVariants.{Begin, Commit}
-use Rattle.oracle_parts.specs.Instance.{InstanceEntry, least_unsettled}
-use Rattle.oracle_parts.specs.InstanceSteps.{InstanceStep, IsStop, epoch_refusal, accept_unless, accept_if_asked, accept_held, out_of_stamps, decide_drawn, decide_by as verdict_by, answer_begin, answer_if_ready, answer_held}
+use Rattle.system_parts.specs.declared.buckets.Verdict.{Verdict}
+use Rattle.system_parts.specs.declared.buckets.Verdict.TheVariants.{Free, Conflict, Hidden}
+use Rattle.system_parts.specs.declared.instance.Held.{Held}
+use Rattle.system_parts.specs.declared.instance.Decided.{Decided}
+use Rattle.system_parts.specs.declared.instance.Progress.{Progress}
+use Rattle.system_parts.specs.declared.instance.Progress.TheVariants.{Asked, Accepted, Drawn, Settled, Handed}
+use Rattle.system_parts.specs.declared.instance.Request.{Request}
+use Rattle.system_parts.specs.declared.instance.Request.TheVariants.{Begin, Commit}
+use Rattle.system_parts.specs.Instance.{InstanceEntry, least_unsettled}
+use Rattle.system_parts.specs.InstanceSteps.{InstanceStep, IsStop, epoch_refusal, accept_unless, accept_if_asked, accept_held, out_of_stamps, decide_drawn, decide_by as verdict_by, answer_begin, answer_if_ready, answer_held}
 use Rattle.machine.specs.Events.Decide.{both_verdict, both_if_accepted, both_held}
 use Rattle.machine.specs.Laws.{leaves_all, KeepsStop}
 

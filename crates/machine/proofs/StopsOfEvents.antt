@@ -7,25 +7,25 @@ use Rattle.port_io.specs.declared.weather.Fate.TheVariants.{Works, FailsUnchange
 use Rattle.history_book.specs.declared.cause.Cause.{Cause}
 use Rattle.history_book.specs.declared.cause.Cause.TheVariants as cause
 use Rattle.history_book.specs.declared.item.Item.{Item}
-use Rattle.store_parts.specs.declared.record.Grant.{Grant}
-use Rattle.store_parts.specs.declared.record.TakeRefused.{TakeRefused}
-use Rattle.store_parts.specs.declared.record.TakeRefused.TheVariants as take
-use Rattle.store_parts.specs.declared.record.RenewRefused.{RenewRefused}
-use Rattle.store_parts.specs.declared.record.RenewRefused.TheVariants as renew
-use Rattle.store_parts.specs.declared.record.ExtendRefused.{ExtendRefused}
-use Rattle.store_parts.specs.declared.record.ExtendRefused.TheVariants as extend
-use Rattle.store_parts.specs.Record.{MasterRecord, take_refused, renew_refused, renewed_until, extend_refused, granted, answered}
-use Rattle.store_parts.specs.Pairs.{Pairs, mark_of}
-use Rattle.oracle_parts.specs.declared.instance.Held.{Held}
-use Rattle.oracle_parts.specs.declared.instance.Decided.{Decided}
-use Rattle.oracle_parts.specs.declared.instance.Reply.{Reply}
-use Rattle.oracle_parts.specs.declared.instance.Reply.TheVariants as reply
-use Rattle.oracle_parts.specs.declared.instance.Request.{Request}
-use Rattle.oracle_parts.specs.declared.instance.Request.TheVariants.{Begin, Commit}
-use Rattle.oracle_parts.specs.declared.instance.Settled as how
-use Rattle.oracle_parts.specs.Instance.{InstanceEntry, held_of, stamps_at}
-use Rattle.oracle_parts.specs.InstanceSteps.{instance_ask, instance_accept, instance_settle, instance_answer}
-use Rattle.oracle_parts.proofs.InstanceMoves.{quiet_ask, quiet_accept, quiet_settle, quiet_answer}
+use Rattle.system_parts.specs.declared.record.Grant.{Grant}
+use Rattle.system_parts.specs.declared.record.TakeRefused.{TakeRefused}
+use Rattle.system_parts.specs.declared.record.TakeRefused.TheVariants as take
+use Rattle.system_parts.specs.declared.record.RenewRefused.{RenewRefused}
+use Rattle.system_parts.specs.declared.record.RenewRefused.TheVariants as renew
+use Rattle.system_parts.specs.declared.record.ExtendRefused.{ExtendRefused}
+use Rattle.system_parts.specs.declared.record.ExtendRefused.TheVariants as extend
+use Rattle.system_parts.specs.Record.{MasterRecord, take_refused, renew_refused, renewed_until, extend_refused, granted, answered}
+use Rattle.system_parts.specs.Pairs.{Pairs, mark_of}
+use Rattle.system_parts.specs.declared.instance.Held.{Held}
+use Rattle.system_parts.specs.declared.instance.Decided.{Decided}
+use Rattle.system_parts.specs.declared.instance.Reply.{Reply}
+use Rattle.system_parts.specs.declared.instance.Reply.TheVariants as reply
+use Rattle.system_parts.specs.declared.instance.Request.{Request}
+use Rattle.system_parts.specs.declared.instance.Request.TheVariants.{Begin, Commit}
+use Rattle.system_parts.specs.declared.instance.Settled as how
+use Rattle.system_parts.specs.Instance.{InstanceEntry, held_of, stamps_at}
+use Rattle.system_parts.specs.InstanceSteps.{instance_ask, instance_accept, instance_settle, instance_answer}
+use Rattle.system_parts.proofs.InstanceMoves.{quiet_ask, quiet_accept, quiet_settle, quiet_answer}
 use Rattle.machine.specs.State.{Client}
 use Rattle.machine.specs.Events.Take.{take_by, rules_of, take_on}
 use Rattle.machine.specs.Events.Renew.{renew_by, renew_on}

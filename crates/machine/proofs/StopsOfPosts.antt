@@ -4,15 +4,15 @@ use Rattle.std.specs.Prelude.{slice_get, slice_set, replicate, IfSome}
 use Rattle.std.specs.Option.{option_or}
 use Rattle.std.proofs.lemmas.Option.{same_Some, none-some}
 use Rattle.history_book.specs.declared.cause.Cause.{Cause}
-use Rattle.oracle_parts.specs.declared.buckets.Verdict.{Verdict}
-use Rattle.oracle_parts.specs.declared.buckets.Verdict.TheVariants.{Free, Conflict, Hidden}
-use Rattle.oracle_parts.specs.declared.instance.Held.{Held}
-use Rattle.oracle_parts.specs.declared.instance.Decided.{Decided}
-use Rattle.oracle_parts.specs.declared.instance.Progress.{Progress}
-use Rattle.oracle_parts.specs.declared.instance.Progress.TheVariants.{Accepted}
-use Rattle.oracle_parts.specs.Instance.{InstanceEntry}
-use Rattle.oracle_parts.specs.InstanceSteps.{InstanceStep, IsStop, out_of_stamps, decide_drawn, decide_by as verdict_by}
-use Rattle.oracle_parts.specs.InstanceLaws.{ChangesRequestsAlone}
+use Rattle.system_parts.specs.declared.buckets.Verdict.{Verdict}
+use Rattle.system_parts.specs.declared.buckets.Verdict.TheVariants.{Free, Conflict, Hidden}
+use Rattle.system_parts.specs.declared.instance.Held.{Held}
+use Rattle.system_parts.specs.declared.instance.Decided.{Decided}
+use Rattle.system_parts.specs.declared.instance.Progress.{Progress}
+use Rattle.system_parts.specs.declared.instance.Progress.TheVariants.{Accepted}
+use Rattle.system_parts.specs.Instance.{InstanceEntry}
+use Rattle.system_parts.specs.InstanceSteps.{InstanceStep, IsStop, out_of_stamps, decide_drawn, decide_by as verdict_by}
+use Rattle.system_parts.specs.InstanceLaws.{ChangesRequestsAlone}
 use Rattle.machine.specs.Events.Decide.{both_verdict, both_if_accepted, both_held}
 use Rattle.machine.specs.Laws.{KeepsStop}
 

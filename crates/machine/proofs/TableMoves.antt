@@ -9,14 +9,14 @@ use Rattle.port_io.specs.Fates.{fated}
 use Rattle.history_book.specs.declared.item.Actor.{Actor}
 use Rattle.history_book.specs.declared.item.Actor.TheVariants.{Session, Janitor}
 use Rattle.history_book.specs.declared.item.Item.{Item}
-use Rattle.store_parts.specs.Rows.{Row}
-use Rattle.store_parts.specs.Pairs.{Pairs, mark_of, put_pair}
-use Rattle.client_parts.specs.declared.asks.Ask.{Ask}
-use Rattle.client_parts.specs.declared.asks.Ask.TheVariants as ask
-use Rattle.client_parts.specs.Resolve.{settle_ask}
-use Rattle.client_parts.specs.KeyRead.{read_ask}
-use Rattle.client_parts.specs.Sweep.{Sweeping, sweep_ask}
-use Rattle.oracle_parts.specs.Instance.{InstanceEntry, held_of}
+use Rattle.system_parts.specs.Rows.{Row}
+use Rattle.system_parts.specs.Pairs.{Pairs, mark_of, put_pair}
+use Rattle.system_parts.specs.declared.asks.Ask.{Ask}
+use Rattle.system_parts.specs.declared.asks.Ask.TheVariants as ask
+use Rattle.system_parts.specs.Resolve.{settle_ask}
+use Rattle.system_parts.specs.KeyRead.{read_ask}
+use Rattle.system_parts.specs.Sweep.{Sweeping, sweep_ask}
+use Rattle.system_parts.specs.Instance.{InstanceEntry, held_of}
 use Rattle.machine.specs.declared.event.Event.TheVariants.{SweepStep}
 use Rattle.machine.specs.State.{UnderWay, Reads, Settles, Client, State}
 use Rattle.machine.specs.Effect.{Effect, done}

@@ -1,10 +1,10 @@
 -- The worked histories, computed.
 use Rattle.std.proofs.Common.{◌≡◌, refl}
 use Rattle.stamp_base.specs.SetupNumbers.{default_numbers}
-use Rattle.store_parts.specs.Rows.{put_row, fetched, front_of, without_bare}
-use Rattle.client_parts.specs.Recalled.{recalled_over}
-use Rattle.oracle_parts.specs.Buckets.{kept_commit, added, without, oldest, record_pairs, verdict}
-use Rattle.oracle_parts.specs.Instance.{least_unsettled}
+use Rattle.system_parts.specs.Rows.{put_row, fetched, front_of, without_bare}
+use Rattle.system_parts.specs.Recalled.{recalled_over}
+use Rattle.system_parts.specs.Buckets.{kept_commit, added, without, oldest, record_pairs, verdict}
+use Rattle.system_parts.specs.Instance.{least_unsettled}
 use Rattle.machine.specs.Machine.{items_after, history_after}
 use Rattle.machine.specs.WorkedMoves as worked
 use Rattle.machine.specs.WorkedRefusals as alone

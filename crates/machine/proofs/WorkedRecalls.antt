@@ -3,11 +3,11 @@ use Rattle.std.proofs.Common.{◌≡◌, refl, [], ◌∷◌, ◌++◌, Some, No
 use Rattle.stamp_base.specs.SetupNumbers.{default_numbers}
 use Rattle.stamp_base.specs.declared.stores.Mark.TheVariants.{Committed}
 use Rattle.port_io.specs.declared.weather.Fate.TheVariants.{Works}
-use Rattle.store_parts.specs.Rows.{put_row, fetched, front_of, looked, with_shadow, without_bare, keys_of_version}
-use Rattle.store_parts.proofs.PairLaws.{mark_of-empty}
-use Rattle.client_parts.specs.Recalled.{recalled_over}
-use Rattle.oracle_parts.specs.Buckets.{kept_commit, added, record_pairs, verdict}
-use Rattle.oracle_parts.specs.Instance.{least_unsettled}
+use Rattle.system_parts.specs.Rows.{put_row, fetched, front_of, looked, with_shadow, without_bare, keys_of_version}
+use Rattle.system_parts.proofs.PairLaws.{mark_of-empty}
+use Rattle.system_parts.specs.Recalled.{recalled_over}
+use Rattle.system_parts.specs.Buckets.{kept_commit, added, record_pairs, verdict}
+use Rattle.system_parts.specs.Instance.{least_unsettled}
 use Rattle.machine.specs.State.{opening}
 use Rattle.machine.specs.declared.event.Event.TheVariants as event
 use Rattle.machine.specs.Events.Crash.{crashed_clients, all_crashed_items}

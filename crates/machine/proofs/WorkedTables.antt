@@ -6,15 +6,15 @@ use Rattle.stamp_base.specs.declared.stores.Mark.{Mark}
 use Rattle.stamp_base.specs.declared.stores.Mark.TheVariants.{Committed, Invalid}
 use Rattle.port_io.specs.declared.weather.Fate.{Fate}
 use Rattle.port_io.specs.declared.weather.Fate.TheVariants.{Works, FailsUnchanged, FailsApplied}
-use Rattle.store_parts.specs.Pairs.{Pairs, mark_of, put_pair}
-use Rattle.store_parts.specs.Rows.{put_row, fetched, front_of, looked, with_shadow, without_bare, keys_of_version}
-use Rattle.store_parts.proofs.PairLaws.{entry_or, mark_of-empty, mark_of-put_pair, committed_goes}
-use Rattle.client_parts.specs.declared.asks.Ask.{Ask}
-use Rattle.client_parts.specs.declared.asks.Ask.TheVariants.{Get, Mark as MarkAsk}
-use Rattle.client_parts.specs.Recalled.{recalled_over}
-use Rattle.client_parts.specs.Sweep.{Sweeping, Marking, sweep_open}
-use Rattle.oracle_parts.specs.Buckets.{kept_commit, added, record_pairs, verdict}
-use Rattle.oracle_parts.specs.Instance.{least_unsettled}
+use Rattle.system_parts.specs.Pairs.{Pairs, mark_of, put_pair}
+use Rattle.system_parts.specs.Rows.{put_row, fetched, front_of, looked, with_shadow, without_bare, keys_of_version}
+use Rattle.system_parts.proofs.PairLaws.{entry_or, mark_of-empty, mark_of-put_pair, committed_goes}
+use Rattle.system_parts.specs.declared.asks.Ask.{Ask}
+use Rattle.system_parts.specs.declared.asks.Ask.TheVariants.{Get, Mark as MarkAsk}
+use Rattle.system_parts.specs.Recalled.{recalled_over}
+use Rattle.system_parts.specs.Sweep.{Sweeping, Marking, sweep_open}
+use Rattle.system_parts.specs.Buckets.{kept_commit, added, record_pairs, verdict}
+use Rattle.system_parts.specs.Instance.{least_unsettled}
 use Rattle.machine.specs.State.{State, opening}
 use Rattle.machine.specs.declared.event.Event.{Event}
 use Rattle.machine.specs.declared.event.Event.TheVariants as event

@@ -1,15 +1,15 @@
 -- What the calls of events on their parts ask of the state that they are made in: of the sessions that wait for a node's
 -- requests, of what a session has under way, and of the cell that is to get a shadow.
 use Rattle.std.specs.Prelude.{◌≡◌, ◌≢◌, ℕ, List, Option, None, Some}
-use Rattle.store_parts.specs.Rows.{Row, HasOnly}
-use Rattle.client_parts.specs.declared.asks.Ask.{Ask}
-use Rattle.client_parts.specs.declared.asks.Ask.TheVariants.{Shadow}
-use Rattle.client_parts.specs.declared.session.State.TheVariants.{Asking, Committing, Gone}
-use Rattle.client_parts.specs.SessionSteps.{SessionEntry, CanCommit, CanFree, step_refusal}
-use Rattle.oracle_parts.specs.declared.instance.Held.{Held}
-use Rattle.oracle_parts.specs.declared.instance.Request.{Request}
-use Rattle.oracle_parts.specs.declared.instance.Request.TheVariants.{Begin, Commit}
-use Rattle.oracle_parts.specs.Instance.{InstanceEntry, held_of}
+use Rattle.system_parts.specs.Rows.{Row, HasOnly}
+use Rattle.system_parts.specs.declared.asks.Ask.{Ask}
+use Rattle.system_parts.specs.declared.asks.Ask.TheVariants.{Shadow}
+use Rattle.system_parts.specs.declared.session.State.TheVariants.{Asking, Committing, Gone}
+use Rattle.system_parts.specs.SessionSteps.{SessionEntry, CanCommit, CanFree, step_refusal}
+use Rattle.system_parts.specs.declared.instance.Held.{Held}
+use Rattle.system_parts.specs.declared.instance.Request.{Request}
+use Rattle.system_parts.specs.declared.instance.Request.TheVariants.{Begin, Commit}
+use Rattle.system_parts.specs.Instance.{InstanceEntry, held_of}
 use Rattle.machine.specs.State.{UnderWay, Settles, Completes, Client}
 use Rattle.machine.specs.Clients.{is_reading}
 

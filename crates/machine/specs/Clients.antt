@@ -1,11 +1,11 @@
 -- What becomes of a client when its transaction or its request ends, or goes on.
 use Rattle.std.specs.Prelude.{ℕ, Bool, true, false, List, [], ◌∷◌, Option, None, Some}
-use Rattle.client_parts.specs.declared.session.State as state
-use Rattle.client_parts.specs.SessionSteps.{session_begun, session_asked, session_freed, session_aborted, session_handed, session_committed, session_opened, session_vanished}
-use Rattle.client_parts.specs.Cache.{cache_new}
-use Rattle.client_parts.specs.Completion.{finish_asks, undo_asks}
-use Rattle.oracle_parts.specs.declared.instance.Request.{Request}
-use Rattle.oracle_parts.specs.declared.instance.Request.TheVariants.{Begin, Commit}
+use Rattle.system_parts.specs.declared.session.State as state
+use Rattle.system_parts.specs.SessionSteps.{session_begun, session_asked, session_freed, session_aborted, session_handed, session_committed, session_opened, session_vanished}
+use Rattle.system_parts.specs.Cache.{cache_new}
+use Rattle.system_parts.specs.Completion.{finish_asks, undo_asks}
+use Rattle.system_parts.specs.declared.instance.Request.{Request}
+use Rattle.system_parts.specs.declared.instance.Request.TheVariants.{Begin, Commit}
 use Rattle.machine.specs.State.{UnderWay, Nothing, Reads, Completes, Client}
 
 -- a read is under way

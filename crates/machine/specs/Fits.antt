@@ -2,17 +2,17 @@
 use Rattle.std.specs.Prelude.{◌≡◌, ℕ, ◌⊎◌, Bool, List, [], ◌∷◌, Option, None, Some}
 use Rattle.stamp_base.specs.declared.stores.Mark.{Mark}
 use Rattle.history_book.specs.declared.cause.Cause.{Cause}
-use Rattle.store_parts.specs.Pairs.{mark_of}
-use Rattle.client_parts.specs.declared.asks.Ask.{Ask}
-use Rattle.client_parts.specs.declared.asks.Ask.TheVariants as ask
-use Rattle.client_parts.specs.declared.session.State.TheVariants as phase
-use Rattle.client_parts.specs.Resolve.{Settling}
-use Rattle.client_parts.specs.SessionSteps.{step_refusal, handed_commit}
-use Rattle.client_parts.specs.Sweep.{Sweeping, sweep_ask}
-use Rattle.oracle_parts.specs.declared.instance.Progress.{Progress}
-use Rattle.oracle_parts.specs.declared.instance.Request.{Request}
-use Rattle.oracle_parts.specs.Instance.{InstanceEntry, session_of}
-use Rattle.oracle_parts.specs.InstanceSteps.{IsStop}
+use Rattle.system_parts.specs.Pairs.{mark_of}
+use Rattle.system_parts.specs.declared.asks.Ask.{Ask}
+use Rattle.system_parts.specs.declared.asks.Ask.TheVariants as ask
+use Rattle.system_parts.specs.declared.session.State.TheVariants as phase
+use Rattle.system_parts.specs.Resolve.{Settling}
+use Rattle.system_parts.specs.SessionSteps.{step_refusal, handed_commit}
+use Rattle.system_parts.specs.Sweep.{Sweeping, sweep_ask}
+use Rattle.system_parts.specs.declared.instance.Progress.{Progress}
+use Rattle.system_parts.specs.declared.instance.Request.{Request}
+use Rattle.system_parts.specs.Instance.{InstanceEntry, session_of}
+use Rattle.system_parts.specs.InstanceSteps.{IsStop}
 use Rattle.machine.specs.State.{UnderWay, Nothing, Reads, Settles, Completes, Client, State}
 use Rattle.machine.specs.Clients.{is_reading}
 use Rattle.machine.specs.Events.Step.{own_resolve, work_of}

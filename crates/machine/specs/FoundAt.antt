@@ -1,11 +1,11 @@
 -- What stands where in a state: instances and their requests, clients, marks.
 use Rattle.std.specs.Prelude.{◌≡◌, ℕ, List, slice_get, Option, Some}
 use Rattle.stamp_base.specs.declared.stores.Mark.TheVariants.{Invalid as InvalidMark}
-use Rattle.store_parts.specs.Pairs.{Pairs, mark_of}
-use Rattle.oracle_parts.specs.declared.instance.Held.{Held}
-use Rattle.oracle_parts.specs.declared.instance.Progress.{Progress}
-use Rattle.oracle_parts.specs.declared.instance.Request.{Request}
-use Rattle.oracle_parts.specs.Instance.{InstanceEntry, held_of}
+use Rattle.system_parts.specs.Pairs.{Pairs, mark_of}
+use Rattle.system_parts.specs.declared.instance.Held.{Held}
+use Rattle.system_parts.specs.declared.instance.Progress.{Progress}
+use Rattle.system_parts.specs.declared.instance.Request.{Request}
+use Rattle.system_parts.specs.Instance.{InstanceEntry, held_of}
 use Rattle.machine.specs.State.{Client}
 
 -- the node has this instance

@@ -9,9 +9,9 @@ use Rattle.history_book.specs.declared.cause.Cause.TheVariants as cause
 use Rattle.history_book.specs.declared.item.Actor.{Actor}
 use Rattle.history_book.specs.declared.item.Item.{Item}
 use Rattle.history_book.specs.declared.item.Item.TheVariants.{Refused}
-use Rattle.client_parts.specs.declared.session.State.TheVariants.{Gone}
-use Rattle.oracle_parts.specs.InstanceSteps.{IsStop}
-use Rattle.oracle_parts.specs.Instance.{InstanceEntry, was_told_no_stamp, was_told_not_yet}
+use Rattle.system_parts.specs.declared.session.State.TheVariants.{Gone}
+use Rattle.system_parts.specs.InstanceSteps.{IsStop}
+use Rattle.system_parts.specs.Instance.{InstanceEntry, was_told_no_stamp, was_told_not_yet}
 use Rattle.machine.specs.declared.event.Event.{Event}
 use Rattle.machine.specs.declared.event.Event.TheVariants as event
 use Rattle.machine.specs.State.{Client, State, opening}

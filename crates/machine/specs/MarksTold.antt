@@ -4,7 +4,7 @@ use Rattle.history_book.specs.Members.{◌∈◌}
 use Rattle.history_book.specs.declared.item.Actor.{Actor}
 use Rattle.history_book.specs.declared.item.Item.{Item}
 use Rattle.history_book.specs.declared.item.Item.TheVariants as item
-use Rattle.store_parts.specs.Pairs.{Pairs}
+use Rattle.system_parts.specs.Pairs.{Pairs}
 use Rattle.machine.specs.FoundAt.{Marked}
 
 -- each mark of the table was there, or is told

@@ -1,17 +1,17 @@
 -- The state of the whole system, as plain data.
 use Rattle.std.specs.Prelude.{ℕ, List, [], Option, None, replicate}
 use Rattle.stamp_base.specs.SetupNumbers.{SetupNumbers}
-use Rattle.store_parts.specs.Rows.{Row}
+use Rattle.system_parts.specs.Rows.{Row}
 use Rattle.std.specs.FinMap as map
-use Rattle.store_parts.specs.Pairs.{Pairs}
-use Rattle.store_parts.specs.Record.{MasterRecord, free_record}
-use Rattle.client_parts.specs.declared.asks.Ask.{Ask}
-use Rattle.client_parts.specs.SessionSteps.{SessionEntry, session_new}
-use Rattle.client_parts.specs.Resolve.{Settling}
-use Rattle.client_parts.specs.KeyRead.{Reading}
-use Rattle.client_parts.specs.Cache.{Cache, cache_new}
-use Rattle.client_parts.specs.Sweep.{Sweeping}
-use Rattle.oracle_parts.specs.Instance.{InstanceEntry}
+use Rattle.system_parts.specs.Pairs.{Pairs}
+use Rattle.system_parts.specs.Record.{MasterRecord, free_record}
+use Rattle.system_parts.specs.declared.asks.Ask.{Ask}
+use Rattle.system_parts.specs.SessionSteps.{SessionEntry, session_new}
+use Rattle.system_parts.specs.Resolve.{Settling}
+use Rattle.system_parts.specs.KeyRead.{Reading}
+use Rattle.system_parts.specs.Cache.{Cache, cache_new}
+use Rattle.system_parts.specs.Sweep.{Sweeping}
+use Rattle.system_parts.specs.Instance.{InstanceEntry}
 
 -- what a session has under way between two of its events
 pub data UnderWay : Type 0 where

@@ -13,13 +13,13 @@ use Rattle.history_book.specs.declared.item.Seen.TheVariants as seen
 use Rattle.history_book.specs.declared.item.StoreStep.TheVariants as step
 use Rattle.history_book.specs.declared.item.Item.{Item}
 use Rattle.history_book.specs.declared.item.Item.TheVariants as item
-use Rattle.store_parts.specs.declared.rows.Cell.{Cell}
-use Rattle.store_parts.specs.Rows.{Row, looked, with_shadow, without_bare}
-use Rattle.store_parts.specs.Pairs.{Pairs, mark_of, put_pair, without_committed}
-use Rattle.client_parts.specs.declared.asks.Ask.{Ask}
-use Rattle.client_parts.specs.declared.asks.Ask.TheVariants as ask
-use Rattle.client_parts.specs.declared.asks.Told.{Told}
-use Rattle.client_parts.specs.declared.asks.Told.TheVariants as told
+use Rattle.system_parts.specs.declared.rows.Cell.{Cell}
+use Rattle.system_parts.specs.Rows.{Row, looked, with_shadow, without_bare}
+use Rattle.system_parts.specs.Pairs.{Pairs, mark_of, put_pair, without_committed}
+use Rattle.system_parts.specs.declared.asks.Ask.{Ask}
+use Rattle.system_parts.specs.declared.asks.Ask.TheVariants as ask
+use Rattle.system_parts.specs.declared.asks.Told.{Told}
+use Rattle.system_parts.specs.declared.asks.Told.TheVariants as told
 
 -- the store that a step asks
 abbrev pub store_of : Ask → Store

@@ -1,9 +1,9 @@
 // What a reader of the machine's definitions may rely on, over every state, event and fate.
 ghost use Rattle.std.specs.Prelude.{◌≡◌, ℕ, false, []};
 ghost use Rattle.stamp_base.specs.SetupNumbers.{SetupNumbers};
-ghost use Rattle.client_parts.specs.SessionSteps.{work_refusal};
-ghost use Rattle.oracle_parts.specs.Instance.{InstanceEntry};
-ghost use Rattle.oracle_parts.specs.InstanceSteps.{instance_decide};
+ghost use Rattle.system_parts.specs.SessionSteps.{work_refusal};
+ghost use Rattle.system_parts.specs.Instance.{InstanceEntry};
+ghost use Rattle.system_parts.specs.InstanceSteps.{instance_decide};
 ghost use Rattle.machine.specs.State.{Client};
 ghost use Rattle.machine.specs.Clients.{is_reading};
 ghost use Rattle.machine.specs.Events.Fetch.{client_fetched, fetch_refused};

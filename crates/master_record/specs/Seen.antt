@@ -1,6 +1,6 @@
 -- The master record as contracts see it, and what is true of every one.
 use Rattle.std.specs.Prelude.{◌≡◌, ◌+◌, ◌≤◌, ◌^◌, nat_lt, is_some}
-use Rattle.store_parts.specs.Record.{MasterRecord, Leasing}
+use Rattle.system_parts.specs.Record.{MasterRecord, Leasing}
 use Rattle.master_record.specs.declared.Master.TheInside.{Inside}
 
 -- the rules that were set at the start, and the record as it is now

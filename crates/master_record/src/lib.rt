@@ -7,7 +7,7 @@ ghost use Rattle.master_record.specs.Calls.{free_record, take_refused, granted, 
 use port_io::{Fate, Store, Weather};
 use stamp_base::{NodeNo, Stamp, Term};
 use std::marker::Model;
-pub use store_parts::{ExtendRefused, Grant, RenewRefused, TakeRefused};
+pub use system_parts::{ExtendRefused, Grant, RenewRefused, TakeRefused};
 
 /// The one record that says which node has the oracle. Each of its three steps is one store call.
 #[derive(Drop)]

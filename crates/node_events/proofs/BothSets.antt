@@ -1,15 +1,15 @@
 -- Where nothing stands against a commit, by the keys that were written and read, the instance decides as by the first alone.
 use Rattle.std.proofs.Common.{◌≡◌, ℕ, List, [], ◌∷◌, Some, refl}
-use Rattle.oracle_parts.specs.declared.instance.Held.{Held}
-use Rattle.oracle_parts.specs.declared.instance.Request.{Request}
-use Rattle.oracle_parts.specs.declared.instance.Request.TheVariants.{Begin, Commit}
-use Rattle.oracle_parts.specs.declared.instance.Progress.{Progress}
-use Rattle.oracle_parts.specs.declared.instance.Progress.TheVariants.{Asked, Accepted, Drawn, Settled, Handed}
-use Rattle.oracle_parts.specs.declared.buckets.Verdict.{Verdict}
-use Rattle.oracle_parts.specs.declared.buckets.Verdict.TheVariants.{Free, Conflict, Hidden}
-use Rattle.oracle_parts.specs.Buckets.{Bucket, verdict, first_refusal, verdict_both}
-use Rattle.oracle_parts.specs.Instance.{InstanceEntry, held_of}
-use Rattle.oracle_parts.specs.InstanceSteps.{instance_decide, request_verdict}
+use Rattle.system_parts.specs.declared.instance.Held.{Held}
+use Rattle.system_parts.specs.declared.instance.Request.{Request}
+use Rattle.system_parts.specs.declared.instance.Request.TheVariants.{Begin, Commit}
+use Rattle.system_parts.specs.declared.instance.Progress.{Progress}
+use Rattle.system_parts.specs.declared.instance.Progress.TheVariants.{Asked, Accepted, Drawn, Settled, Handed}
+use Rattle.system_parts.specs.declared.buckets.Verdict.{Verdict}
+use Rattle.system_parts.specs.declared.buckets.Verdict.TheVariants.{Free, Conflict, Hidden}
+use Rattle.system_parts.specs.Buckets.{Bucket, verdict, first_refusal, verdict_both}
+use Rattle.system_parts.specs.Instance.{InstanceEntry, held_of}
+use Rattle.system_parts.specs.InstanceSteps.{instance_decide, request_verdict}
 use Rattle.machine.specs.Events.Decide.{both_verdict, decide_both}
 use Rattle.node_events.specs.Against.{verdict_against}
 

@@ -3,7 +3,7 @@ use Rattle.std.proofs.Common.{◌≡◌, refl, [], ◌∷◌, Option, None, Some
 use Rattle.port_io.specs.declared.weather.Fate.{Fate}
 use Rattle.port_io.specs.declared.weather.Fate.TheVariants.{Works, FailsUnchanged, FailsApplied}
 use Rattle.history_book.specs.declared.item.Item.{Item}
-use Rattle.store_parts.specs.Record.{unless_some}
+use Rattle.system_parts.specs.Record.{unless_some}
 use Rattle.machine.specs.Effect.{kept_items}
 use Rattle.event_parts.specs.Kept.{kept_if}
 

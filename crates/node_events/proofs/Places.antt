@@ -7,7 +7,7 @@ use Rattle.std.specs.FinSet as set
 use Rattle.std.specs.FinSet.{contains-insert, contains-remove}
 use Rattle.std.specs.Cmp.{nat_cmp_total}
 use Rattle.std.proofs.lemmas.Bool.Decides.{nat_tests}
-use Rattle.store_parts.specs.Pairs.{Places}
+use Rattle.system_parts.specs.Pairs.{Places}
 use Rattle.commit_table.specs.Seen.{SeenTable}
 use Rattle.node_events.specs.Reserved.{KeepPlaces}
 

@@ -1,16 +1,16 @@
 -- Where a session waits for its request, it waits for the reply that the request gets.
 use Rattle.std.proofs.Common.{◌≡◌, ℕ, Option, None, Some, List, ◌++◌, Result, Ok, refl, arith}
-use Rattle.client_parts.specs.SessionSteps.{SessionEntry}
-use Rattle.oracle_parts.specs.declared.instance.Held.{Held}
-use Rattle.oracle_parts.specs.declared.instance.Progress.{Progress}
-use Rattle.oracle_parts.specs.declared.instance.Progress.TheVariants.{Asked, Accepted, Drawn, Settled, Handed}
-use Rattle.oracle_parts.specs.declared.instance.Reply.{Reply}
-use Rattle.oracle_parts.specs.declared.instance.Reply.TheVariants as reply
-use Rattle.oracle_parts.specs.declared.instance.Request.{Request}
-use Rattle.oracle_parts.specs.declared.instance.Request.TheVariants.{Begin, Commit}
-use Rattle.oracle_parts.specs.declared.instance.Settled.TheVariants as how
-use Rattle.oracle_parts.specs.Instance.{InstanceEntry, held_of, stamps_by, stamps_of_held, stamps_at, least_unsettled}
-use Rattle.oracle_parts.specs.InstanceSteps.{instance_answer, answer_begin, answer_if_ready, answer_held}
+use Rattle.system_parts.specs.SessionSteps.{SessionEntry}
+use Rattle.system_parts.specs.declared.instance.Held.{Held}
+use Rattle.system_parts.specs.declared.instance.Progress.{Progress}
+use Rattle.system_parts.specs.declared.instance.Progress.TheVariants.{Asked, Accepted, Drawn, Settled, Handed}
+use Rattle.system_parts.specs.declared.instance.Reply.{Reply}
+use Rattle.system_parts.specs.declared.instance.Reply.TheVariants as reply
+use Rattle.system_parts.specs.declared.instance.Request.{Request}
+use Rattle.system_parts.specs.declared.instance.Request.TheVariants.{Begin, Commit}
+use Rattle.system_parts.specs.declared.instance.Settled.TheVariants as how
+use Rattle.system_parts.specs.Instance.{InstanceEntry, held_of, stamps_by, stamps_of_held, stamps_at, least_unsettled}
+use Rattle.system_parts.specs.InstanceSteps.{instance_answer, answer_begin, answer_if_ready, answer_held}
 use Rattle.history_book.specs.declared.item.Item.{Item}
 use Rattle.machine.specs.State.{Client}
 use Rattle.machine.specs.Effect.{refused}

@@ -1,7 +1,7 @@
 // A node accepts a session's request, and reserves what the request needs from then on.
 ghost use Rattle.std.specs.Prelude.{◌≡◌, ◌≤◌, Some, OnOk, is_ok};
-ghost use Rattle.oracle_parts.specs.Instance.{held_of};
-ghost use Rattle.oracle_parts.specs.InstanceSteps.{instance_accept};
+ghost use Rattle.system_parts.specs.Instance.{held_of};
+ghost use Rattle.system_parts.specs.InstanceSteps.{instance_accept};
 ghost use Rattle.machine.specs.Events.Accept.{accept_on, accept_request, accept_by};
 ghost use Rattle.event_parts.specs.Made.{Makes};
 ghost use Rattle.event_parts.specs.Served.{held_at};
@@ -12,8 +12,8 @@ use commit_table::Table;
 use event_parts::{Client, Stopped, ledger};
 use history_book::{Actor, Book, Cause, Item};
 use oracle_core::Instance;
-use oracle_parts::Request;
 use stamp_base::{NoMemory, NodeNo, SessionNo};
+use system_parts::Request;
 use takeover_core::Post;
 
 /// How many items a request may append once it was accepted: a commit NoStamp, Draw, Placed, a fault and its answer.

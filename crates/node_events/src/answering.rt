@@ -1,7 +1,7 @@
 // A node answers a session's request.
 ghost use Rattle.std.specs.Prelude.{◌≡◌, ◌+◌, ◌≤◌, ◌++◌, length, Some};
-ghost use Rattle.oracle_parts.specs.Instance.{held_of, stamps_at};
-ghost use Rattle.oracle_parts.specs.InstanceSteps.{instance_answer};
+ghost use Rattle.system_parts.specs.Instance.{held_of, stamps_at};
+ghost use Rattle.system_parts.specs.InstanceSteps.{instance_answer};
 ghost use Rattle.machine.specs.Events.Answer.{answer_on, answer_request, answer_by};
 ghost use Rattle.event_parts.specs.Made.{Makes, ended};
 ghost use Rattle.event_parts.specs.Served.{held_at, is_to_answer, HasRoomIf, SpendsIf, NeverLacks, NeverLacksIf};
@@ -12,8 +12,8 @@ ghost use Rattle.node_events.specs.Ready.{ready_start};
 use event_parts::{Client, Stopped, ledger};
 use history_book::{Actor, Book, Cause, Item, StoreStep};
 use oracle_core::Instance;
-use oracle_parts::{Held, Progress, Reply, Request};
 use stamp_base::{NodeNo, SessionNo, Stamp};
+use system_parts::{Held, Progress, Reply, Request};
 use takeover_core::Post;
 
 /// The node answers the session's request, which ends it: refused as NoOracle, then as NoRequest unless it is a begin that was

@@ -1,17 +1,16 @@
 // A node's instance ends, with all requests that it holds.
 ghost use Rattle.std.specs.Prelude.{◌≡◌, ℕ, ◌+◌, ◌≤◌, ◌++◌, ◌∷◌, slice_get, Some};
-ghost use Rattle.oracle_parts.specs.Instance.{held_of};
+ghost use Rattle.system_parts.specs.Instance.{held_of};
 ghost use Rattle.machine.specs.State as state;
 ghost use Rattle.machine.specs.Events.Crash.{crash_on, crashed_clients, all_crashed_items, crashed_client, crashed_items, after_loss, loss_items};
 ghost use Rattle.event_parts.specs.Made.{Makes};
 ghost use Rattle.event_parts.specs.Waiting.{Waits, WaitsFor, WaitsAt};
 
-use client_parts::State;
 use event_parts::{Client, Stopped, ledger};
 use history_book::{Actor, Book, Cause, Item};
 use oracle_core::Instance;
-use oracle_parts::{Held, Request};
 use stamp_base::{NodeNo, SessionNo, Term};
+use system_parts::{Held, Request, State};
 use takeover_core::Post;
 
 /// The node's instance ends, and its requests are lost: refused as NoOracle where it has none. In the order of the sessions,

@@ -1,7 +1,7 @@
 // A node decides a session's request.
 ghost use Rattle.std.specs.Prelude.{◌≡◌, ◌+◌, ◌≤◌, length, Some};
-ghost use Rattle.oracle_parts.specs.Instance.{held_of};
-ghost use Rattle.oracle_parts.specs.InstanceLaws.{stamp_of};
+ghost use Rattle.system_parts.specs.Instance.{held_of};
+ghost use Rattle.system_parts.specs.InstanceLaws.{stamp_of};
 ghost use Rattle.machine.specs.Events.Decide.{decide_on, decide_request, decide_by, decide_both as both_decided, draw_item as draw_item_of};
 ghost use Rattle.event_parts.specs.Made.{Makes};
 ghost use Rattle.event_parts.specs.Served.{held_at, decides_at, is_to_decide, HasRoomIf, SpendsIf, NeverLacks, NeverLacksIf};
@@ -11,9 +11,9 @@ ghost use Rattle.node_events.specs.Against.{verdict_against};
 use event_parts::{Client, Stopped, ledger};
 use history_book::{Actor, Book, Cause, Item};
 use oracle_core::Instance;
-use oracle_parts::{Decided, Held, Progress, Request, Verdict};
 use read_sets::{ReadSet, check_both};
 use stamp_base::{NodeNo, SessionNo, Stamp, Term};
+use system_parts::{Decided, Held, Progress, Request, Verdict};
 use takeover_core::Post;
 
 /// The node draws the stamp of the session's request: refused as NoOracle, then as NoRequest unless it was accepted, then as

@@ -13,7 +13,7 @@ use master_record::Master;
 use oracle_core::Instance;
 use port_io::{Fate, OneFate, Weather};
 use stamp_base::{NodeNo, Store, Term};
-use store_parts::ExtendRefused;
+use system_parts::ExtendRefused;
 use takeover_core::Post;
 
 /// The node's instance may draw one range more: refused as NoOracle where it has no instance, then as Replaced or Spent as

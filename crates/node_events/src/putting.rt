@@ -1,8 +1,8 @@
 // A node places the record of a session's commit.
 ghost use Rattle.std.specs.Prelude.{◌≡◌, ◌+◌, ◌≤◌, length, Some, IsTrue};
 ghost use Rattle.std.specs.FinSet as set;
-ghost use Rattle.oracle_parts.specs.Instance.{held_of};
-ghost use Rattle.oracle_parts.specs.InstanceSteps.{instance_settle};
+ghost use Rattle.system_parts.specs.Instance.{held_of};
+ghost use Rattle.system_parts.specs.InstanceSteps.{instance_settle};
 ghost use Rattle.machine.specs.Events.Put.{put_on, put_commit, put_asks, commit_asks, to_place as to_place_of};
 ghost use Rattle.event_parts.specs.Made.{Makes, Asks};
 ghost use Rattle.event_parts.specs.Served.{held_at, is_to_put, HasRoomIf, HasPlaceFor, SpendsIf, NeverLacks, NeverLacksIf, places_after};
@@ -11,9 +11,9 @@ use commit_table::{Put, StoreFault, Table};
 use event_parts::{Stopped, ledger};
 use history_book::{Actor, Book, Cause, Item, StoreStep};
 use oracle_core::Instance;
-use oracle_parts::{Held, Progress, Request, Settled};
 use port_io::Weather;
 use stamp_base::{Mark, NodeNo, SessionNo, Stamp, Store};
+use system_parts::{Held, Progress, Request, Settled};
 use takeover_core::Post;
 
 /// The node places the record of the session's commit, unless a mark stands in its place: refused as NoOracle, then as

@@ -1,7 +1,7 @@
 // A node renews its lease.
 ghost use Rattle.std.specs.Prelude.{◌≡◌, ◌≤◌, ◌^◌, ◌∷◌, ◌++◌, [], Err, Some};
 ghost use Rattle.stamp_base.specs.SetupNumbers.{SetupNumbers};
-ghost use Rattle.oracle_parts.specs.InstanceSteps.{IsStop, instance_stopped};
+ghost use Rattle.system_parts.specs.InstanceSteps.{IsStop, instance_stopped};
 ghost use Rattle.machine.specs.Events.Take.{rules_of};
 ghost use Rattle.machine.specs.Events.Renew.{renew_on, renew_at, renew_asks};
 ghost use Rattle.event_parts.specs.Made.{Makes, Asks};
@@ -13,7 +13,7 @@ use master_record::Master;
 use oracle_core::Instance;
 use port_io::{Fate, OneFate, Weather};
 use stamp_base::{NodeNo, Store, Term};
-use store_parts::RenewRefused;
+use system_parts::RenewRefused;
 use takeover_core::Post;
 
 /// The node's lease lasts to the reading and the lease's length: refused as NoOracle where it has no instance, then as

@@ -13,7 +13,7 @@ use oracle_core::Instance;
 use port_io::{Fate, OneFate, Weather};
 use stamp_base::{NoMemory, NodeNo, Setup, Store};
 use std::alloc::Global;
-use store_parts::{Grant, TakeRefused};
+use system_parts::{Grant, TakeRefused};
 use takeover_core::Post;
 
 /// The node takes the record, where it has no instance: refused as Holding where it has one, then as Early or Spent as the

@@ -3,7 +3,7 @@
 #![tactic(auto)]
 
 use std::io;
-use worked_calls::answer_of;
+use worked_rows::answer_of;
 
 /// A commit and a reader, in file order.
 const REPLAYED: &str = "\

@@ -8,8 +8,8 @@ use Rattle.trace_rules.specs.Stamping.{Stampable}
 use Rattle.trace_rules.specs.Trace.{Trace}
 use Rattle.trace_rules.specs.Wants.{no_wants}
 use Rattle.trace_judge.specs.Verdicts.{NoStamps}
-use Rattle.trace_names.specs.declared.step.Step.{Step}
-use Rattle.trace_names.specs.Names.{anomaly_name, name_of}
+use Rattle.trace_report.specs.declared.step.Step.{Step}
+use Rattle.trace_report.specs.Names.{anomaly_name, name_of}
 use Rattle.trace_report.specs.Cycle.{cycle_text}
 use Rattle.trace_reading.specs.declared.want.Want.{Want}
 use Rattle.trace_reading.specs.FaultText.{fault_text}

@@ -16,9 +16,9 @@ use Rattle.trace_index.specs.declared.attempts.Attempt.{Attempt}
 use Rattle.trace_index.specs.Attempts.{attempts_of}
 use Rattle.trace_index.specs.Index.{IsIndexOf, operations_in}
 use Rattle.trace_index.specs.Versions.{Blame}
-use Rattle.trace_names.specs.declared.step.Step.{Step}
-use Rattle.trace_names.specs.Names.{anomaly_name, name_of}
-use Rattle.trace_names.specs.Wrongs.{wrong_at, wrong_name}
+use Rattle.trace_report.specs.declared.step.Step.{Step}
+use Rattle.trace_report.specs.Names.{anomaly_name, name_of}
+use Rattle.trace_report.specs.Wrongs.{wrong_at, wrong_name}
 use Rattle.trace_report.specs.Cycle.{cycle_text}
 use Rattle.trace_report.specs.Verdict.{holds_text, refused_text, unclear_text, wrong_read_text}
 use Rattle.omid_check_top.specs.declared.limit.TheConstants.{TRACE_LIMIT}

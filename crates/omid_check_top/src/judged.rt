@@ -12,9 +12,8 @@ use stamp_base::NoMemory;
 use std::alloc::Global;
 use trace_index::Indexed;
 use trace_judge::{Verdict, judge};
-use trace_names::{name_of, wrong_at};
 use trace_reading::{Recording, push_words};
-use trace_report::{push_cycle, push_holds, push_refused, push_wrong_read};
+use trace_report::{name_of, push_cycle, push_holds, push_refused, push_wrong_read, wrong_at};
 use trace_rules::{Level, Operation, Wanted};
 
 /// What is said of the trace.

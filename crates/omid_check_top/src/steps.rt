@@ -2,7 +2,7 @@
 use rising_numbers::Edge;
 use stamp_base::NoMemory;
 use std::alloc::Global;
-use trace_names::{Step, Way};
+use trace_report::{Step, Way};
 use trace_rules::{Level, Operation, Trace};
 
 /// The steps of a cycle of edges between points, which are numbered as the judge numbers them: starts by transaction and behind

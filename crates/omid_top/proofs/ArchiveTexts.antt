@@ -6,11 +6,11 @@ use Rattle.history_book.specs.Isolation.{Visible}
 use Rattle.history_book.specs.declared.item.Found.{Found}
 use Rattle.history_book.specs.declared.item.Item.{Item}
 use Rattle.isolation_rules.proofs.ReadLemmas.{visible_once}
-use Rattle.store_parts.specs.Rows.{Row, AreOrdered}
-use Rattle.store_parts.specs.Pairs.{Pairs}
+use Rattle.system_parts.specs.Rows.{Row, AreOrdered}
+use Rattle.system_parts.specs.Pairs.{Pairs}
 use Rattle.machine.specs.State.{State}
 use Rattle.script_data.specs.Data.{ScriptData}
-use Rattle.line_steps.specs.Runs.{script_played, replayed}
+use Rattle.command_semantics.specs.Runs.{script_played, replayed}
 use Rattle.cell_compaction.specs.Archives.{answer_of}
 use Rattle.cell_compaction.specs.Rest.{StandsAtRest, read_from, snapshot, compacted}
 use Rattle.cell_compaction.specs.Laws.{SnapshotsAreVisible, CompactionKeepsSnapshots}

@@ -5,8 +5,8 @@ use Rattle.std.proofs.lemmas.Bool.{lt-ltb}
 use Rattle.stamp_base.specs.declared.limits.TheConstants.{BYTE_LIMIT}
 use Rattle.history_book.specs.declared.item.Item.{Item}
 use Rattle.history_json.specs.History.{AreItems}
-use Rattle.script_lines.specs.declared.cause.ScriptCause.TheVariants.{TooLong}
-use Rattle.script_lines.specs.declared.mode.Mode.{Mode}
+use Rattle.session_script.specs.declared.cause.ScriptCause.TheVariants.{TooLong}
+use Rattle.session_script.specs.declared.mode.Mode.{Mode}
 use Rattle.session_script.specs.Script.{script_of}
 use Rattle.omid_top.specs.Audit.{IsVerdict, IsFairTo}
 use Rattle.omid_top.specs.declared.standard.Standard.{Standard}

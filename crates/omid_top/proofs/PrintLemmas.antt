@@ -8,7 +8,7 @@ use Rattle.std.proofs.lemmas.List.{take-append-drop, take-append-le, take_more, 
 use Rattle.std.proofs.lemmas.List.Concat.{flat_map-append}
 use Rattle.history_book.specs.declared.item.Item.{Item}
 use Rattle.port_io.specs.Ports.{Gains}
-use Rattle.script_lines.specs.declared.mode.Mode.TheVariants.{Replay}
+use Rattle.session_script.specs.declared.mode.Mode.TheVariants.{Replay}
 use Rattle.session_script.specs.Script.{script_of}
 use Rattle.omid_top.specs.Promise.{GainsFront, GainsLines, history_of}
 

@@ -6,16 +6,16 @@ use Rattle.history_book.specs.Isolation.{Isolated}
 use Rattle.cause_rules.specs.Explained.{Explained}
 use Rattle.cause_rules.specs.Strict.{SerialIfStrict}
 use Rattle.script_data.specs.Data.{ScriptData}
-use Rattle.script_lines.specs.declared.cause.ScriptCause.{ScriptCause}
+use Rattle.session_script.specs.declared.cause.ScriptCause.{ScriptCause}
 use Rattle.session_script.specs.declared.fault.ScriptFault.{ScriptFault}
 use Rattle.session_script.specs.declared.fault.ScriptFault.TheVariants.{At}
 use Rattle.session_script.specs.Script.{BadLine, ReadsScript}
-use Rattle.line_steps.specs.Answers.{Answers}
-use Rattle.line_steps.specs.Planned.{Planned}
-use Rattle.line_steps.specs.Runs.{replayed}
+use Rattle.command_semantics.specs.Answers.{Answers}
+use Rattle.command_semantics.specs.Planned.{Planned}
+use Rattle.command_semantics.specs.Runs.{replayed}
 use Rattle.stamp_base.specs.SetupNumbers.{SetupNumbers}
 use Rattle.cluster_core.specs.Whole.{Whole}
-use Rattle.seat_lines.specs.Served.{Served}
+use Rattle.log_refinement.specs.Served.{Served}
 use Rattle.split_driver.specs.Splits.{SplitsTo}
 use Rattle.history_text.specs.Text.{printed}
 use Rattle.omid_top.specs.Promise.{KeepsPromise, KeepsSplit, WritesSplit}

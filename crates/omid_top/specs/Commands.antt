@@ -7,8 +7,8 @@ use Rattle.history_json.specs.History.{AreItems}
 use Rattle.history_json.specs.Json.{json_printed}
 use Rattle.history_text.specs.Summary.{summarized}
 use Rattle.session_script.specs.Script.{script_of}
-use Rattle.script_lines.specs.declared.mode.Mode.TheVariants.{Replay, Run, Split}
-use Rattle.line_steps.specs.Runs.{replayed}
+use Rattle.session_script.specs.declared.mode.Mode.TheVariants.{Replay, Run, Split}
+use Rattle.command_semantics.specs.Runs.{replayed}
 use Rattle.replay_driver.specs.Storm.{storm_data}
 use Rattle.omid_top.specs.Audit.{IsVerdict, Reported, ReportedFront, IsFairTo}
 use Rattle.omid_top.specs.Compaction.{KeepsCompaction, compact_text, compact_told}

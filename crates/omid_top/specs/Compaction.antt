@@ -8,9 +8,9 @@ use Rattle.history_text.specs.Words.{key_text}
 use Rattle.cell_compaction.specs.Rest.{snapshot, compacted}
 use Rattle.script_data.specs.Data.{ScriptData}
 use Rattle.session_script.specs.Script.{BadLine}
-use Rattle.line_steps.specs.Runs.{script_played, replayed}
-use Rattle.store_parts.specs.Rows.{Row}
-use Rattle.store_parts.specs.Pairs.{Pairs}
+use Rattle.command_semantics.specs.Runs.{script_played, replayed}
+use Rattle.system_parts.specs.Rows.{Row}
+use Rattle.system_parts.specs.Pairs.{Pairs}
 use Rattle.omid_top.specs.Promise.{KeepsPromise}
 use Rattle.omid_top.specs.Texts.{bad_line_text}
 

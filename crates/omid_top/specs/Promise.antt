@@ -8,13 +8,13 @@ use Rattle.cause_rules.specs.Strict.{SerialIfStrict}
 use Rattle.port_io.specs.Ports.{Gains}
 use Rattle.script_data.specs.Data.{ScriptData}
 use Rattle.session_script.specs.Script.{BadLine}
-use Rattle.line_steps.specs.Runs.{replayed}
-use Rattle.line_steps.specs.Answers.{Answers}
-use Rattle.line_steps.specs.Planned.{Planned}
+use Rattle.command_semantics.specs.Runs.{replayed}
+use Rattle.command_semantics.specs.Answers.{Answers}
+use Rattle.command_semantics.specs.Planned.{Planned}
 use Rattle.turn_rules.specs.declared.turn.Turn.{Turn}
 use Rattle.cluster_core.specs.Whole.{Whole}
 use Rattle.run_driver.specs.Runs.{RunsTo}
-use Rattle.seat_lines.specs.Served.{Served}
+use Rattle.log_refinement.specs.Served.{Served}
 use Rattle.split_driver.specs.Splits.{SplitsTo, TearsAt}
 use Rattle.history_text.specs.Text.{printed}
 use Rattle.omid_top.specs.Texts.{bad_line_text, spent_text, torn_text}

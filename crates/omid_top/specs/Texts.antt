@@ -5,10 +5,10 @@ use Rattle.history_book.specs.declared.item.Item.{Item}
 use Rattle.history_text.specs.Summary.{summarized}
 use Rattle.history_text.specs.Text.{body_of, printed}
 use Rattle.history_json.specs.Json.{json_printed}
-use Rattle.script_lines.specs.Causes.{cause_text}
+use Rattle.session_script.specs.Causes.{cause_text}
 use Rattle.script_data.specs.Data.{ScriptData}
 use Rattle.session_script.specs.Script.{BadLine}
-use Rattle.line_steps.specs.Runs.{replayed}
+use Rattle.command_semantics.specs.Runs.{replayed}
 use Rattle.omid_top.specs.declared.form.Form.{Form}
 use Rattle.omid_top.specs.declared.form.Form.TheVariants as form
 use Rattle.omid_top.specs.declared.words.Command.{Command}

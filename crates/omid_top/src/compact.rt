@@ -3,7 +3,7 @@ ghost use Rattle.std.specs.Prelude.{◌≡◌, ◌≢◌, ◌≤◌, ◌⊎◌, 
 ghost use Rattle.stamp_base.specs.declared.limits.TheConstants.{LINE_LIMIT};
 ghost use Rattle.port_io.specs.Ports.{Risen, Gains};
 ghost use Rattle.session_script.specs.Script.{script_of, data_of};
-ghost use Rattle.script_lines.specs.declared.mode.Mode.TheVariants.{Replay};
+ghost use Rattle.session_script.specs.declared.mode.Mode.TheVariants.{Replay};
 ghost use Rattle.omid_top.specs.Commands.{Compacts};
 ghost use Rattle.omid_top.specs.Compaction.{KeepsCompaction, compact_text, compact_told};
 ghost use Rattle.omid_top.specs.Promise.{GainsFront};

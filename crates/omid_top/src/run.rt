@@ -3,7 +3,7 @@ ghost use Rattle.std.specs.Prelude.{◌≡◌, ◌≢◌, ◌≤◌, ◌⊎◌, 
 ghost use Rattle.stamp_base.specs.declared.limits.TheConstants.{LINE_LIMIT};
 ghost use Rattle.port_io.specs.Ports.{Risen, Gains};
 ghost use Rattle.session_script.specs.Script.{script_of, data_of};
-ghost use Rattle.script_lines.specs.declared.mode.Mode.TheVariants.{Run};
+ghost use Rattle.session_script.specs.declared.mode.Mode.TheVariants.{Run};
 ghost use Rattle.turn_rules.specs.Told.{AreForThreads};
 ghost use Rattle.omid_top.specs.Commands.{Runs};
 ghost use Rattle.omid_top.specs.Promise.{GainsFront, WritesRun, IsCutRun};

@@ -1,2 +1,2 @@
-pub use Rattle.oracle_parts.specs.Instance
-pub use Rattle.oracle_parts.specs.InstanceSteps
+pub use Rattle.system_parts.specs.Instance
+pub use Rattle.system_parts.specs.InstanceSteps

@@ -1,18 +1,17 @@
 ghost use Rattle.std.specs.Prelude.{◌≡◌, ◌≤◌, ◌^◌, ℕ, List, IfOk, IfSome, Ok, None, Some, is_ok, length};
 ghost use Rattle.stamp_base.specs.Ranges.{IsStampRange};
-ghost use Rattle.oracle_parts.specs.Instance as entry;
-ghost use Rattle.oracle_parts.specs.InstanceSteps as step;
+ghost use Rattle.system_parts.specs.Instance as entry;
+ghost use Rattle.system_parts.specs.InstanceSteps as step;
 
 use crate::requests;
 use conflict_buckets::Buckets;
 use epoch_clock::Range;
 use history_book::Cause;
 use lease_keeper::Lease;
-use oracle_parts::{Decided, Held, Place, Progress, Reply, Request, Settled, Verdict};
 use stamp_base::{NoMemory, NodeNo, SessionNo, Setup, Stamp, Term};
 use std::alloc::Global;
 use std::marker::Model;
-use store_parts::Grant;
+use system_parts::{Decided, Grant, Held, Place, Progress, Reply, Request, Settled, Verdict};
 
 /// One oracle, made by one grant of the master record. A request goes from place to place by `ask`, `accept`,
 /// `decide`, for a commit that it places itself `settle`, and `answer`.
@@ -35,7 +34,7 @@ pub struct Instance {
 
 impl Model for Instance {
     ghost use Rattle.std.specs.Prelude.{◌≡◌, vec_len};
-    ghost use Rattle.oracle_parts.specs.Instance.{InstanceEntry};
+    ghost use Rattle.system_parts.specs.Instance.{InstanceEntry};
 
     ghost Value = { InstanceEntry };
 
@@ -421,7 +420,7 @@ impl Instance {
     }
 
     /// The stamp was drawn for the request. The keys of a commit are recorded with it.
-    #[tactic(auto, unfolding(oracle_parts::specs::Buckets::record_pairs))]
+    #[tactic(auto, unfolding(system_parts::specs::Buckets::record_pairs))]
     fn decide_drawn(&mut self, session: SessionNo, stamp: Stamp) -> Decided
         requires { self.old.last ≡ stamp }
         ensures left { IfSome (entry.held_of self.old session) (λ held. self.new ≡ (step.decide_drawn self.old session held stamp).left) }

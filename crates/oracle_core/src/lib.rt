@@ -5,4 +5,4 @@ mod instance;
 mod requests;
 
 pub use instance::Instance;
-pub use oracle_parts::{Decided, Held, Place, Reply, Request, Settled};
+pub use system_parts::{Decided, Held, Place, Reply, Request, Settled};

@@ -1,10 +1,10 @@
 // What is read off the requests that an instance holds.
 ghost use Rattle.std.specs.Prelude.{◌≡◌, ℕ, List};
-ghost use Rattle.oracle_parts.specs.Instance as entry;
-ghost use Rattle.oracle_parts.specs.InstanceSteps as step;
+ghost use Rattle.system_parts.specs.Instance as entry;
+ghost use Rattle.system_parts.specs.InstanceSteps as step;
 
-use oracle_parts::{Held, Place, Progress, Request};
 use stamp_base::{SessionNo, Stamp};
+use system_parts::{Held, Place, Progress, Request};
 
 pub fn session_of(request: &Request) -> SessionNo
     ensures { result ≡ entry.session_of request.now }
@@ -125,7 +125,7 @@ pub fn unsettled_of(held: &Option<Held>) -> Option<Stamp>
 }
 
 /// The least commit below a start that was drawn and that the oracle is to place.
-#[tactic(auto, unfolding(oracle_parts::specs::Instance::least_unsettled))]
+#[tactic(auto, unfolding(system_parts::specs::Instance::least_unsettled))]
 pub fn least_unsettled(requests: &[Option<Held>], start: Stamp) -> Option<Stamp>
     ensures { result ≡ entry.least_unsettled requests.now start }
 {

@@ -10,7 +10,7 @@ use Rattle.machine.specs.State.{State}
 use Rattle.machine.specs.Machine.{Step, asks, stepped}
 use Rattle.event_parts.specs.Made.{fate_ahead, AsksOf}
 use Rattle.script_data.specs.Data.{ScriptData}
-use Rattle.line_steps.specs.Runs.{Calls, Played, calls_on, one_more, calls_after, clock_after, fate_by, step_of, played}
+use Rattle.command_semantics.specs.Runs.{Calls, Played, calls_on, one_more, calls_after, clock_after, fate_by, step_of, played}
 use Rattle.cluster_core.specs.Whole.{Whole, step_under}
 use Rattle.planned_cluster.specs.Standing.{StandsAt}
 

@@ -1,13 +1,13 @@
--- For turn_engine and replay_driver.
+-- For run_board and replay_driver.
 -- The clocks that a cluster has where a script was played are those of what was played.
 use Rattle.std.proofs.Common.{◌≡◌, ℕ, List, ap, ◌∙◌}
 use Rattle.stamp_base.specs.declared.stores.Store.{Store}
 use Rattle.port_io.specs.declared.weather.Fate.{Fate}
 use Rattle.history_book.specs.declared.item.Item.{Item}
 use Rattle.script_data.specs.Data.{ScriptData}
-use Rattle.line_steps.specs.Clocks.{clocks}
-use Rattle.line_steps.specs.Master.{last_master}
-use Rattle.line_steps.specs.Runs.{Played, clocks_of}
+use Rattle.command_semantics.specs.Clocks.{clocks}
+use Rattle.command_semantics.specs.Master.{last_master}
+use Rattle.command_semantics.specs.Runs.{Played, clocks_of}
 use Rattle.cluster_core.specs.Whole.{Whole}
 use Rattle.planned_cluster.specs.Standing.{StandsAt, clocks_at}
 

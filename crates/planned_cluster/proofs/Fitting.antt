@@ -1,4 +1,4 @@
--- For replay_driver, turn_engine, run_board and split_driver too.
+-- For replay_driver, run_board and split_driver too.
 -- The lines of a script that was read name actors and nodes of the system.
 use Rattle.std.proofs.Common.{◌≡◌, ℕ, suc, ◌+◌, ◌<◌, ◌≤◌, List, [], ◌∷◌, length, get_or, All, arith, subst}
 use borrow.Author.Count.{below_more}
@@ -12,7 +12,7 @@ use Rattle.script_data.specs.declared.line.Target.TheVariants as targets
 use Rattle.script_data.specs.declared.line.Verb.{Verb}
 use Rattle.script_data.specs.declared.line.Verb.TheVariants as verbs
 use Rattle.script_data.specs.Sound.{LineIsSound, actor_needs, verb_needs}
-use Rattle.line_steps.specs.Laws.{ActorFits, VerbFits, AreLinesOf}
+use Rattle.command_semantics.specs.Laws.{ActorFits, VerbFits, AreLinesOf}
 use Rattle.planned_cluster.specs.Fitting.{SessionIsThere}
 
 -- sessions of all lines are there

@@ -14,7 +14,7 @@ use Rattle.event_parts.specs.Made.{Asks}
 use Rattle.event_parts.specs.declared.stopped.Stopped.{Stopped}
 use Rattle.event_parts.specs.declared.stopped.Stopped.TheVariants.{Refused, StoreFault, NoMemory}
 use Rattle.script_data.specs.Data.{ScriptData}
-use Rattle.line_steps.specs.Runs.{Played, calls_on, step_of}
+use Rattle.command_semantics.specs.Runs.{Played, calls_on, step_of}
 use Rattle.cluster_core.specs.Whole.{Whole, MakesStep, step_under}
 use Rattle.planned_cluster.specs.Standing.{StandsAt, OpensFor, PlaysOn, clock_made}
 use Rattle.planned_cluster.proofs.Ahead.{moves_on, step_planned, stands_on}

@@ -1,4 +1,4 @@
--- For replay_driver, split_stores, turn_engine, run_board and split_driver too.
+-- For replay_driver, split_stores, run_board and split_driver too.
 -- A script that was read can be played: no clock is ahead by more than the skew, and its ticks are few.
 use Rattle.std.proofs.Common.{ℕ, zero, suc, ◌*◌, ◌≤◌, List, [], ◌∷◌, length, All, arith}
 use Rattle.std.proofs.lemmas.List.Elements.{All-head, All-tail}
@@ -7,7 +7,7 @@ use Rattle.script_data.specs.declared.line.Line.{Line}
 use Rattle.script_data.specs.Data.{ScriptData, IsSound}
 use Rattle.script_data.specs.Sound.{LineIsSound}
 use Rattle.script_data.specs.Ticks.{ticks_of}
-use Rattle.line_steps.specs.Laws.{IsPlayable}
+use Rattle.command_semantics.specs.Laws.{IsPlayable}
 
 ticks_are_few : (nodes : ℕ) (lines : List Line) → All (LineIsSound nodes) lines → ticks_of lines ≤ length lines * 1000000
 unfolding ticks_of

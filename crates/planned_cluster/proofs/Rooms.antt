@@ -1,9 +1,9 @@
--- For replay_driver and turn_engine too.
+-- For replay_driver and run_board too.
 -- What the clocks come to fits.
 use Rattle.std.proofs.Common.{ℕ, ◌+◌, ◌<◌, ◌≤◌, ◌^◌, length, get_or, arith}
 use Rattle.std.proofs.lemmas.Grind.{get_or_default_zero}
 use Rattle.std.specs.List.{slice_index_or}
-use Rattle.line_steps.specs.Clocks.{TicksWithin, HaveRoom}
+use Rattle.command_semantics.specs.Clocks.{TicksWithin, HaveRoom}
 use Rattle.script_data.specs.Ticks.{tick_of}
 use Rattle.script_data.specs.declared.line.Verb.{Verb}
 use Rattle.script_data.specs.declared.line.Verb.TheVariants as verbs

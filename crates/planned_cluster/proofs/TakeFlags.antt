@@ -5,7 +5,7 @@ use Rattle.std.specs.List.{list_any}
 use Rattle.std.proofs.lemmas.Bool.Decides.{eqb_tells}
 use Rattle.std.proofs.lemmas.List.{get_or-set_same, get_or-set_other, get_or_read, length-set}
 use Rattle.history_book.specs.declared.item.Item.{Item}
-use Rattle.line_steps.specs.Master.{taken_by, is_node, takes, has_take}
+use Rattle.command_semantics.specs.Master.{taken_by, is_node, takes, has_take}
 use Rattle.planned_cluster.specs.Takes.{with_node, then_taken, nodes_taken}
 
 -- ---- flags

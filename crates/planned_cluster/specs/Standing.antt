@@ -9,10 +9,10 @@ use Rattle.machine.specs.Effect.{Stop, Refuses, Faults}
 use Rattle.event_parts.specs.declared.stopped.Stopped.{Stopped}
 use Rattle.event_parts.specs.declared.stopped.Stopped.TheVariants.{Refused, StoreFault, NoMemory}
 use Rattle.script_data.specs.Data.{ScriptData}
-use Rattle.line_steps.specs.Clocks.{clocks}
-use Rattle.line_steps.specs.Master.{last_master}
-use Rattle.line_steps.specs.Next.{Clocks}
-use Rattle.line_steps.specs.Runs.{Played, calls_on, clock_after, step_of, played, opening_played}
+use Rattle.command_semantics.specs.Clocks.{clocks}
+use Rattle.command_semantics.specs.Master.{last_master}
+use Rattle.command_semantics.specs.Next.{Clocks}
+use Rattle.command_semantics.specs.Runs.{Played, calls_on, clock_after, step_of, played, opening_played}
 use Rattle.cluster_core.specs.Whole.{Whole}
 
 -- cluster, clock and weather stand where the script was played so far: the fates ahead are the planned ones of the calls that

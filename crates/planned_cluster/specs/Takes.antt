@@ -1,7 +1,7 @@
 -- Which nodes have taken the master record, as lists that code keeps.
 use Rattle.std.specs.Prelude.{ℕ, Bool, true, false, List, fold, replicate, slice_set, Option, None, Some}
 use Rattle.history_book.specs.declared.item.Item.{Item}
-use Rattle.line_steps.specs.Master.{taken_by}
+use Rattle.command_semantics.specs.Master.{taken_by}
 
 -- the flag of the node is set
 abbrev pub with_node : List Bool → Option ℕ → List Bool

@@ -3,15 +3,15 @@ ghost use Rattle.stamp_base.specs.Setups.{numbers_of};
 ghost use Rattle.port_io.specs.Planned.{OneEach};
 ghost use Rattle.history_book.specs.declared.item.Actor.TheVariants.{Session};
 ghost use Rattle.machine.specs.Machine.{IsSteadyAt, reading_of};
-ghost use Rattle.line_steps.specs.Views.{view_of};
+ghost use Rattle.command_semantics.specs.Views.{view_of};
 ghost use Rattle.cluster_core.specs.Served.{LeavesRoom, NeverLacksIf, is_served};
 ghost use Rattle.planned_cluster.specs.Fitting.{SessionIsThere};
 ghost use Rattle.planned_cluster.specs.Standing.{OpensFor, PlaysOn, clock_made};
 
 use crate::watched::WatchedCluster;
 use cluster_core::Stopped;
+use command_semantics::View;
 use history_book::Actor;
-use line_steps::View;
 use machine::{Doing, Event};
 use port_io::{Fate, PlannedWeather, Weather};
 use stamp_base::{NoMemory, SessionNo, Setup, Store};

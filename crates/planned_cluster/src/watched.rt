@@ -9,7 +9,7 @@ ghost use Rattle.machine.specs.State.{opening};
 ghost use Rattle.machine.specs.Machine.{IsSteadyAt, reading_of, asks};
 ghost use Rattle.machine.specs.Readers as read;
 ghost use Rattle.event_parts.specs.Made.{Asks};
-ghost use Rattle.line_steps.specs.Master.{taken_by, last_master, has_take};
+ghost use Rattle.command_semantics.specs.Master.{taken_by, last_master, has_take};
 ghost use Rattle.cluster_core.specs.Served.{LeavesRoom, NeverLacksIf, is_served};
 ghost use Rattle.cluster_core.specs.Whole.{MakesStep, step_under};
 ghost use Rattle.planned_cluster.specs.Takes.{then_taken};
@@ -17,11 +17,11 @@ ghost use Rattle.planned_cluster.specs.Takes.{then_taken};
 use cluster_core::{Cluster, Stopped};
 use history_book::Item;
 use machine::{Doing, Event};
-use oracle_parts::Place;
 use port_io::Weather;
 use stamp_base::{NoMemory, NodeNo, SessionNo, Setup, Term};
 use std::alloc::Global;
 use std::marker::Model;
+use system_parts::Place;
 
 /// A cluster, the node that took the master record last, and for each node whether it has ever taken it. A take that failed but was
 /// applied counts, since its item stands in the history.
@@ -35,7 +35,7 @@ pub struct WatchedCluster {
 impl Model for WatchedCluster {
     ghost use Rattle.std.specs.Prelude.{◌≡◌};
     ghost use Rattle.cause_rules.specs.Since.{last_told};
-    ghost use Rattle.line_steps.specs.Master.{taken_by};
+    ghost use Rattle.command_semantics.specs.Master.{taken_by};
     ghost use Rattle.cluster_core.specs.Codes.{whole_code};
     ghost use Rattle.cluster_core.specs.Whole.{Whole};
     ghost use Rattle.planned_cluster.specs.Takes.{nodes_taken};

@@ -1,4 +1,4 @@
 pub mod Crossings
 pub mod Index
 pub use Rattle.history_book.specs.Serial.{Serial}
-pub use Rattle.oracle_parts.specs.Buckets.{verdict_both}
+pub use Rattle.system_parts.specs.Buckets.{verdict_both}

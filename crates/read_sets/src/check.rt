@@ -1,5 +1,5 @@
 ghost use Rattle.std.specs.Prelude.{◌≡◌};
-ghost use Rattle.oracle_parts.specs.Buckets as memory;
+ghost use Rattle.system_parts.specs.Buckets as memory;
 
 use crate::read_set::ReadSet;
 use conflict_buckets::{Buckets, Verdict};

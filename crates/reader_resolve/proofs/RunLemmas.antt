@@ -1,14 +1,14 @@
 -- A read that has a cell left is under way, and asks of it.
 use Rattle.std.proofs.Common.{◌≡◌, ℕ, zero, suc, ◌<◌, List, [], ◌∷◌, Option, Some, IsSome, IfSome, length, drop, slice_index_or, refl, ap, ◌∙◌, arith, length-drop}
-use Rattle.client_parts.specs.declared.asks.Ask.{Ask}
-use Rattle.store_parts.specs.declared.rows.Cell.{Cell}
-use Rattle.client_parts.specs.declared.resolve.SettlePoint.TheVariants.{Table}
-use Rattle.client_parts.specs.declared.resolve.SettlePoint.{SettlePoint}
-use Rattle.client_parts.specs.declared.resolve.Outcome.{Outcome}
-use Rattle.client_parts.specs.declared.resolve.Outcome.TheVariants.{Committed, Dead}
-use Rattle.client_parts.specs.declared.key_read.Next.TheVariants.{Recall}
-use Rattle.client_parts.specs.Resolve.{Settling, Decides, settle_ask}
-use Rattle.client_parts.specs.KeyRead.{Reading, next_ask, next_reached, read_by}
+use Rattle.system_parts.specs.declared.asks.Ask.{Ask}
+use Rattle.system_parts.specs.declared.rows.Cell.{Cell}
+use Rattle.system_parts.specs.declared.resolve.SettlePoint.TheVariants.{Table}
+use Rattle.system_parts.specs.declared.resolve.SettlePoint.{SettlePoint}
+use Rattle.system_parts.specs.declared.resolve.Outcome.{Outcome}
+use Rattle.system_parts.specs.declared.resolve.Outcome.TheVariants.{Committed, Dead}
+use Rattle.system_parts.specs.declared.key_read.Next.TheVariants.{Recall}
+use Rattle.system_parts.specs.Resolve.{Settling, Decides, settle_ask}
+use Rattle.system_parts.specs.KeyRead.{Reading, next_ask, next_reached, read_by}
 use Rattle.reader_resolve.specs.declared.turn.Reader.{Reader}
 use Rattle.reader_resolve.specs.Turns.{reading_at, resolving, asks_at, decided_of, Resolves}
 

@@ -1,11 +1,11 @@
 -- A cell that is decided and does not answer is passed over.
 use Rattle.std.proofs.Common.{◌≡◌, ℕ, zero, suc, ◌+◌, ◌<◌, nat_lt, false, List, [], ◌∷◌, length, drop, refl, sym, ap, ◌∙◌, add-one, arith}
 use Rattle.std.proofs.lemmas.Bool.{lt-leb}
-use Rattle.store_parts.specs.declared.rows.Cell.{Cell}
-use Rattle.client_parts.specs.declared.resolve.Outcome.{Outcome}
-use Rattle.client_parts.specs.declared.resolve.Outcome.TheVariants.{Committed, Dead}
-use Rattle.client_parts.specs.Resolve.{Decides}
-use Rattle.client_parts.specs.KeyRead.{LetsPass, read_over}
+use Rattle.system_parts.specs.declared.rows.Cell.{Cell}
+use Rattle.system_parts.specs.declared.resolve.Outcome.{Outcome}
+use Rattle.system_parts.specs.declared.resolve.Outcome.TheVariants.{Committed, Dead}
+use Rattle.system_parts.specs.Resolve.{Decides}
+use Rattle.system_parts.specs.KeyRead.{LetsPass, read_over}
 use Rattle.reader_resolve.specs.declared.turn.Reader.{Reader}
 use Rattle.reader_resolve.specs.Turns.{decided_of}
 

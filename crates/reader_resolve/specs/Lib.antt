@@ -1,4 +1,4 @@
 pub mod Runs
 pub mod Turns
-pub use Rattle.client_parts.specs.Asks
-pub use Rattle.client_parts.specs.KeyRead
+pub use Rattle.system_parts.specs.Asks
+pub use Rattle.system_parts.specs.KeyRead

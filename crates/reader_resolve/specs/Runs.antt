@@ -1,12 +1,12 @@
 -- A read under way as its callers see it.
 use Rattle.std.specs.Prelude.{ℕ, Bool, Option}
-use Rattle.client_parts.specs.declared.known.Known.{Known}
-use Rattle.client_parts.specs.declared.asks.Told.{Told}
-use Rattle.client_parts.specs.declared.key_read.Next.{Next}
-use Rattle.client_parts.specs.Resolve.{settle_turn}
-use Rattle.client_parts.specs.KeyRead.{Reading, ReadTurn, settling_of, read_told, reading_left, next_reached, next_turned, is_recall}
-use Rattle.client_parts.specs.Cache.{learnt_by}
-use Rattle.client_parts.specs.Recalled.{read_recalled, next_recalled}
+use Rattle.system_parts.specs.declared.known.Known.{Known}
+use Rattle.system_parts.specs.declared.asks.Told.{Told}
+use Rattle.system_parts.specs.declared.key_read.Next.{Next}
+use Rattle.system_parts.specs.Resolve.{settle_turn}
+use Rattle.system_parts.specs.KeyRead.{Reading, ReadTurn, settling_of, read_told, reading_left, next_reached, next_turned, is_recall}
+use Rattle.system_parts.specs.Cache.{learnt_by}
+use Rattle.system_parts.specs.Recalled.{read_recalled, next_recalled}
 
 -- the reading is none once there is an answer; a cell that was just come to is recalled; the last step decided so much for good
 pub record Run : Type 0 where

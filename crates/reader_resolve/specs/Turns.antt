@@ -1,11 +1,11 @@
 -- A turn of the code as the definitions see it.
 use Rattle.std.specs.Prelude.{◌≡◌, ◌<◌, List, [], ◌∷◌, Option, None, Some, length, drop}
-use Rattle.store_parts.specs.declared.rows.Cell.{Cell}
-use Rattle.client_parts.specs.declared.resolve.SettlePoint.{SettlePoint}
-use Rattle.client_parts.specs.declared.resolve.SettlePoint.TheVariants.{Table}
-use Rattle.client_parts.specs.declared.resolve.Outcome.{Outcome}
-use Rattle.client_parts.specs.Resolve.{Settling, Decides}
-use Rattle.client_parts.specs.KeyRead.{Reading, ReadTurn, Asks, Answers, may_mark, found_none, read_by}
+use Rattle.system_parts.specs.declared.rows.Cell.{Cell}
+use Rattle.system_parts.specs.declared.resolve.SettlePoint.{SettlePoint}
+use Rattle.system_parts.specs.declared.resolve.SettlePoint.TheVariants.{Table}
+use Rattle.system_parts.specs.declared.resolve.Outcome.{Outcome}
+use Rattle.system_parts.specs.Resolve.{Settling, Decides}
+use Rattle.system_parts.specs.KeyRead.{Reading, ReadTurn, Asks, Answers, may_mark, found_none, read_by}
 use Rattle.reader_resolve.specs.declared.turn.Reader.{Reader}
 use Rattle.reader_resolve.specs.declared.turn.Turn.{Turn}
 use Rattle.reader_resolve.specs.declared.turn.Turn.TheVariants.{Resolves as TurnResolves, Answers as TurnAnswers}

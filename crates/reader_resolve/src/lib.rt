@@ -5,6 +5,5 @@
 mod run;
 mod turn;
 
-pub use client_parts::{Answer, Next};
 pub use run::ReadRun;
-pub use store_parts::Cell;
+pub use system_parts::{Answer, Cell, Next};

@@ -1,17 +1,16 @@
 ghost use Rattle.std.specs.Prelude.{◌≡◌, true, false, None, IfSome, IsSome};
-ghost use Rattle.client_parts.specs.Asks.{FitsNext};
-ghost use Rattle.client_parts.specs.Sweep.{IsKeys};
-ghost use Rattle.client_parts.specs.Resolve.{Decides};
-ghost use Rattle.client_parts.specs.KeyRead.{AreFetched, read_over, read_by, next_reached, next_ask, is_recall};
-ghost use Rattle.client_parts.specs.Recalled.{next_recalled};
+ghost use Rattle.system_parts.specs.Asks.{FitsNext};
+ghost use Rattle.system_parts.specs.Sweep.{IsKeys};
+ghost use Rattle.system_parts.specs.Resolve.{Decides};
+ghost use Rattle.system_parts.specs.KeyRead.{AreFetched, read_over, read_by, next_reached, next_ask, is_recall};
+ghost use Rattle.system_parts.specs.Recalled.{next_recalled};
 ghost use Rattle.reader_resolve.specs.Runs.{run_reached, run_recalled, run_told, next_told};
 
 use crate::turn::{Reader, Turn, outcome_of};
-use client_parts::{Ask, Known, Next, Outcome, Told};
 use invalidator::Settle;
 use stamp_base::{KeyNo, Stamp, TxnId};
 use std::marker::Model;
-use store_parts::Cell;
+use system_parts::{Ask, Cell, Known, Next, Outcome, Told};
 
 /// A read of a key under way: no cell is left to it once it has its answer.
 #[derive(Debug, Drop)]

@@ -1,11 +1,10 @@
 ghost use Rattle.std.specs.Prelude.{◌≡◌, ◌<◌, ◌≤◌, drop, length};
-ghost use Rattle.client_parts.specs.KeyRead.{is_passed, after_passed, read_over, found_cell, found_by};
-ghost use Rattle.client_parts.specs.Recalled.{outcome_known};
+ghost use Rattle.system_parts.specs.KeyRead.{is_passed, after_passed, read_over, found_cell, found_by};
+ghost use Rattle.system_parts.specs.Recalled.{outcome_known};
 
-use client_parts::{Answer, Known, Outcome};
 use invalidator::Settle;
 use stamp_base::{KeyNo, Stamp};
-use store_parts::Cell;
+use system_parts::{Answer, Cell, Known, Outcome};
 
 /// Who reads what: a transaction by its start, with the epoch of its begin. It may mark every version, or those alone that are
 /// at most the epoch.
@@ -112,7 +111,7 @@ fn found(cell: &Cell) -> Answer
 }
 
 /// The place of the first cell from here on that is not passed over, or the number of cells.
-#[tactic(auto, unfolding(client_parts::specs::KeyRead::after_passed))]
+#[tactic(auto, unfolding(system_parts::specs::KeyRead::after_passed))]
 fn first_left(start: Stamp, cells: &[Cell], from: usize) -> usize
     requires { from ≤ length cells.now }
     ensures rest { drop result cells.now ≡ after_passed start (drop from cells.now) }

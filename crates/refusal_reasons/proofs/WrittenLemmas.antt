@@ -9,8 +9,8 @@ use Rattle.history_book.specs.Members.{◌∈◌}
 use Rattle.history_book.specs.declared.item.Item.{Item}
 use Rattle.history_book.specs.declared.item.Item.TheVariants as item
 use Rattle.history_book.proofs.MemberLemmas.{in_at}
-use Rattle.client_parts.specs.SessionSteps.{has_key, key_added}
-use Rattle.client_parts.proofs.WriteListLemmas.{in_found, found_in, takes_in}
+use Rattle.system_parts.specs.SessionSteps.{has_key, key_added}
+use Rattle.system_parts.proofs.WriteListLemmas.{in_found, found_in, takes_in}
 use Rattle.cause_rules.specs.Written.{keys_with, keys_from, written_keys}
 use Rattle.refusal_reasons.specs.declared.clue.Clue.TheVariants as clue
 use Rattle.refusal_reasons.specs.Clues.{writes, fits}

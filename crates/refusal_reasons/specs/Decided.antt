@@ -8,7 +8,7 @@ use Rattle.history_book.specs.declared.item.Actor.{Actor}
 use Rattle.history_book.specs.declared.item.Actor.TheVariants.{Session, Node}
 use Rattle.history_book.specs.declared.item.Item.{Item}
 use Rattle.history_book.specs.declared.item.Item.TheVariants.{Refused}
-use Rattle.oracle_parts.specs.Buckets.{place_of, bucket_of, contents, kept_commit}
+use Rattle.system_parts.specs.Buckets.{place_of, bucket_of, contents, kept_commit}
 use Rattle.cause_rules.specs.Asks.{its_node, its_start, its_term}
 use Rattle.cause_rules.specs.Commits.{CommitDrawn, IsLost}
 use Rattle.cause_rules.specs.Explained.{Explained, ShownCause}

@@ -5,10 +5,9 @@ use Rattle.stamp_base.specs.declared.stores.Store.{Store}
 use Rattle.port_io.specs.declared.weather.Fate.{Fate}
 use Rattle.isolation_laws.proofs.AlwaysHolds.{stands_at_first}
 use Rattle.script_data.specs.declared.line.Line.{Line}
-use Rattle.script_data.specs.Data.{IsSound}
-use Rattle.script_data.specs.Data.{ScriptData}
+use Rattle.script_data.specs.Data.{IsSound, ScriptData}
 use Rattle.script_data.specs.Ticks.{tick_of, ticks_of}
-use Rattle.line_steps.specs.Runs.{Played, line_run, lines_played, opening_played, script_played, replayed}
+use Rattle.command_semantics.specs.Runs.{Played, line_run, lines_played, opening_played, script_played, replayed}
 use Rattle.cluster_core.specs.Whole.{Whole}
 use Rattle.planned_cluster.specs.Standing.{StandsAt}
 use Rattle.replay_driver.specs.Playing.{IsPlayedTo, played_to}

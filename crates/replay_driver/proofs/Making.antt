@@ -9,9 +9,9 @@ use Rattle.machine.specs.declared.event.Event.{Event}
 use Rattle.event_parts.specs.declared.stopped.Stopped.{Stopped}
 use Rattle.event_parts.specs.declared.stopped.Stopped.TheVariants.{Refused, StoreFault, NoMemory as Memory}
 use Rattle.script_data.specs.Data.{ScriptData}
-use Rattle.line_steps.specs.declared.point.Halt.{Halt}
-use Rattle.line_steps.specs.Halts.{halt_of}
-use Rattle.line_steps.specs.Runs.{Played}
+use Rattle.command_semantics.specs.declared.point.Halt.{Halt}
+use Rattle.command_semantics.specs.Halts.{halt_of}
+use Rattle.command_semantics.specs.Runs.{Played}
 use Rattle.cluster_core.specs.Whole.{Whole}
 use Rattle.planned_cluster.specs.Standing.{StandsAt, PlaysOn}
 use Rattle.replay_driver.specs.Playing.{Advances, IsSaidOf}

@@ -11,20 +11,20 @@ use Rattle.history_book.specs.declared.item.Actor.TheVariants as actor
 use Rattle.script_data.specs.declared.line.Line.{Line}
 use Rattle.script_data.specs.declared.line.Verb.{Verb}
 use Rattle.script_data.specs.Data.{ScriptData}
-use Rattle.line_steps.specs.declared.point.Halt.{Halt}
-use Rattle.line_steps.specs.declared.point.Point.{Point}
-use Rattle.line_steps.specs.declared.point.Point.TheVariants.{Opens, Over}
-use Rattle.line_steps.specs.Clocks.{clocks}
-use Rattle.line_steps.specs.Halts.{halt_of, follows}
+use Rattle.command_semantics.specs.declared.point.Halt.{Halt}
+use Rattle.command_semantics.specs.declared.point.Point.{Point}
+use Rattle.command_semantics.specs.declared.point.Point.TheVariants.{Opens, Over}
+use Rattle.command_semantics.specs.Clocks.{clocks}
+use Rattle.command_semantics.specs.Halts.{halt_of, follows}
 use Rattle.script_data.specs.Ticks.{tick_of}
-use Rattle.line_steps.specs.Laws.{IsReached, EventsLowerWhatIsLeft}
-use Rattle.line_steps.specs.Left.{left}
-use Rattle.line_steps.specs.Master.{last_master}
-use Rattle.line_steps.specs.Next.{Clocks, next}
-use Rattle.line_steps.specs.Runs.{Played, Run, clocks_of, step_of, played, next_in, run_after, left_in, going_on, run_for, opened, line_run}
-use Rattle.line_steps.specs.declared.point.View.{View}
-use Rattle.line_steps.specs.Views.{view_of}
-use Rattle.line_steps.proofs.Ending.{Keeps, Going, Nothing, less_left, steady_next, goes_on as event_goes_on}
+use Rattle.command_semantics.specs.Laws.{IsReached, EventsLowerWhatIsLeft}
+use Rattle.command_semantics.specs.Left.{left}
+use Rattle.command_semantics.specs.Master.{last_master}
+use Rattle.command_semantics.specs.Next.{Clocks, next}
+use Rattle.command_semantics.specs.Runs.{Played, Run, clocks_of, step_of, played, next_in, run_after, left_in, going_on, run_for, opened, line_run}
+use Rattle.command_semantics.specs.declared.point.View.{View}
+use Rattle.command_semantics.specs.Views.{view_of}
+use Rattle.command_semantics.proofs.Ending.{Keeps, Going, Nothing, less_left, steady_next, goes_on as event_goes_on}
 use Rattle.cluster_core.specs.Whole.{Whole}
 use Rattle.planned_cluster.specs.Standing.{StandsAt, clocks_at}
 use Rattle.planned_cluster.proofs.Clocks.{clocks_there}

@@ -9,13 +9,13 @@ use Rattle.event_parts.specs.declared.stopped.Stopped.TheVariants as stopped
 use Rattle.script_data.specs.Data.{ScriptData}
 use Rattle.script_data.specs.declared.line.Verb.{Verb}
 use Rattle.script_data.specs.declared.line.Verb.TheVariants as verb
-use Rattle.line_steps.specs.declared.point.Point.{Point}
-use Rattle.line_steps.specs.declared.point.Point.TheVariants.{Opens, Over}
-use Rattle.line_steps.specs.declared.point.Halt.{Halt}
-use Rattle.line_steps.specs.declared.point.Halt.TheVariants.{Faulted}
-use Rattle.line_steps.specs.Halts.{halt_of, refused_by}
-use Rattle.line_steps.specs.Runs.{Played, step_of, played, lines_played, opening_played}
-use Rattle.line_steps.specs.Laws.{IsReached, IsPlayable}
+use Rattle.command_semantics.specs.declared.point.Point.{Point}
+use Rattle.command_semantics.specs.declared.point.Point.TheVariants.{Opens, Over}
+use Rattle.command_semantics.specs.declared.point.Halt.{Halt}
+use Rattle.command_semantics.specs.declared.point.Halt.TheVariants.{Faulted}
+use Rattle.command_semantics.specs.Halts.{halt_of, refused_by}
+use Rattle.command_semantics.specs.Runs.{Played, step_of, played, lines_played, opening_played}
+use Rattle.command_semantics.specs.Laws.{IsReached, IsPlayable}
 use Rattle.cluster_core.specs.Whole.{Whole}
 use Rattle.planned_cluster.specs.Standing.{StandsAt}
 

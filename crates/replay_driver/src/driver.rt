@@ -3,17 +3,18 @@ ghost use Rattle.std.specs.Prelude.{◌≡◌, ◌<◌, ◌≤◌, ◌+◌, IfOk
 ghost use Rattle.stamp_base.specs.declared.limits.TheConstants.{LINE_LIMIT};
 ghost use Rattle.stamp_base.specs.Setups.{numbers_of};
 ghost use Rattle.session_script.specs.Script.{data_of};
-ghost use Rattle.line_steps.specs.Answers.{Answers};
-ghost use Rattle.line_steps.specs.Planned.{Planned};
-ghost use Rattle.line_steps.specs.Runs.{replayed, script_played};
+ghost use Rattle.command_semantics.specs.Answers.{Answers};
+ghost use Rattle.command_semantics.specs.Planned.{Planned};
+ghost use Rattle.command_semantics.specs.Runs.{replayed, script_played};
 ghost use Rattle.replay_driver.specs.Playing.{IsPlayedTo};
 
 use crate::play::{make, seen};
 use crate::progress::{Progress, Silent};
 use cluster_core::Cluster;
-use line_steps::{Point, events_lower_what_is_left, follows, lines_are_answered, next_event};
+use command_semantics::{
+    Point, events_lower_what_is_left, follows, lines_are_answered, next_event, scripts_are_planned,
+};
 use planned_cluster::{PlannedCluster, see_session};
-use planned_laws::scripts_are_planned;
 use port_io::{PlannedWeather, Weather};
 use session_script::Script;
 use stamp_base::{LINE_LIMIT, NoMemory};

@@ -2,13 +2,13 @@
 ghost use Rattle.std.specs.Prelude.{◌≡◌, IfOk};
 ghost use Rattle.machine.specs.Machine.{IsSteadyAt, reading_of};
 ghost use Rattle.script_data.specs.Data.{ScriptData};
-ghost use Rattle.line_steps.specs.Next.{Clocks, next};
-ghost use Rattle.line_steps.specs.Runs.{Played};
-ghost use Rattle.line_steps.specs.Views.{view_of};
+ghost use Rattle.command_semantics.specs.Next.{Clocks, next};
+ghost use Rattle.command_semantics.specs.Runs.{Played};
+ghost use Rattle.command_semantics.specs.Views.{view_of};
 ghost use Rattle.planned_cluster.specs.Standing.{StandsAt};
 ghost use Rattle.replay_driver.specs.Playing.{Advances, IsSaidOf, looks};
 
-use line_steps::{Halt, Point, View, refused};
+use command_semantics::{Halt, Point, View, refused};
 use machine::{Doing, Event};
 use planned_cluster::{PlannedCluster, Stopped};
 use port_io::{PlannedWeather, Weather};

@@ -1,4 +1,4 @@
--- For thread_crew and worked_stages too.
+-- For actor_threads and worked_stages too.
 -- For those who hand out passes: each pass as the opening gives it is one with which its stage may begin.
 use Rattle.std.proofs.Common.{◌≡◌, ℕ, ◌+◌, ◌-◌, ◌*◌, ◌/◌, ◌%◌, ◌<◌, ◌≤◌, ◌==◌, ⊎_elim, List, [], ◌∷◌, length, get_or, inl, inr, refl, sym, ap, ◌∙◌, subst, mod-lt, div-lt_iff_lt-mul, length-append, suc-mul, arith}
 use Rattle.std.specs.Prelude.{Some, All, slice_get, take, flat_map, if◌then◌else◌}

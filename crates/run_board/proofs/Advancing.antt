@@ -1,9 +1,9 @@
 -- An actor's step that memory was not refused for counts the lines that were passed.
 use Rattle.std.proofs.Common.{◌≡◌, refl}
-use Rattle.line_shares.specs.Done.{Done}
-use Rattle.turn_engine.specs.declared.answers.Advance.{Advance}
-use Rattle.turn_engine.specs.declared.answers.Advance.TheVariants as advance
-use Rattle.turn_engine.specs.Steps as steps
+use Rattle.thread_steps.specs.Done.{Done}
+use Rattle.run_board.specs.declared.answers.Advance.{Advance}
+use Rattle.run_board.specs.declared.answers.Advance.TheVariants as advance
+use Rattle.run_board.specs.Steps as steps
 use Rattle.run_board.specs.Playing.{Played, Counts, Advances}
 
 pub advances : (old new : Played) (mine now : Done) (answer : Advance) → (answer ≡ advance.NoMemory → ⊥) → steps.Advances old.ran mine.actor mine.aim answer new.ran → Counts old new mine now → Advances old mine answer new now

@@ -2,9 +2,9 @@
 use Rattle.std.proofs.Common.{◌≡◌, List, sym, subst}
 use Rattle.history_book.specs.declared.item.Item.{Item}
 use Rattle.script_data.specs.Data.{ScriptData}
-use Rattle.line_steps.specs.Answers.{AnswersOnThreads}
-use Rattle.line_steps.specs.Planned.{Planned}
-use Rattle.line_shares.specs.declared.cursor.Cursor.{Cursor}
+use Rattle.command_semantics.specs.Answers.{AnswersOnThreads}
+use Rattle.command_semantics.specs.Planned.{Planned}
+use Rattle.thread_steps.specs.declared.cursor.Cursor.{Cursor}
 use Rattle.planned_cluster.proofs.Playable.{playable_at_first}
 use Rattle.turn_rules.specs.declared.turn.Turn.{Turn}
 use Rattle.turn_rules.specs.Carried.{carried_items, AreWhole}
@@ -12,9 +12,9 @@ use Rattle.turn_rules.specs.Lawful.{AreLawful}
 use Rattle.turn_rules.specs.Laws.{TurnsAnswer, TurnsArePlanned}
 use Rattle.thread_scripts.specs.Actors.{AreAtTheirEnds}
 use Rattle.thread_scripts.proofs.AllEnded.{all_ended}
-use Rattle.turn_engine.specs.Run.{Ran}
-use Rattle.turn_engine.specs.Steps.{place_of}
-use Rattle.turn_engine.specs.Further.{EndedRunsAreWhole}
+use Rattle.run_board.specs.Run.{Ran}
+use Rattle.run_board.specs.Steps.{place_of}
+use Rattle.run_board.specs.Further.{EndedRunsAreWhole}
 use Rattle.run_board.specs.Playing.{Played, IsKept, IsResult}
 
 whole_at_end : (r : Ran) (cursors : List Cursor) → EndedRunsAreWhole → IsKept r cursors → AreAtTheirEnds r.script cursors → AreWhole r.script r.turns

@@ -10,20 +10,20 @@ use Rattle.history_book.specs.declared.item.Actor.TheVariants.{Clock}
 use Rattle.history_book.specs.Members.{AtEach}
 use Rattle.history_book.proofs.MemberLemmas.{AtEach-push, AtEach-weaker}
 use Rattle.machine.specs.declared.event.Event.{Event}
-use Rattle.line_shares.specs.declared.cursor.Cursor.{Cursor}
-use Rattle.line_shares.specs.Done.{is_same, caught_up}
-use Rattle.line_shares.proofs.CaughtUp.{actor_is}
+use Rattle.thread_steps.specs.declared.cursor.Cursor.{Cursor}
+use Rattle.thread_steps.specs.Done.{is_same, caught_up}
+use Rattle.thread_steps.proofs.CaughtUp.{actor_is}
 use Rattle.turn_rules.specs.declared.turn.Turn.{Turn}
 use Rattle.turn_rules.specs.declared.turn.Turn.TheVariants as turn
 use Rattle.turn_rules.specs.Carried.{event_of}
 use Rattle.turn_rules.specs.Lawful.{stage_of}
 use Rattle.thread_steps.specs.declared.stages.StageStep.{StageStep}
 use Rattle.thread_steps.specs.declared.stages.StageStep.TheVariants as step
-use Rattle.turn_engine.specs.declared.answers.Advance.{Advance}
-use Rattle.turn_engine.specs.declared.answers.Advance.TheVariants as advance
-use Rattle.turn_engine.specs.Run.{Ran, reached_by, with_turn}
-use Rattle.turn_engine.specs.Making.{TurnsBy}
-use Rattle.turn_engine.specs.Steps.{place_of, TellsTurn, ServesOnce, Advances, Serves}
+use Rattle.run_board.specs.declared.answers.Advance.{Advance}
+use Rattle.run_board.specs.declared.answers.Advance.TheVariants as advance
+use Rattle.run_board.specs.Run.{Ran, reached_by, with_turn}
+use Rattle.run_board.specs.Making.{TurnsBy}
+use Rattle.run_board.specs.Steps.{place_of, TellsTurn, ServesOnce, Advances, Serves}
 use Rattle.run_board.specs.Playing.{cursor_of, IsUpTo, IsCountedAt, AreCounted}
 
 -- ---- the cursors

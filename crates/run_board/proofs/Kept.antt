@@ -1,57 +1,105 @@
--- What lies under the lock is kept at first, by a step of the run, and by a cursor that comes up to its seat.
-use Rattle.std.proofs.Common.{◌≡◌, ℕ, ◌<◌, ◌≤◌, ◌^◌, List, All, length, sym, subst, arith}
+-- For this crate's own proofs.
+-- What a script run keeps beside its turns, and a call that makes one turn more of it.
+use Rattle.std.proofs.Common.{◌≡◌, ℕ, ◌≤◌, Bool, List, Option, Some, Result, drop, length}
 use Rattle.std.specs.Prelude.{map}
-use Rattle.history_book.specs.declared.item.Actor.{Actor}
-use Rattle.script_data.specs.declared.line.Line.{Line}
-use Rattle.script_data.specs.Data.{ScriptData, IsSound}
-use Rattle.line_steps.specs.Laws.{AreLinesOf}
-use Rattle.planned_cluster.specs.Fitting.{SessionIsThere}
-use Rattle.planned_cluster.proofs.Fitting.{lines_fit}
-use Rattle.line_shares.specs.declared.cursor.Cursor.{Cursor}
-use Rattle.line_shares.specs.Done.{first_cursor, caught_up}
-use Rattle.thread_scripts.specs.Actors.{actors_of, AreBehind, CoverLines}
-use Rattle.thread_scripts.proofs.Places.{place_is_within}
-use Rattle.thread_scripts.proofs.Covered.{covered_at_first}
-use Rattle.thread_scripts.proofs.Behind.{behind_at_first, behind_further, behind_up, covered_up}
-use Rattle.turn_engine.specs.Run.{Ran}
-use Rattle.turn_engine.specs.Steps.{place_of}
-use Rattle.turn_engine.specs.Further.{IsFurther}
-use Rattle.run_board.specs.Playing.{IsKept}
+use Rattle.stamp_base.specs.declared.stores.Store.{Store}
+use Rattle.port_io.specs.declared.weather.Fate.{Fate}
+use Rattle.history_book.specs.declared.item.Item.{Item}
+use Rattle.machine.specs.declared.event.Event.{Event}
+use Rattle.event_parts.specs.declared.stopped.Stopped.{Stopped}
+use Rattle.command_semantics.specs.declared.point.Halt.{Halt}
+use Rattle.command_semantics.specs.Halts.{halt_of}
+use Rattle.command_semantics.specs.Runs.{played}
+use Rattle.cluster_core.specs.Whole.{Whole}
+use Rattle.planned_cluster.specs.Standing.{StandsAt, Reaches, PlaysOn, clocks_at}
+use Rattle.turn_rules.specs.declared.seat.Holds.{Holds}
+use Rattle.turn_rules.specs.declared.turn.Turn.{Turn}
+use Rattle.turn_rules.specs.Seats.{was_asked}
+use Rattle.session_script.specs.PostedNames.{names_after}
+use Rattle.turn_rules.specs.Carried.{event_of, held_after}
+use Rattle.turn_rules.specs.Lawful.{IsFree, IsInPlace, stage_of}
+use Rattle.run_board.specs.declared.seated.Seated.{Seated}
+use Rattle.run_board.specs.Making.{step_in, halted, lacking_after, cleared}
+use Rattle.run_board.specs.Run.{Ran, reached_by, SitsAt, IsCarriedOut}
+use Rattle.run_board.specs.Seating.{after_turn, after_passing}
 
--- ---- at first
-are_lines_of : (script : ScriptData) → IsSound script → All (λ (line : Line). SessionIsThere line.actor) script.lines → AreLinesOf script.setup script.lines
-are_lines_of script sound there = lines_fit script.setup script.lines sound.lines (λ k d within here. there k d here)
+-- the cluster with its clock and the fates ahead, the names that were posted, what the stages hold, who is seated, and which nodes
+-- lack stamps
+pub record Kept : Type 0 where
+  pub whole : Whole
+  pub clock : ℕ
+  pub ahead : Store → ℕ → Fate
+  pub names : List (List ℕ)
+  pub held : List Holds
+  pub seated : List Seated
+  pub lacking : List Bool
 
-pub kept_at_first : (r : Ran) (script : ScriptData) (cursors : List Cursor) → IsSound script → length script.lines ≤ 131072 → All (λ (line : Line). SessionIsThere line.actor) script.lines → r.script ≡ script → cursors ≡ map first_cursor (actors_of script) → IsKept r cursors
-kept_at_first r script cursors sound few there same are =
-    let sessions : AreLinesOf script.setup script.lines = are_lines_of script sound there in
-    record {
-      sound = subst IsSound (sym same) sound;
-      few = subst (λ (s : ScriptData). length s.lines ≤ 131072) (sym same) few;
-      sessions = subst (λ (s : ScriptData). AreLinesOf s.setup s.lines) (sym same) sessions;
-      behind = subst (λ (cs : List Cursor). AreBehind (place_of r) cs) (sym are) (behind_at_first (place_of r) (actors_of script));
-      covered = subst (λ (s : ScriptData). CoverLines s.lines cursors) (sym same) (subst (λ (cs : List Cursor). CoverLines script.lines cs) (sym are) (covered_at_first script sessions));
-    }
+-- it is what the turns made
+pub record IsMade (r : Ran) (kept : Kept) : Type 0 where
+  pub stands : StandsAt r.script (reached_by r).played kept.whole kept.clock kept.ahead
+  pub sits : SitsAt r.script (reached_by r) kept.names kept.held kept.seated
+  pub out : IsCarriedOut r.script r.turns kept.lacking
 
--- ---- the run goes further
-pub kept_further : (old new : Ran) (cursors : List Cursor) → IsFurther old new → IsKept old cursors → IsKept new cursors
-kept_further old new cursors further k = record {
-  sound = subst IsSound (sym further.script) k.sound;
-  few = subst (λ (s : ScriptData). length s.lines ≤ 131072) (sym further.script) k.few;
-  sessions = subst (λ (s : ScriptData). AreLinesOf s.setup s.lines) (sym further.script) k.sessions;
-  behind = behind_further (place_of old) (place_of new) cursors further.places k.behind;
-  covered = subst (λ (s : ScriptData). CoverLines s.lines cursors) (sym further.script) k.covered;
+-- ---- a turn's call
+-- how it answered and so where its event stopped, how long the history was before it, and where cluster, clock and fates are after it
+pub record Call : Type 0 where
+  pub turn : Turn
+  pub event : Event
+  pub answer : Result Unit Stopped
+  pub stop : Option Halt
+  pub before : ℕ
+  pub now : Whole
+  pub after : ℕ
+  pub later : Store → ℕ → Fate
+
+-- the items since
+abbrev pub since : Call → List Item
+since call = drop call.before call.now.history
+
+-- the turn can be made where the run stands
+pub record CanTurn (r : Ran) (t : Turn) (e : Event) : Type 0 where
+  pub event : event_of r.script (reached_by r) t ≡ Some e
+  pub free : IsFree (reached_by r).held (stage_of t)
+  pub in_place : IsInPlace (reached_by r).played.state t
+
+-- memory was not refused, and the event was made of what was kept
+pub record Calls (kept : Kept) (call : Call) : Type 0 where
+  pub length_is : call.before ≡ length kept.whole.history
+  pub plays : PlaysOn call.event call.answer kept.whole kept.clock kept.ahead call.now call.after call.later
+  pub halts : halted call.answer ≡ Some call.stop
+
+-- as where nothing was made, and as where the event was
+abbrev pub StillStands : Ran → Call → Type 0
+StillStands r call = StandsAt r.script (reached_by r).played call.now call.after call.later
+
+abbrev pub HasPlayed : Ran → Call → Type 0
+HasPlayed r call = StandsAt r.script (played r.script (reached_by r).played call.event) call.now call.after call.later
+
+-- the call went so far, and the history has grown by the event's items
+pub record HasGone (r : Ran) (call : Call) : Type 0 where
+  pub reaches : Reaches (step_in r call.event).stop call.answer (StillStands r call) (HasPlayed r call)
+  pub halts : halted call.answer ≡ Some call.stop
+  pub stands : HasPlayed r call
+  pub stopped : call.stop ≡ halt_of (step_in r call.event).stop
+  pub least : call.before ≤ length call.now.history
+  pub appended : since call ≡ (step_in r call.event).items
+
+-- ---- what is kept after it
+-- the seats before lines are passed
+abbrev pub moved_by : Kept → Call → List Seated
+moved_by kept call = map (after_turn call.turn call.stop (was_asked (since call))) kept.seated
+
+abbrev pub kept_after : List ℕ → Kept → Call → Kept
+kept_after leads kept call = record {
+  whole = call.now;
+  clock = call.after;
+  ahead = call.later;
+  names = names_after kept.names call.event;
+  held = held_after kept.held call.event;
+  seated = map (after_passing (clocks_at call.now call.after leads) call.now.state) (moved_by kept call);
+  lacking = lacking_after (cleared kept.lacking) call.turn call.stop;
 }
 
--- ---- a cursor comes up
-pub place_is_small : (r : Ran) (cursors : List Cursor) (actor : Actor) (place : ℕ) → place ≡ place_of r actor → IsKept r cursors → place < 2 ^ 32
-place_is_small r cursors actor place at k = omega (arith, at, place_is_within r.script r.turns actor, k.few)
-
-pub kept_up : (r : Ran) (cursors : List Cursor) (actor : Actor) (place : ℕ) → place ≡ place_of r actor → IsKept r cursors → IsKept r (caught_up actor place cursors)
-kept_up r cursors actor place at k = record {
-  sound = k.sound;
-  few = k.few;
-  sessions = k.sessions;
-  behind = behind_up (place_of r) cursors actor place at k.behind;
-  covered = covered_up r.script.lines cursors actor place k.covered;
-}
+-- where it was left out
+abbrev pub kept_still : Kept → Call → Kept
+kept_still kept call = record kept { whole = call.now; clock = call.after; ahead = call.later; lacking = lacking_after kept.lacking call.turn call.stop }

@@ -1,9 +1,9 @@
 -- Whatever turns were made so far, the lines that were passed are answered, and the plan is kept.
 use Rattle.std.proofs.Common.{List}
-use Rattle.line_shares.specs.declared.cursor.Cursor.{Cursor}
+use Rattle.thread_steps.specs.declared.cursor.Cursor.{Cursor}
 use Rattle.planned_cluster.proofs.Playable.{playable_at_first}
 use Rattle.turn_rules.specs.Laws.{TurnsAnswerSoFar, TurnsArePlannedSoFar, IsPlannedSoFar}
-use Rattle.turn_engine.specs.Run.{Ran, reached_by}
+use Rattle.run_board.specs.Run.{Ran, reached_by}
 use Rattle.run_board.specs.Playing.{IsKept}
 use Rattle.run_board.specs.SoFar.{AreAnsweredSoFar}
 

@@ -4,8 +4,8 @@ use Rattle.std.proofs.lemmas.Bool.Decides.{eqb_tells}
 use Rattle.stamp_base.specs.declared.stage.Stage.{Stage}
 use Rattle.stamp_base.specs.declared.stage.Stage.TheVariants.{Request, Persist, Reply}
 use Rattle.thread_steps.specs.declared.stages.StageStep.{StageStep}
-use Rattle.turn_engine.specs.Run.{Ran}
-use Rattle.turn_engine.specs.Steps.{IsStageHeld, state_of, has_turn}
+use Rattle.run_board.specs.Run.{Ran}
+use Rattle.run_board.specs.Steps.{IsStageHeld, state_of, has_turn}
 use Rattle.run_board.specs.Playing.{Played, Serves}
 use Rattle.run_board.specs.Through.{Follow, MakesSteps, GoesThrough}
 

@@ -7,19 +7,19 @@ use Rattle.history_book.specs.declared.item.Actor.{Actor}
 use Rattle.history_book.specs.declared.item.Item.{Item}
 use Rattle.history_book.specs.Members.{AtEach}
 use Rattle.script_data.specs.Data.{ScriptData, IsSound}
-use Rattle.line_steps.specs.Laws.{AreLinesOf}
+use Rattle.command_semantics.specs.Laws.{AreLinesOf}
 use Rattle.turn_rules.specs.declared.turn.Turn.{Turn}
 use Rattle.turn_rules.specs.declared.turn.Turn.TheVariants as turn
 use Rattle.turn_rules.specs.Carried.{carried_items, AreWhole}
 use Rattle.turn_rules.specs.Lawful.{AreLawful}
-use Rattle.turn_engine.specs.declared.answers.Advance.{Advance}
-use Rattle.turn_engine.specs.declared.answers.Advance.TheVariants as advance
+use Rattle.run_board.specs.declared.answers.Advance.{Advance}
+use Rattle.run_board.specs.declared.answers.Advance.TheVariants as advance
 use Rattle.thread_steps.specs.declared.stages.StageStep.{StageStep}
 use Rattle.thread_steps.specs.declared.stages.StageStep.TheVariants as step
-use Rattle.turn_engine.specs.Run.{Ran}
-use Rattle.turn_engine.specs.Steps as steps
-use Rattle.line_shares.specs.declared.cursor.Cursor.{Cursor}
-use Rattle.line_shares.specs.Done.{Done, all_done, caught_up, is_same}
+use Rattle.run_board.specs.Run.{Ran}
+use Rattle.run_board.specs.Steps as steps
+use Rattle.thread_steps.specs.declared.cursor.Cursor.{Cursor}
+use Rattle.thread_steps.specs.Done.{Done, all_done, caught_up, is_same}
 use Rattle.thread_scripts.specs.Actors.{AreBehind, CoverLines, AreAtTheirEnds}
 
 -- what lies under the lock: the script with the turns that were made, and how many lines of each actor are done

@@ -4,7 +4,7 @@ use Rattle.history_book.specs.declared.item.Actor.{Actor}
 use Rattle.turn_rules.specs.declared.seat.Seat.{Seat}
 use Rattle.turn_rules.specs.Carried.{seat_of}
 use Rattle.turn_rules.specs.Laws.{IsAnsweredSoFar}
-use Rattle.turn_engine.specs.Run.{Ran, reached_by}
+use Rattle.run_board.specs.Run.{Ran, reached_by}
 
 -- each actor's lines are answered as far as its seat has come, and a read that is under way is owed
 abbrev pub AreAnsweredSoFar : Ran → Type 0

@@ -4,8 +4,8 @@ use Rattle.stamp_base.specs.declared.numbers.TheConstants.SessionNo as sessions
 use Rattle.stamp_base.specs.declared.stage.Stage.{Stage}
 use Rattle.stamp_base.specs.declared.stage.Stage.TheVariants.{Request, Persist, Reply}
 use Rattle.thread_steps.specs.declared.stages.StageStep.{StageStep}
-use Rattle.turn_engine.specs.Run.{Ran}
-use Rattle.turn_engine.specs.Steps.{IsStageHeld, state_of, has_turn}
+use Rattle.run_board.specs.Run.{Ran}
+use Rattle.run_board.specs.Steps.{IsStageHeld, state_of, has_turn}
 use Rattle.run_board.specs.Playing.{Played, Serves}
 
 -- no commit at the node is drawn and not put

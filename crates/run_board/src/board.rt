@@ -4,18 +4,18 @@ ghost use Rattle.history_book.specs.Isolation.{Isolated};
 ghost use Rattle.cause_rules.specs.Explained.{Explained};
 ghost use Rattle.cause_rules.specs.Strict.{SerialIfStrict};
 ghost use Rattle.session_script.specs.Script.{data_of};
-ghost use Rattle.line_steps.specs.Answers.{AnswersOnThreads};
-ghost use Rattle.line_steps.specs.Planned.{Planned};
+ghost use Rattle.command_semantics.specs.Answers.{AnswersOnThreads};
+ghost use Rattle.command_semantics.specs.Planned.{Planned};
 ghost use Rattle.turn_rules.specs.Told.{AreForThreads};
-ghost use Rattle.line_shares.specs.Done.{parts_for, fresh};
+ghost use Rattle.thread_steps.specs.Done.{parts_for, fresh};
 ghost use Rattle.thread_scripts.specs.Actors.{actors_of};
 ghost use Rattle.thread_steps.specs.Going.{GoesOn};
 ghost use Rattle.run_board.specs.Playing.{IsResult, LacksAtRequest};
 
+use crate::answers::Advance;
 use crate::play::Play;
 use crate::stretch::without_why;
 use cluster_core::Cluster;
-use line_shares::{ActorShare, Cursors};
 use session_script::Script;
 use stamp_base::{NoMemory, NodeNo, SessionNo, Stage, Term};
 use std::alloc::Global;
@@ -25,8 +25,8 @@ use std::sync::ledger::{Blank, Ledger};
 use std::sync::{Mutex, MutexGuard, Wait};
 use std::thread::yield_now;
 use thread_scripts::{actors_with_lines, copied};
-use thread_steps::{ActorStep, ActorSteps, Steps};
-use turn_engine::{Advance, StageStep, Turn};
+use thread_steps::{ActorShare, ActorStep, ActorSteps, Cursors, StageStep, Steps};
+use turn_rules::Turn;
 
 /// How often a thread tries for the lock before it sleeps.
 const TRIES: u64 = 100;

@@ -4,35 +4,36 @@ ghost use Rattle.history_book.specs.Isolation.{Isolated};
 ghost use Rattle.cause_rules.specs.Explained.{Explained};
 ghost use Rattle.cause_rules.specs.Strict.{SerialIfStrict};
 ghost use Rattle.session_script.specs.Script.{data_of};
-ghost use Rattle.line_steps.specs.Answers.{AnswersOnThreads};
-ghost use Rattle.line_steps.specs.Planned.{Planned};
+ghost use Rattle.command_semantics.specs.Answers.{AnswersOnThreads};
+ghost use Rattle.command_semantics.specs.Planned.{Planned};
 ghost use Rattle.turn_rules.specs.Told.{AreForThreads};
 ghost use Rattle.turn_rules.specs.Carried.{carried_items};
-ghost use Rattle.line_shares.specs.Done.{all_done, first_cursor};
+ghost use Rattle.thread_steps.specs.Done.{all_done, first_cursor};
 ghost use Rattle.thread_scripts.specs.Actors.{actors_of, AreBehind, AreAtTheirEnds};
 ghost use Rattle.turn_rules.specs.Laws.{IsPlannedSoFar};
-ghost use Rattle.turn_engine.specs.Run.{reached_by};
+ghost use Rattle.run_board.specs.Run.{reached_by};
 ghost use Rattle.machine.specs.Readers.{term_of};
-ghost use Rattle.turn_engine.specs.Steps.{place_of, state_of, IsStageHeld, LacksOnlyThere};
+ghost use Rattle.run_board.specs.Steps.{place_of, state_of, IsStageHeld, LacksOnlyThere};
 ghost use Rattle.thread_steps.specs.Going.{GoesOn};
 ghost use Rattle.run_board.specs.Playing.{Advances, Serves, AreCounted, IsOver, IsResult};
 ghost use Rattle.run_board.specs.SoFar.{AreAnsweredSoFar};
 
+use crate::answers::Advance;
+use crate::laws::{advances_go_further, ended_runs_are_whole, stage_steps_go_further};
+use crate::run::ScriptRun;
 use crate::sessions::see_sessions;
 use cluster_core::Cluster;
 use history_book::Item;
-use line_shares::{ActorShare, Cursors};
 use session_script::Script;
 use stamp_base::{NoMemory, NodeNo, SessionNo, Stage, Term};
 use std::alloc::Global;
 use std::marker::Model;
 use std::sync::ledger::Ledger;
 use thread_scripts::{are_at_their_ends, is_same};
-use turn_engine::{
-    Advance, ScriptRun, StageStep, Turn, advances_go_further, ended_runs_are_whole,
-    stage_steps_go_further,
+use thread_steps::{ActorShare, Cursors, StageStep};
+use turn_rules::{
+    Turn, turns_answer, turns_answer_so_far, turns_are_planned, turns_are_planned_so_far,
 };
-use turn_rules::{turns_answer, turns_answer_so_far, turns_are_planned, turns_are_planned_so_far};
 
 /// What lies under the lock: the script, the turns that were made of it and what stands after them, and how many lines of each
 /// actor are done.

@@ -2,13 +2,12 @@
 ghost use Rattle.std.specs.Prelude.{◌≡◌};
 ghost use Rattle.thread_steps.specs.Going.{GoesOn};
 
+use crate::answers::Advance;
 use crate::play::Play;
 use history_book::{Actor, Cause, Item, Note};
-use line_shares::ActorShare;
 use stamp_base::{NodeNo, Term};
 use std::sync::ledger::Ledger;
-use thread_steps::ActorStep;
-use turn_engine::Advance;
+use thread_steps::{ActorShare, ActorStep};
 
 /// How many events of its lines an actor makes at most. They take less than a millisecond: with fewer, sixteen sessions pass the lock
 /// so often that a run takes a tenth more processor time, and with more it takes hardly less.

@@ -2,13 +2,13 @@
 ghost use Rattle.std.specs.Prelude.{◌≡◌, ◌<◌, ◌↔◌, IsTrue, false, not};
 ghost use Rattle.stamp_base.specs.declared.stage.Stage.{Stage as Stages};
 ghost use Rattle.stamp_base.specs.declared.stage.Stage.TheVariants.{Request, Persist};
-ghost use Rattle.turn_engine.specs.Steps.{state_of, has_turn, IsStageHeld};
+ghost use Rattle.run_board.specs.Steps.{state_of, has_turn, IsStageHeld};
 ghost use Rattle.run_board.specs.Through.{AreSettled, IsClear, MakesSteps, GoesThrough};
 
 use crate::play::Play;
 use stamp_base::{NodeNo, SessionNo, Stage, Term};
 use std::sync::ledger::Ledger;
-use turn_engine::StageStep;
+use thread_steps::StageStep;
 
 /// How many steps of its request stage are made for a request at most. Four are enough where the range is extended first.
 const STEPS: u64 = 16;

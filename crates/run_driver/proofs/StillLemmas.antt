@@ -3,7 +3,7 @@
 use Rattle.std.proofs.Common.{◌≡◌, ℕ, ◌<◌, ◌≤◌, Bool, true, false, ◌||◌, List, get_or, refl, ◌∙◌, sym, arith}
 use Rattle.std.specs.Prelude.{slice_set}
 use Rattle.std.proofs.Math.Seq.{map-set_same}
-use Rattle.line_shares.specs.Done.{Done}
+use Rattle.thread_steps.specs.Done.{Done}
 use Rattle.run_driver.specs.Rounds.{AreStill}
 
 pub none_made : (a b : Bool) → (a || b) ≡ false → (a ≡ false) × (b ≡ false)

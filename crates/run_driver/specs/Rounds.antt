@@ -4,7 +4,7 @@ use Rattle.stamp_base.specs.declared.numbers.TheConstants.SessionNo as sessions
 use Rattle.stamp_base.specs.declared.stage.Stage.{Stage}
 use Rattle.stamp_base.specs.declared.stage.Stage.TheVariants.{Request, Persist, Reply}
 use Rattle.history_book.specs.declared.cause.Cause.TheVariants.{NotYet}
-use Rattle.line_shares.specs.Done.{Done}
+use Rattle.thread_steps.specs.Done.{Done}
 use Rattle.thread_steps.specs.declared.stages.StageStep.{StageStep}
 use Rattle.thread_steps.specs.declared.stages.StageStep.TheVariants.{Held, Stale, Refused, NoMemory}
 use Rattle.run_driver.specs.declared.round.Asked.{Asked}

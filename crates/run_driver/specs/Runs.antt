@@ -5,8 +5,8 @@ use Rattle.history_book.specs.Isolation.{Isolated}
 use Rattle.cause_rules.specs.Explained.{Explained}
 use Rattle.cause_rules.specs.Strict.{SerialIfStrict}
 use Rattle.script_data.specs.Data.{ScriptData}
-use Rattle.line_steps.specs.Answers.{AnswersOnThreads}
-use Rattle.line_steps.specs.Planned.{Planned}
+use Rattle.command_semantics.specs.Answers.{AnswersOnThreads}
+use Rattle.command_semantics.specs.Planned.{Planned}
 use Rattle.turn_rules.specs.declared.turn.Turn.{Turn}
 use Rattle.run_board.specs.Playing.{IsResult}
 

@@ -1,12 +1,13 @@
 ghost use Rattle.std.specs.Prelude.{◌≡◌, ◌<◌, ◌≤◌, IfOk, vec_len};
 ghost use Rattle.stamp_base.specs.declared.limits.TheConstants.{LINE_LIMIT};
 ghost use Rattle.session_script.specs.Script.{data_of};
-ghost use Rattle.line_shares.specs.Done.{parts_for};
+ghost use Rattle.thread_steps.specs.Done.{parts_for};
 ghost use Rattle.turn_rules.specs.Told.{AreForThreads};
 ghost use Rattle.run_driver.specs.Runs.{RunsTo};
 ghost use Rattle.thread_scripts.specs.Actors.{actors_of};
 
 use crate::rest::finish;
+use actor_threads::play;
 use cluster_core::Cluster;
 use reply_pipeline::Gate;
 use run_board::Board;
@@ -17,7 +18,6 @@ use std::marker::Brand;
 use std::sync::Wait;
 use std::sync::ledger::{Blank, Ledger};
 use std::thread::Threads;
-use thread_crew::play;
 use thread_scripts::parts_of;
 use turn_rules::Turn;
 

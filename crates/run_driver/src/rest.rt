@@ -6,13 +6,12 @@ ghost use Rattle.run_driver.specs.Runs.{RunsTo};
 
 use crate::round::{Round, ask, carry_on};
 use cluster_core::Cluster;
-use line_shares::ActorShare;
 use run_board::Board;
 use stamp_base::{NoMemory, NodeNo, SessionNo, Setup, Stage};
 use std::sync::Wait;
 use std::sync::ledger::Ledger;
 use std::thread::Parker;
-use thread_steps::{ActorSteps, Steps};
+use thread_steps::{ActorShare, ActorSteps, Steps};
 use turn_rules::Turn;
 
 /// What the board gives once nothing is left.

@@ -3,11 +3,10 @@ ghost use Rattle.std.specs.Prelude.{◌≡◌, ◌+◌, ◌<◌, ◌≤◌, ◌^
 ghost use Rattle.run_driver.specs.Rounds.{is_made, step_of};
 
 use history_book::{Actor, Cause};
-use line_shares::ActorShare;
 use stamp_base::{NoMemory, NodeNo, SessionNo, Stage};
 use std::sync::Wait;
 use std::sync::ledger::Ledger;
-use thread_steps::{ActorStep, ActorSteps, StageStep, Steps};
+use thread_steps::{ActorShare, ActorStep, ActorSteps, StageStep, Steps};
 
 /// How far a round has come.
 #[derive(Drop)]

@@ -1,0 +1,4 @@
+mod PlacedMarks
+mod OwnPlacings
+mod SweepSteps
+mod WorkSteps

@@ -1,7 +1,7 @@
 // A session asks a node for a start.
 ghost use Rattle.std.specs.Prelude.{◌≡◌, None, Some};
-ghost use Rattle.client_parts.specs.SessionSteps.{begin_refusal, CanAsk};
-ghost use Rattle.oracle_parts.specs.InstanceSteps.{CanAskOf, instance_ask};
+ghost use Rattle.system_parts.specs.SessionSteps.{begin_refusal, CanAsk};
+ghost use Rattle.system_parts.specs.InstanceSteps.{CanAskOf, instance_ask};
 ghost use Rattle.machine.specs.Events.AskBegin.{ask_begin_on, asked_by};
 ghost use Rattle.event_parts.specs.Made.{Makes};
 ghost use Rattle.event_parts.specs.Waiting.{HoldsNone};
@@ -9,8 +9,8 @@ ghost use Rattle.event_parts.specs.Waiting.{HoldsNone};
 use event_parts::{Client, Stopped, ledger};
 use history_book::{Actor, Book, Cause, Item};
 use oracle_core::Instance;
-use oracle_parts::Request;
 use stamp_base::{NodeNo, SessionNo};
+use system_parts::Request;
 use takeover_core::Post;
 
 /// The session asks the node for a start: refused as gone or busy, then as NoOracle, then as Full.

@@ -1,7 +1,7 @@
 // A session asks a node to commit its transaction.
 ghost use Rattle.std.specs.Prelude.{◌≡◌, ◌≢◌, None, Some, []};
-ghost use Rattle.client_parts.specs.declared.session.State.TheVariants.{Open};
-ghost use Rattle.client_parts.specs.SessionSteps.{work_refusal};
+ghost use Rattle.system_parts.specs.declared.session.State.TheVariants.{Open};
+ghost use Rattle.system_parts.specs.SessionSteps.{work_refusal};
 ghost use Rattle.machine.specs.Clients.{is_reading};
 ghost use Rattle.machine.specs.Events.AskCommit.{ask_commit_on, commit_of, commit_asked};
 ghost use Rattle.event_parts.specs.Made.{Makes};
@@ -11,8 +11,8 @@ use crate::begin_asking::ask;
 use event_parts::{Client, Stopped, ledger};
 use history_book::{Actor, Book, Cause, Ending, Item};
 use oracle_core::Instance;
-use oracle_parts::Request;
 use stamp_base::{NodeNo, SessionNo, Stamp};
+use system_parts::Request;
 use takeover_core::Post;
 
 /// The session asks the node to commit what it wrote: refused as gone, without a transaction or busy, then as NoOracle,

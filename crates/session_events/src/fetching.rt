@@ -1,9 +1,9 @@
 // A session begins a read.
 ghost use Rattle.std.specs.Prelude.{◌≡◌, ◌≤◌, ◌++◌, ◌∷◌, None};
 ghost use Rattle.stamp_base.specs.Setups.{numbers_of};
-ghost use Rattle.store_parts.specs.Rows.{fetched};
-ghost use Rattle.client_parts.specs.KeyRead.{AreFetched};
-ghost use Rattle.client_parts.specs.Recalled.{recalled_over};
+ghost use Rattle.system_parts.specs.Rows.{fetched};
+ghost use Rattle.system_parts.specs.KeyRead.{AreFetched};
+ghost use Rattle.system_parts.specs.Recalled.{recalled_over};
 ghost use Rattle.machine.specs.Events.Fetch.{marks_every, client_recalled, read_items, fetch_on, fetch_by, fetch_asks, fetch_refused};
 ghost use Rattle.event_parts.specs.Made.{Makes, Asks};
 

@@ -1,6 +1,6 @@
 // A session writes a value at a key.
 ghost use Rattle.std.specs.Prelude.{◌≡◌, ◌≤◌, ◌++◌, ◌∷◌, [], Err, None, Some, IfSome};
-ghost use Rattle.store_parts.specs.Rows.{IsBare};
+ghost use Rattle.system_parts.specs.Rows.{IsBare};
 ghost use Rattle.machine.specs.Events.Write.{write_refused, write_on, write_open as write_open_on, write_asks};
 ghost use Rattle.event_parts.specs.Made.{Makes, Asks};
 

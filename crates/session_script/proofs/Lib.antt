@@ -1,4 +1,6 @@
+mod ArgumentLemmas
+mod WordLemmas
 mod LineLemmas
-pub mod NameLemmas
+mod NameLemmas
 mod SettingLemmas
 mod SoundLemmas

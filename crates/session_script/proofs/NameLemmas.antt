@@ -1,4 +1,3 @@
--- For posted_names too.
 -- The names in a set of words, as a list of names.
 use Rattle.std.proofs.Common.{◌≡◌, ℕ, Bool, false, ◌||◌, nat_eq, List, [], ◌∷◌, ◌++◌, map, refl, ap}
 use Rattle.std.specs.Cmp.Lexicographic.{pointwise}

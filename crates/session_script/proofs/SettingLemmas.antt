@@ -13,7 +13,7 @@ use Rattle.script_data.specs.declared.limits.TheConstants.{FAULT_LIMIT}
 use Rattle.session_script.specs.declared.setting.Setting.{Setting}
 use Rattle.session_script.specs.declared.setting.Setting.TheVariants.{Number, Lead, Fault}
 use Rattle.port_io.specs.declared.weather.Fate.{Fate}
-use Rattle.script_lines.specs.declared.cause.ScriptCause.TheVariants.{SetupOrder, SetupTwice, TooManyFaults}
+use Rattle.session_script.specs.declared.cause.ScriptCause.TheVariants.{SetupOrder, SetupTwice, TooManyFaults}
 use Rattle.script_data.specs.Data.{ScriptData, AreWithinSkew}
 use Rattle.session_script.specs.Settings.{with_setting, sets_same, AreSet, is_lead, bounds_leads, is_fault, comes_late, objection}
 

@@ -1,3 +1,11 @@
+pub mod PostedNames
+pub mod Arguments
+pub mod Causes
+pub mod Checked
+pub mod Grammar
+pub mod Results
+pub mod Verbs
+pub mod Words
 pub mod Names
 pub mod Reading
 pub mod Script

@@ -4,8 +4,8 @@ use Rattle.std.specs.List.{list_any}
 use Rattle.std.specs.Str.{bytes_eq}
 use Rattle.script_data.specs.declared.line.Verb.{Verb}
 use Rattle.script_data.specs.declared.line.Verb.TheVariants as verbs
-use Rattle.script_lines.specs.declared.cause.ScriptCause.{ScriptCause}
-use Rattle.script_lines.specs.declared.cause.ScriptCause.TheVariants.{PostedTwice, NameNotPosted}
+use Rattle.session_script.specs.declared.cause.ScriptCause.{ScriptCause}
+use Rattle.session_script.specs.declared.cause.ScriptCause.TheVariants.{PostedTwice, NameNotPosted}
 
 -- the names that were posted once a line of the verb has been read
 abbrev pub posted_after : List (List ℕ) → Verb → List (List ℕ)

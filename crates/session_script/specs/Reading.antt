@@ -1,6 +1,6 @@
 -- What the reading of one more line makes of what was read so far.
 use Rattle.std.specs.Prelude.{◌≡◌, ℕ, Result, Ok, Err}
-use Rattle.script_lines.specs.declared.cause.ScriptCause.{ScriptCause}
+use Rattle.session_script.specs.declared.cause.ScriptCause.{ScriptCause}
 use Rattle.session_script.specs.declared.fault.ScriptFault.{ScriptFault}
 use Rattle.session_script.specs.declared.fault.ScriptFault.TheVariants.{At, NoMemory}
 use Rattle.session_script.specs.declared.read_so_far.ReadSoFar.{ReadSoFar}

@@ -6,22 +6,22 @@ use Rattle.stamp_base.specs.declared.limits.TheConstants.{BYTE_LIMIT, LINE_LIMIT
 use Rattle.stamp_base.specs.SetupNumbers.{default_numbers}
 use Rattle.stamp_base.specs.Setups.{numbers_of}
 use Rattle.history_book.specs.declared.item.Actor.{Actor}
-use Rattle.script_lines.specs.declared.form.SetupForm.{SetupForm}
-use Rattle.script_lines.specs.declared.mode.Mode.{Mode}
+use Rattle.session_script.specs.declared.form.SetupForm.{SetupForm}
+use Rattle.session_script.specs.declared.mode.Mode.{Mode}
 use Rattle.script_data.specs.declared.line.Line.{Line}
 use Rattle.session_script.specs.declared.script.Script.{Script}
 use Rattle.session_script.specs.declared.setting.Setting.{Setting}
-use Rattle.script_lines.specs.declared.cause.ScriptCause.{ScriptCause}
-use Rattle.script_lines.specs.declared.cause.ScriptCause.TheVariants.{TooLong, TooManyLines, BadByte, UnknownActor}
+use Rattle.session_script.specs.declared.cause.ScriptCause.{ScriptCause}
+use Rattle.session_script.specs.declared.cause.ScriptCause.TheVariants.{TooLong, TooManyLines, BadByte, UnknownActor}
 use Rattle.session_script.specs.declared.fault.ScriptFault.{ScriptFault}
 use Rattle.session_script.specs.declared.fault.ScriptFault.TheVariants.{At, NoMemory}
-use Rattle.script_lines.specs.Arguments.{actor_of}
-use Rattle.script_lines.specs.Grammar.{named, setup_forms}
+use Rattle.session_script.specs.Arguments.{actor_of}
+use Rattle.session_script.specs.Grammar.{named, setup_forms}
 use Rattle.session_script.specs.Names.{posted_after, name_objection}
-use Rattle.script_lines.specs.Results.{◌>>=◌, unless}
+use Rattle.session_script.specs.Results.{◌>>=◌, unless}
 use Rattle.session_script.specs.Settings.{setting_of, with_setting, objection}
-use Rattle.script_lines.specs.Verbs.{verb_at}
-use Rattle.script_lines.specs.Words.{is_plain, is_silent, words_of, LineWords, line_words}
+use Rattle.session_script.specs.Verbs.{verb_at}
+use Rattle.session_script.specs.Words.{is_plain, is_silent, words_of, LineWords, line_words}
 pub use Rattle.script_data.specs.Data.{ScriptData, IsSound}
 
 -- the lists of a script that was read

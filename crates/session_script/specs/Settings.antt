@@ -7,20 +7,20 @@ use Rattle.stamp_base.specs.declared.setup_number.SetupFlag.TheVariants as flags
 use Rattle.stamp_base.specs.declared.setup_number.SetupNumber.{SetupNumber}
 use Rattle.stamp_base.specs.declared.setup_number.SetupNumber.TheVariants as numbers
 use Rattle.port_io.specs.Planned.{PlannedFault, same_store}
-use Rattle.script_lines.specs.declared.form.SetupForm.{SetupForm}
-use Rattle.script_lines.specs.declared.form.SetupForm.TheVariants as forms
-use Rattle.script_lines.specs.declared.mode.Mode.{Mode}
-use Rattle.script_lines.specs.declared.mode.Mode.TheVariants.{Replay, Run, Split}
+use Rattle.session_script.specs.declared.form.SetupForm.{SetupForm}
+use Rattle.session_script.specs.declared.form.SetupForm.TheVariants as forms
+use Rattle.session_script.specs.declared.mode.Mode.{Mode}
+use Rattle.session_script.specs.declared.mode.Mode.TheVariants.{Replay, Run, Split}
 use Rattle.script_data.specs.declared.limits.TheConstants.{FAULT_LIMIT}
 use Rattle.session_script.specs.declared.setting.Setting.{Setting}
 use Rattle.session_script.specs.declared.setting.Setting.TheVariants.{Number, Flag, Buckets, Lead, Fault}
-use Rattle.script_lines.specs.declared.cause.ScriptCause.{ScriptCause}
-use Rattle.script_lines.specs.declared.cause.ScriptCause.TheVariants.{WrongNumberOfWords, ReplayOnly, SetupOrder, SetupTwice, TooManyFaults}
-use Rattle.script_lines.specs.Checked.{number_at, setup_number_at, flag_at, node_at, store_at, kind_at}
+use Rattle.session_script.specs.declared.cause.ScriptCause.{ScriptCause}
+use Rattle.session_script.specs.declared.cause.ScriptCause.TheVariants.{WrongNumberOfWords, ReplayOnly, SetupOrder, SetupTwice, TooManyFaults}
+use Rattle.session_script.specs.Checked.{number_at, setup_number_at, flag_at, node_at, store_at, kind_at}
 use Rattle.script_data.specs.Data.{ScriptData}
-use Rattle.script_lines.specs.Grammar.{setup_words, is_unsplit}
-use Rattle.script_lines.specs.Results.{◌>>=◌}
-use Rattle.script_lines.specs.Words.{LineWords}
+use Rattle.session_script.specs.Grammar.{setup_words, is_unsplit}
+use Rattle.session_script.specs.Results.{◌>>=◌}
+use Rattle.session_script.specs.Words.{LineWords}
 
 -- what a setup line of the form sets, its arguments read from left to right
 abbrev pub arguments_of : SetupNumbers → SetupForm → LineWords → Result Setting ScriptCause

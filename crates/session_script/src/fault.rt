@@ -1,6 +1,6 @@
 ghost use Rattle.std.specs.Prelude.{◌≡◌};
 
-use script_lines::ScriptCause;
+use crate::cause::ScriptCause;
 use std::alloc::AllocError;
 
 /// Why bytes are no script.

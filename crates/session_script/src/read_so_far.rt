@@ -5,11 +5,11 @@ ghost use Rattle.stamp_base.specs.declared.limits.TheConstants.{LINE_LIMIT};
 ghost use Rattle.script_data.specs.Data.{AreWithinSkew};
 ghost use Rattle.session_script.specs.Settings.{is_lead, AreSet};
 
+use crate::cause::ScriptCause;
 use crate::posted::PostedNames;
 use crate::script::Script;
 use crate::setting::{Setting, any_lead, any_same};
 use script_data::{FAULT_LIMIT, Line, Verb};
-use script_lines::ScriptCause;
 use stamp_base::{LINE_LIMIT, Setup};
 use std::alloc::{AllocError, Global};
 use std::slice;

@@ -5,21 +5,26 @@ ghost use Rattle.stamp_base.specs.Setups.{numbers_of};
 ghost use Rattle.script_data.specs.Sound.{actor_needs, LineIsSound};
 ghost use Rattle.session_script.specs.Names.{name_objection};
 ghost use Rattle.session_script.specs.Reading.{so_far, ReadsLine};
-ghost use Rattle.script_lines.specs.Results.{unless};
+ghost use Rattle.session_script.specs.Results.{unless};
 ghost use Rattle.session_script.specs.Script.{script_of, script_from, after_line, after_words, setup_line, actor_line, after_setting, after_telling, nothing_read, data_of, IsSound, ReadsScript};
 ghost use Rattle.session_script.specs.Settings.{objection, IsInBounds};
-ghost use Rattle.script_lines.specs.Words.{seen};
+ghost use Rattle.session_script.specs.Words.{seen};
 
+use crate::arguments::actor_of;
+use crate::cause::ScriptCause;
+use crate::cutting::{cut_line, is_silent};
 use crate::fault::ScriptFault;
+use crate::form::SetupForm;
+use crate::line::verb_at;
 use crate::lines::split_line;
+use crate::mode::Mode;
 use crate::read_so_far::ReadSoFar;
 use crate::script::Script;
 use crate::setting::{Setting, setting_of};
+use crate::tables::setup_form;
+use crate::words::Words;
 use history_book::Actor;
 use script_data::Line;
-use script_lines::{
-    Mode, ScriptCause, SetupForm, Words, actor_of, cut_line, is_silent, setup_form, verb_at,
-};
 use stamp_base::{BYTE_LIMIT, LINE_LIMIT};
 use std::alloc::Global;
 

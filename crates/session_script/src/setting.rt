@@ -3,13 +3,14 @@ ghost use Rattle.std.specs.Prelude.{◌≡◌, IfOk};
 ghost use Rattle.std.specs.List.{list_any};
 ghost use Rattle.stamp_base.specs.Setups.{numbers_of};
 ghost use Rattle.session_script.specs.Settings.{arguments_of, is_left_to_replay, setting_of, IsInBounds, with_number, same_number, same_flag, sets_same, is_lead, bounds_leads, is_fault};
-ghost use Rattle.script_lines.specs.Words.{seen};
+ghost use Rattle.session_script.specs.Words.{seen};
 
+use crate::cause::ScriptCause;
+use crate::checked::{flag_at, kind_at, node_at, number_at, setup_number_at, store_at};
+use crate::form::SetupForm;
+use crate::mode::Mode;
+use crate::words::Words;
 use port_io::Fate;
-use script_lines::{
-    Mode, ScriptCause, SetupForm, Words, flag_at, kind_at, node_at, number_at, setup_number_at,
-    store_at,
-};
 use stamp_base::{NodeNo, Setup, SetupFlag, SetupNumber, Store};
 
 /// What a setup line sets.

@@ -1,9 +1,9 @@
 -- The ask that stands at a place of a completion.
 use Rattle.std.proofs.Common.{◌≡◌, ℕ, zero, suc, ◌+◌, ◌<◌, List, [], ◌∷◌, Some, length, drop, get_or, sym, ap, ◌∙◌, arith}
 use Rattle.std.proofs.lemmas.List.{drop-drop}
-use Rattle.client_parts.specs.declared.asks.Ask.{Ask}
-use Rattle.client_parts.specs.declared.asks.Ask.TheVariants.{Shadow, Erase}
-use Rattle.client_parts.specs.Completion.{finish_asks, undo_asks, first_ask}
+use Rattle.system_parts.specs.declared.asks.Ask.{Ask}
+use Rattle.system_parts.specs.declared.asks.Ask.TheVariants.{Shadow, Erase}
+use Rattle.system_parts.specs.Completion.{finish_asks, undo_asks, first_ask}
 
 pub finish_at : (txn commit : ℕ) (keys : List ℕ) (n key : ℕ) → n < length keys → key ≡ get_or keys n key → Some (Shadow key txn commit) ≡ first_ask (drop n (finish_asks txn commit keys))
 finish_at txn commit [] n key h e = absurd (omega arith)

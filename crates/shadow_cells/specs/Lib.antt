@@ -1,2 +1,2 @@
 pub mod Ways
-pub use Rattle.client_parts.specs.Completion
+pub use Rattle.system_parts.specs.Completion

@@ -1,9 +1,9 @@
 ghost use Rattle.std.specs.Prelude.{◌≡◌, drop, IfSome};
-ghost use Rattle.client_parts.specs.Completion.{finish_asks, undo_asks, first_ask};
-ghost use Rattle.client_parts.specs.Sweep.{IsKeys};
+ghost use Rattle.system_parts.specs.Completion.{finish_asks, undo_asks, first_ask};
+ghost use Rattle.system_parts.specs.Sweep.{IsKeys};
 
-use client_parts::Ask;
 use stamp_base::{KeyNo, Stamp, TxnId};
+use system_parts::Ask;
 
 /// The step after `done` steps of finishing a transaction that wrote these keys; None where no step is left.
 #[tactic(auto, using(crate::proofs::Steps::finish_at))]

@@ -2,15 +2,15 @@
 #![tactic(auto)]
 
 ghost use Rattle.std.specs.Prelude.{◌≡◌, drop, IsSome, IfSome};
-ghost use Rattle.client_parts.specs.Completion.{finish_asks, undo_asks, first_ask};
-ghost use Rattle.client_parts.specs.Sweep.{IsKeys};
+ghost use Rattle.system_parts.specs.Completion.{finish_asks, undo_asks, first_ask};
+ghost use Rattle.system_parts.specs.Sweep.{IsKeys};
 
 mod asks;
 
 pub use asks::{finish_ask, undo_ask};
-use client_parts::Ask;
 use stamp_base::{KeyList, Stamp, TxnId};
 use std::marker::Model;
+use system_parts::Ask;
 
 /// How a completion treats the transaction's cells.
 #[derive(Clone, Copy, Debug, PartialEq, Eq)]
@@ -33,7 +33,7 @@ pub struct Completion {
 
 impl Model for Completion {
     ghost use Rattle.std.specs.Prelude.{List, ◌≤◌, length, drop};
-    ghost use Rattle.client_parts.specs.declared.asks.Ask.{Ask};
+    ghost use Rattle.system_parts.specs.declared.asks.Ask.{Ask};
 
     ghost Value = { List Ask };
 

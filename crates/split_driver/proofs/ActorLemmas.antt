@@ -10,12 +10,12 @@ use Rattle.script_data.specs.declared.line.Line.{Line}
 use Rattle.script_data.specs.Data.{ScriptData}
 use Rattle.thread_scripts.specs.Actors.{actors_of}
 use Rattle.split_stores.specs.Logs.{Logged, IsNew, ticks_of, rises_above}
-use Rattle.seat_lines.specs.Follows.{FollowsLines, FollowsSome}
-use Rattle.seat_lines.specs.Laws.{AllRise}
-use Rattle.split_runs.specs.declared.stop.PlayStop.{PlayStop}
-use Rattle.split_runs.specs.declared.stop.PlayStop.TheVariants as play
-use Rattle.split_runs.specs.Runs.{TellsDrawn}
-use Rattle.split_driver.specs.declared.playing.Job.{Job}
+use Rattle.log_refinement.specs.Follows.{FollowsLines, FollowsSome}
+use Rattle.log_refinement.specs.Laws.{AllRise}
+use Rattle.split_driver.specs.declared.play_stop.PlayStop.{PlayStop}
+use Rattle.split_driver.specs.declared.play_stop.PlayStop.TheVariants as play
+use Rattle.split_driver.specs.Runs.{TellsDrawn}
+use Rattle.split_driver.specs.declared.jobs.Job.{Job}
 use Rattle.split_driver.specs.Splits.{AreLogs, IsSpentAt}
 use Rattle.split_driver.specs.Actors.{GivesBack, HasTold, IsJobOf, IsPlayedBy, IsPlayedOf, IsThrough, task}
 

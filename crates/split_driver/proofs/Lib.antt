@@ -1,3 +1,5 @@
+pub mod Following
+mod LaterEvents
 mod ActorLemmas
 mod SettleLemmas
 mod SplitScripts

@@ -6,9 +6,9 @@ use Rattle.atomic_table.specs.Seated.{TableId}
 use Rattle.history_book.specs.declared.item.Actor.{Actor}
 use Rattle.script_data.specs.declared.line.Line.{Line}
 use Rattle.script_data.specs.Data.{ScriptData, IsSound}
-use Rattle.line_steps.specs.Answers.{Answers}
-use Rattle.line_steps.specs.Planned.{Planned}
-use Rattle.line_steps.specs.Runs.{Played, opening_played, fate_of}
+use Rattle.command_semantics.specs.Answers.{Answers}
+use Rattle.command_semantics.specs.Planned.{Planned}
+use Rattle.command_semantics.specs.Runs.{Played, opening_played, fate_of}
 use Rattle.machine.specs.State.{State}
 use Rattle.machine.proofs.PartsKept.{leaves_parts}
 use Rattle.planned_cluster.specs.Fitting.{SessionIsThere}
@@ -23,10 +23,10 @@ use Rattle.split_stores.specs.Logs.{Logged, IsNew, ticks_of, rises_above}
 use Rattle.split_stores.specs.Merged.{SettleStops, entries_played, played_with, timed_in}
 use Rattle.split_stores.specs.Merging.{logs_of}
 use Rattle.split_stores.specs.Orders.{without_lines}
-use Rattle.seat_lines.specs.Follows.{AllFollow, AllFollowSome}
-use Rattle.seat_lines.specs.Served.{Served}
-use Rattle.seat_lines.proofs.FirstsAmong.{all_begin}
-use Rattle.seat_lines.specs.Laws.{IsCarried, AllRise, SettledLogsAnswer, SettledLogsServe, SettledLogsArePlanned}
+use Rattle.log_refinement.specs.Follows.{AllFollow, AllFollowSome}
+use Rattle.log_refinement.specs.Served.{Served}
+use Rattle.log_refinement.proofs.FirstsAmong.{all_begin}
+use Rattle.log_refinement.specs.Laws.{IsCarried, AllRise, SettledLogsAnswer, SettledLogsServe, SettledLogsArePlanned}
 use Rattle.split_driver.specs.declared.stop.SplitStop.{SplitStop}
 use Rattle.split_driver.specs.declared.stop.SplitStop.TheVariants as stop
 use Rattle.split_driver.specs.Actors.{IsOfAll, SettlesBy, TearsBy}

@@ -15,26 +15,26 @@ use Rattle.script_data.specs.Data.{ScriptData}
 use Rattle.script_data.specs.declared.line.Line.{Line}
 use Rattle.script_data.specs.declared.line.Target.TheVariants as target
 use Rattle.script_data.specs.declared.line.Verb.{Verb}
-use Rattle.script_lines.specs.declared.cause.ScriptCause.{ScriptCause}
-use Rattle.script_lines.specs.declared.cause.ScriptCause.TheVariants.{TooManyLines, BadByte, WrongNumberOfWords, ReplayOnly, UnknownNode}
-use Rattle.script_lines.specs.declared.form.SetupForm.{SetupForm}
-use Rattle.script_lines.specs.declared.form.SetupForm.TheVariants as setup
-use Rattle.script_lines.specs.declared.form.VerbForm.{VerbForm}
-use Rattle.script_lines.specs.declared.form.VerbForm.TheVariants.{Tick, Take, Renew, Crash, Extend, Hold, Free, Accept, Decide, Put, Answer, Begin, Commit, Submit, AskBegin, AskCommit, Write, Read, Fetch, Collect, Abort, Heal, Vanish, Step, Finish, Sweep, OpenSweep, SweepStep, SweepFinish, Post, Await}
-use Rattle.script_lines.specs.declared.mode.Mode.TheVariants.{Split}
-use Rattle.script_lines.specs.Arguments.{actor_of, number_of, node_of}
-use Rattle.script_lines.specs.Checked.{number_within, number_at, setup_number_at, start_at, node_at, session_at, store_at, kind_at, target_at, key_at, value_at, stage_at, name_at}
-use Rattle.script_lines.specs.Grammar.{named, setup_forms, setup_words, verb_forms, verb_words, names_master, is_unsplit}
-use Rattle.script_lines.specs.Results.{◌>>=◌, or_cause, unless}
-use Rattle.script_lines.specs.Verbs.{form_at, form_of, verb_of, verb_at}
-use Rattle.script_lines.specs.Words.{is_plain, is_silent, words_of, LineWords, line_words}
+use Rattle.session_script.specs.declared.cause.ScriptCause.{ScriptCause}
+use Rattle.session_script.specs.declared.cause.ScriptCause.TheVariants.{TooManyLines, BadByte, WrongNumberOfWords, ReplayOnly, UnknownNode}
+use Rattle.session_script.specs.declared.form.SetupForm.{SetupForm}
+use Rattle.session_script.specs.declared.form.SetupForm.TheVariants as setup
+use Rattle.session_script.specs.declared.form.VerbForm.{VerbForm}
+use Rattle.session_script.specs.declared.form.VerbForm.TheVariants.{Tick, Take, Renew, Crash, Extend, Hold, Free, Accept, Decide, Put, Answer, Begin, Commit, Submit, AskBegin, AskCommit, Write, Read, Fetch, Collect, Abort, Heal, Vanish, Step, Finish, Sweep, OpenSweep, SweepStep, SweepFinish, Post, Await}
+use Rattle.session_script.specs.declared.mode.Mode.TheVariants.{Split}
+use Rattle.session_script.specs.Arguments.{actor_of, number_of, node_of}
+use Rattle.session_script.specs.Checked.{number_within, number_at, setup_number_at, start_at, node_at, session_at, store_at, kind_at, target_at, key_at, value_at, stage_at, name_at}
+use Rattle.session_script.specs.Grammar.{named, setup_forms, setup_words, verb_forms, verb_words, names_master, is_unsplit}
+use Rattle.session_script.specs.Results.{◌>>=◌, or_cause, unless}
+use Rattle.session_script.specs.Verbs.{form_at, form_of, verb_of, verb_at}
+use Rattle.session_script.specs.Words.{is_plain, is_silent, words_of, LineWords, line_words}
 use Rattle.session_script.specs.declared.setting.Setting.{Setting}
 use Rattle.session_script.specs.declared.setting.Setting.TheVariants.{Number, Flag, Buckets, Lead, Fault}
 use Rattle.session_script.specs.Names.{name_objection}
 use Rattle.session_script.specs.Script.{SoFar, BadLine, script_from, after_line, after_words, opened_line, setup_line, actor_line, after_setting, after_telling, or_bad_line, nothing_read}
 use Rattle.session_script.specs.Settings.{setting_of, arguments_of, with_setting, objection}
-use Rattle.seat_lines.specs.Laws.{NamesNode, NamesNoMaster}
-use Rattle.split_runs.specs.Runs.{RisesInBounds}
+use Rattle.log_refinement.specs.Laws.{NamesNode, NamesNoMaster}
+use Rattle.split_driver.specs.Runs.{RisesInBounds}
 use Rattle.split_driver.specs.Splits.{MaySplit, SplitScriptsMaySplit}
 
 -- ---- answers

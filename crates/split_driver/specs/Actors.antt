@@ -10,13 +10,13 @@ use Rattle.split_stores.specs.declared.settling.SettleStop.{SettleStop}
 use Rattle.split_stores.specs.declared.settling.SettleStop.TheVariants as settle
 use Rattle.split_stores.specs.Logs.{IsNew, ticks_of, rises_above}
 use Rattle.split_stores.specs.Merged.{Settled, IsTornInOrder}
-use Rattle.seat_lines.specs.Follows.{FollowsLines, FollowsSome}
-use Rattle.split_runs.specs.Runs.{TellsDrawn}
-use Rattle.split_runs.specs.declared.stop.PlayStop.{PlayStop}
-use Rattle.split_runs.specs.declared.stop.PlayStop.TheVariants as play
+use Rattle.log_refinement.specs.Follows.{FollowsLines, FollowsSome}
+use Rattle.split_driver.specs.Runs.{TellsDrawn}
+use Rattle.split_driver.specs.declared.play_stop.PlayStop.{PlayStop}
+use Rattle.split_driver.specs.declared.play_stop.PlayStop.TheVariants as play
 use Rattle.split_driver.specs.declared.ending.End.{End}
 use Rattle.split_driver.specs.declared.ending.End.TheVariants as end
-use Rattle.split_driver.specs.declared.playing.Job.{Job}
+use Rattle.split_driver.specs.declared.jobs.Job.{Job}
 use Rattle.split_driver.specs.declared.stop.SplitStop.{SplitStop}
 use Rattle.split_driver.specs.declared.stop.SplitStop.TheVariants as stop
 

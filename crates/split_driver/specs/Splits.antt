@@ -3,7 +3,7 @@ use Rattle.std.specs.Prelude.{◌≡◌, ℕ, ◌≤◌, false, List, length, sl
 use Rattle.tick_word.specs.Rule.{seat_limit}
 use Rattle.history_book.specs.declared.item.Item.{Item}
 use Rattle.script_data.specs.Data.{ScriptData}
-use Rattle.script_lines.specs.declared.mode.Mode.TheVariants.{Split}
+use Rattle.session_script.specs.declared.mode.Mode.TheVariants.{Split}
 use Rattle.session_script.specs.Script.{script_of}
 use Rattle.cluster_core.specs.Whole.{Whole}
 use Rattle.thread_scripts.specs.Actors.{actors_of}
@@ -11,9 +11,9 @@ use Rattle.split_stores.specs.Logs.{Logged}
 use Rattle.split_stores.specs.Merged.{Settled, IsTornInOrder}
 use Rattle.split_stores.specs.Merging.{logs_of}
 use Rattle.split_stores.specs.Orders.{without_lines}
-use Rattle.seat_lines.specs.Follows.{AllBegin, AllFollow, AllFollowSome}
-use Rattle.seat_lines.specs.Laws.{NameNoMaster, AllRise}
-use Rattle.split_runs.specs.Runs.{RiseInBounds}
+use Rattle.log_refinement.specs.Follows.{AllBegin, AllFollow, AllFollowSome}
+use Rattle.log_refinement.specs.Laws.{NameNoMaster, AllRise}
+use Rattle.split_driver.specs.Runs.{RiseInBounds}
 use Rattle.split_driver.specs.declared.stop.SplitStop.{SplitStop}
 use Rattle.split_driver.specs.declared.stop.SplitStop.TheVariants as stop
 

@@ -3,7 +3,7 @@ use Rattle.std.specs.Prelude.{◌≡◌, ℕ, true, if◌then◌else◌, List, [
 use Rattle.history_book.specs.declared.item.Item.{Item}
 use Rattle.history_book.specs.declared.item.Item.TheVariants as item
 use Rattle.history_book.specs.declared.item.Note.TheVariants as note
-use Rattle.turn_rules.specs.Carried.{is_posted}
+use Rattle.session_script.specs.PostedNames.{is_posted}
 
 -- the names that are posted after one more item
 abbrev pub names_behind : List (List ℕ) → Item → List (List ℕ)

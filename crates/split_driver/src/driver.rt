@@ -3,23 +3,23 @@ ghost use Rattle.std.specs.Prelude.{◌≡◌, ◌≤◌, All, IfErr, IfOk, leng
 ghost use Rattle.stamp_base.specs.declared.limits.TheConstants.{LINE_LIMIT};
 ghost use Rattle.stamp_base.specs.Setups.{numbers_of};
 ghost use Rattle.session_script.specs.Script.{data_of};
-ghost use Rattle.line_steps.specs.Answers.{Answers};
-ghost use Rattle.line_steps.specs.Planned.{Planned};
+ghost use Rattle.command_semantics.specs.Answers.{Answers};
+ghost use Rattle.command_semantics.specs.Planned.{Planned};
 ghost use Rattle.planned_cluster.specs.Fitting.{SessionIsThere};
 ghost use Rattle.thread_scripts.specs.Actors.{actors_of};
-ghost use Rattle.seat_lines.specs.Served.{Served};
+ghost use Rattle.log_refinement.specs.Served.{Served};
 ghost use Rattle.script_data.specs.Data.{ScriptData};
 ghost use Rattle.split_driver.specs.Splits.{CarriedOut, MaySplit, Splits, SplitStops, SplitsTo};
 ghost use Rattle.split_driver.specs.Waits.{Waited};
 
 use crate::SplitStop;
 use crate::ending::{finish, settle, wait_for_ever};
-use crate::playing::{jobs_of, play_all};
+use crate::jobs::{jobs_of, play_all};
 use crate::waits::all_waited;
 use cluster_core::Cluster;
+use log_refinement::{settled_logs_answer, settled_logs_are_planned, settled_logs_serve};
 use planned_cluster::see_session;
 use script_data::Line;
-use seat_lines::{settled_logs_answer, settled_logs_are_planned, settled_logs_serve};
 use session_script::Script;
 use split_stores::{PartGate, Split};
 use std::alloc::Global;

@@ -14,10 +14,10 @@ ghost use Rattle.split_driver.specs.Splits.{AreLogs, Splits};
 ghost use Rattle.split_driver.specs.Waits.{Waited};
 
 use crate::SplitStop;
-use crate::playing::Job;
+use crate::jobs::Job;
+use crate::play_stop::PlayStop;
 use cluster_core::Cluster;
 use session_script::Script;
-use split_runs::PlayStop;
 use split_stores::{ActorSeat, SettleStop, Split};
 use stamp_base::NoMemory;
 use std::alloc::Global;

@@ -1,113 +1,54 @@
-// The actors of a script, each on a thread of its own.
-ghost use Rattle.std.specs.Prelude.{◌≡◌, ◌≤◌, All, IfOk, vec_len};
-ghost use Rattle.std.specs.List.{AllZip};
-ghost use Rattle.std.specs.Vec.{vec_capacity};
+// The lines of an actor, carried out over split stores.
+ghost use Rattle.std.specs.Prelude.{◌≡◌, ◌≤◌, [], IfErr, OnOk, length};
 ghost use Rattle.stamp_base.specs.declared.limits.TheConstants.{LINE_LIMIT};
-ghost use Rattle.split_stores.specs.Logs.{IsNew};
-ghost use Rattle.seat_lines.specs.Laws.{NameNoMaster};
-ghost use Rattle.split_runs.specs.Runs.{RiseInBounds};
-ghost use Rattle.split_driver.specs.Actors.{IsJobOf, IsPlayedBy};
+ghost use Rattle.log_refinement.specs.Follows.{FollowsLines, FollowsSome};
+ghost use Rattle.log_refinement.specs.Laws.{NameNoMaster};
+ghost use Rattle.split_driver.specs.Runs.{RiseInBounds, TellsDrawn};
 
-use crate::threads::{join_all, start_all};
+use crate::account::Account;
+use crate::player::Player;
+use crate::{PlayStop, Posting};
 use history_book::Actor;
-use session_script::Script;
-use split_runs::{PlayStop, Posting};
+use script_data::Line;
 use split_stores::{ActorSeat, PartGate, Split};
-use stamp_base::NoMemory;
 use std::alloc::Global;
 use std::sync::Wait;
-use std::thread;
-use std::thread::Threads;
 
-/// An actor with its log, and, once it has ended, why it ended before its lines did, if so.
-#[derive(Drop)]
-pub(crate) struct Job {
-    pub(crate) actor: Actor,
-    pub(crate) seat: ActorSeat,
-    pub(crate) answer: Result<(), PlayStop>,
-}
-
-/// A seat for each actor.
-pub(crate) fn jobs_of(
-    alloc: Global,
-    split: &Split,
-    actors: Vec<Actor>,
-    seats: Vec<ActorSeat>,
-) -> Result<Vec<Job>, NoMemory>
-    requires paired { vec_len seats ≡ vec_len actors }
-    requires seats { All (IsNew split.now.id) seats.items }
-    ensures { IfOk result (λ jobs. AllZip (IsJobOf split.now.id) actors.items jobs.items) }
-{
-    let mut jobs = Vec::with_capacity(alloc, actors.len())?;
-    let mut seats = seats;
-    for actor in actors {
-        // There is a seat for each actor.
-        if let Some(seat) = seats.pop() {
-            jobs.push_reserved(Job {
-                actor,
-                seat,
-                answer: Ok(()),
-            });
-        }
-    }
-    Ok(jobs)
-}
-
-/// Each actor carries out its lines on a thread of its own, and nothing is carried out on this one. Where a thread cannot be made, or
-/// the gate refuses it, no further one is started and those that run are joined: an actor that was left out would be waited for.
-pub(crate) fn play_all<R: Threads + Wait + Sync, G: PartGate>(
-    rt: &R,
-    alloc: Global,
-    split: &Split,
-    script: &Script,
-    jobs: Vec<Job>,
-    gate: &G,
-) -> Result<Vec<Job>, NoMemory>
-    requires jobs { All (λ job. IsNew split.now.id job.seat) jobs.items }
-    requires few { vec_len script.now.lines ≤ LINE_LIMIT }
-    requires ticks { RiseInBounds script.now.lines.items }
-    requires masters { NameNoMaster script.now.lines.items }
-    ensures { IfOk result (λ played. AllZip (IsPlayedBy script.now.lines.items) jobs.items played.items) }
-{
-    let posting = Posting::new();
-    run_all(rt, alloc, split, &posting, script, jobs, gate)
-}
-
-// The room for all threads and for what they give back is made before the first starts.
-fn run_all<R: Threads + Wait + Sync, G: PartGate>(
+/// Carries out those of a script's lines that are the actor's, one after the other, each to its end; an `await` waits until its name
+/// is posted. What is logged follows these lines, and a front of them where the actor stops before the end. Then all that wait are woken,
+/// and stop too. That the lines come to an end is not promised.
+pub fn play_lines<R: Wait, G: PartGate>(
     rt: &R,
     alloc: Global,
     split: &Split,
     posting: &Posting,
-    script: &Script,
-    jobs: Vec<Job>,
+    seat: &mut ActorSeat,
+    actor: Actor,
+    lines: &[Line],
     gate: &G,
-) -> Result<Vec<Job>, NoMemory>
-    requires jobs { All (λ job. IsNew split.now.id job.seat) jobs.items }
-    requires few { vec_len script.now.lines ≤ LINE_LIMIT }
-    requires ticks { RiseInBounds script.now.lines.items }
-    requires masters { NameNoMaster script.now.lines.items }
-    ensures { IfOk result (λ played. AllZip (IsPlayedBy script.now.lines.items) jobs.items played.items) }
+) -> Result<(), PlayStop>
+    requires word { seat.old.word ≡ split.now.id }
+    requires fresh { seat.old.entries ≡ [] }
+    requires few { length lines.now ≤ LINE_LIMIT }
+    requires ticks { RiseInBounds lines.now }
+    requires masters { NameNoMaster lines.now }
+    ensures word { seat.new.word ≡ seat.old.word }
+    ensures follows { OnOk result (FollowsLines lines.now actor seat.new.entries) }
+    ensures front { FollowsSome lines.now actor seat.new.entries }
+    ensures spent { IfErr result (TellsDrawn seat.new.entries) }
 {
-    let threads = Vec::with_capacity(alloc, jobs.len())?;
-    let played = Vec::with_capacity(alloc, jobs.len())?;
-    thread::scope(
-        thread::scope_env(),
+    let player = Player {
         rt,
-        move |scope| -> Result<Vec<Job>, NoMemory>
-            requires { All (λ job. IsNew split.now.id job.seat) jobs.items × (vec_len script.now.lines ≤ LINE_LIMIT) × RiseInBounds script.now.lines.items × NameNoMaster script.now.lines.items
-                × (vec_len threads ≡ 0) × (vec_len jobs ≤ vec_capacity threads) × (vec_len played ≡ 0) × (vec_len jobs ≤ vec_capacity played) }
-            ensures { IfOk result (λ played. AllZip (IsPlayedBy script.entry.now.lines.items) jobs.items played.items) }
-        {
-            let started = start_all(
-                scope, rt, alloc, split, posting, script, gate, jobs, threads,
-            );
-            let played = join_all(rt, started.threads, played);
-            if started.all {
-                Ok(played)
-            } else {
-                Err(NoMemory)
-            }
-        },
-    )
+        alloc,
+        split,
+        posting,
+        gate,
+        actor,
+    };
+    let mut account = Account::new(alloc);
+    let played = player.play_all(seat, &mut account, lines);
+    if played.is_err() {
+        posting.close(rt);
+    }
+    played
 }

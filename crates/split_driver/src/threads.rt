@@ -4,13 +4,14 @@ ghost use Rattle.std.specs.List.{AllZip};
 ghost use Rattle.std.specs.Vec.{vec_capacity};
 ghost use Rattle.stamp_base.specs.declared.limits.TheConstants.{LINE_LIMIT};
 ghost use Rattle.split_stores.specs.Logs.{IsNew};
-ghost use Rattle.seat_lines.specs.Laws.{NameNoMaster};
-ghost use Rattle.split_runs.specs.Runs.{RiseInBounds};
+ghost use Rattle.log_refinement.specs.Laws.{NameNoMaster};
+ghost use Rattle.split_driver.specs.Runs.{RiseInBounds};
 ghost use Rattle.split_driver.specs.Actors.{GivesBack, IsPlayedBy, task};
 
-use crate::playing::Job;
+use crate::jobs::Job;
+use crate::playing::play_lines;
+use crate::posting::Posting;
 use session_script::Script;
-use split_runs::{Posting, play_lines};
 use split_stores::{PartGate, Split};
 use stamp_base::NoMemory;
 use std::alloc::Global;

@@ -4,7 +4,7 @@ ghost use Rattle.split_driver.specs.Waits.{IsThere, Waited, names_behind};
 
 use history_book::{Item, Note};
 use machine::Event;
-use posted_names::PostedNames;
+use session_script::PostedNames;
 use stamp_base::NoMemory;
 use std::alloc::Global;
 

@@ -7,7 +7,7 @@ use Rattle.port_io.specs.declared.weather.Fate.{Fate}
 use Rattle.split_parts.specs.Agrees.{CallsFit, HasNode}
 use Rattle.stamp_base.specs.declared.stores.Store.{Store}
 use Rattle.history_book.specs.declared.item.Item.{Item}
-use Rattle.store_parts.specs.Rows.{Row}
+use Rattle.system_parts.specs.Rows.{Row, IsBare}
 use Rattle.machine.specs.declared.event.Event.{Event}
 use Rattle.machine.specs.State.{Client, State, opening}
 use Rattle.machine.specs.Effect.{Effect, Stop, Refuses, Faults}
@@ -17,17 +17,16 @@ use Rattle.stamp_base.specs.SetupNumbers.{SetupNumbers}
 use Rattle.machine.specs.Events.Fetch.{fetch_asks, fetch_on}
 use Rattle.machine.specs.Events.Put.{put_asks}
 use Rattle.machine.specs.Events.Step.{next_of, step_asks, step_on, work_of}
-use Rattle.store_parts.specs.Pairs.{Pairs}
-use Rattle.store_parts.specs.Rows.{IsBare}
+use Rattle.system_parts.specs.Pairs.{Pairs}
 use Rattle.cluster_core.specs.Required.{IsWaitedFor, MayBegin, MayCommit, MayMakeStep, MayWrite}
-use Rattle.client_parts.specs.SessionSteps.{begin_refusal, handed_commit, work_refusal}
+use Rattle.system_parts.specs.SessionSteps.{begin_refusal, handed_commit, work_refusal}
 use Rattle.history_book.specs.declared.cause.Cause.{Cause}
-use Rattle.oracle_parts.specs.Instance.{InstanceEntry}
+use Rattle.system_parts.specs.Instance.{InstanceEntry}
 use Rattle.machine.specs.Calls.{HoldsNone, KeepsShadowNext, MayStep, WaitsAt}
 use Rattle.event_parts.specs.Served.{HasRoomIf}
 use Rattle.machine.specs.Clients.{is_reading}
 use Rattle.isolation_laws.specs.Words.{ClientAt}
-use Rattle.call_laws.specs.Requests.{PostAt}
+use Rattle.cause_laws.specs.RequestCalls.{PostAt}
 use Rattle.machine.specs.Machine.{Step, step_by, asks_at_client, asks_at_post, at_client, at_post, on_table, with_client, asks, stepped, at_both, with_post, on_ask, on_client as of_session, on_cells as of_cells, on_stores as of_stores}
 use Rattle.event_parts.specs.Made.{Makes, Leaves, fate_ahead}
 use Rattle.event_parts.specs.declared.stopped.Stopped.{Stopped}

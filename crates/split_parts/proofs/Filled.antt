@@ -10,7 +10,7 @@ use Rattle.machine.specs.State.{State, opening}
 use Rattle.machine.specs.Events.Take.{rules_of}
 use Rattle.machine.specs.Machine.{Step, asks, stepped}
 use Rattle.machine.proofs.PartsKept.{leaves_parts}
-use Rattle.store_parts.specs.Record.{Leasing}
+use Rattle.system_parts.specs.Record.{Leasing}
 use Rattle.event_parts.specs.declared.stopped.Stopped.{Stopped}
 use Rattle.event_parts.specs.declared.stopped.Stopped.TheVariants.{Refused, StoreFault, NoMemory}
 use Rattle.cluster_core.specs.Required.{CanMake}

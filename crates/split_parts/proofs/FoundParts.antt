@@ -3,15 +3,15 @@
 use Rattle.std.proofs.Common.{◌≡◌, ℕ, zero, suc, ◌<◌, ◌≤◌, ◌↔◌, Bool, true, false, nat_lt, List, [], ◌∷◌, length, replicate, slice_get, slice_set, Option, Some, None, refl, sym, ap, ◌∙◌, subst, arith}
 use Rattle.std.specs.Prelude.{slice_index_or, IfSome, IsSomeAnd, IsTrue, if◌then◌else◌}
 use Rattle.std.proofs.lemmas.Option.{same_Some}
-use Rattle.store_parts.specs.Rows.{looked}
-use Rattle.client_parts.specs.declared.asks.Ask.{Ask}
-use Rattle.client_parts.specs.declared.asks.Ask.TheVariants as ask
-use Rattle.client_parts.specs.Sweep.{Sweeping, sweep_ask}
-use Rattle.oracle_parts.specs.Instance.{InstanceEntry}
+use Rattle.system_parts.specs.Rows.{looked}
+use Rattle.system_parts.specs.declared.asks.Ask.{Ask}
+use Rattle.system_parts.specs.declared.asks.Ask.TheVariants as ask
+use Rattle.system_parts.specs.Sweep.{Sweeping, sweep_ask}
+use Rattle.system_parts.specs.Instance.{InstanceEntry}
 use Rattle.machine.specs.State.{Client, client_new}
 use Rattle.machine.specs.Calls.{KeepsShadowNext}
 use Rattle.isolation_laws.specs.Words.{ClientAt}
-use Rattle.call_laws.specs.Requests.{PostAt}
+use Rattle.cause_laws.specs.RequestCalls.{PostAt}
 use Rattle.split_parts.specs.Agrees.{HasNode, IsAsked}
 use Rattle.split_parts.specs.Lookups.{post_by}
 use Rattle.split_parts.specs.Parts.{Node, Parts, filled, lent_clients, lent_nodes, or_else, setup_by, setup_of}

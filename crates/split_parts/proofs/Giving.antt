@@ -3,10 +3,10 @@ use Rattle.std.proofs.Common.{◌≡◌, ℕ, zero, suc, List, [], ◌∷◌, le
 use Rattle.std.specs.Prelude.{slice_index_or, IfSome}
 use Rattle.stamp_base.specs.declared.stores.Store.{Store}
 use Rattle.stamp_base.specs.declared.stores.Store.TheVariants as store
-use Rattle.store_parts.specs.Rows.{Row}
-use Rattle.store_parts.specs.Pairs.{Pairs}
-use Rattle.store_parts.specs.Record.{MasterRecord, Leasing}
-use Rattle.oracle_parts.specs.Instance.{InstanceEntry}
+use Rattle.system_parts.specs.Rows.{Row}
+use Rattle.system_parts.specs.Pairs.{Pairs}
+use Rattle.system_parts.specs.Record.{MasterRecord, Leasing}
+use Rattle.system_parts.specs.Instance.{InstanceEntry}
 use Rattle.machine.specs.State.{State}
 use Rattle.split_parts.specs.Agrees.{CallsFit, AreFew}
 use Rattle.split_parts.specs.Parts.{Parts, Node, CellRows, Marks, Record, or_else, given, given_node, given_rows, given_pairs, given_master, given_from, lent_nodes, lent_rows, lent_pairs, lent_master, with_lent, called, cells_called, table_called, master_called, fate_of, cells_fate, table_fate, master_fate}

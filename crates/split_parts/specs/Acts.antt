@@ -5,7 +5,7 @@ use Rattle.machine.specs.declared.event.Event as machine
 use Rattle.machine.specs.declared.event.Event.TheVariants as timed
 use Rattle.machine.specs.Effect.{Stop, Refuses, Faults}
 use Rattle.machine.specs.Machine.{Step, stepped, asks}
-use Rattle.turn_rules.specs.Carried.{names_after}
+use Rattle.session_script.specs.PostedNames.{names_after}
 use Rattle.event_parts.specs.declared.stopped.Stopped.{Stopped}
 use Rattle.event_parts.specs.declared.stopped.Stopped.TheVariants.{Refused, StoreFault}
 use Rattle.split_parts.specs.declared.acting.Acted.{Acted}

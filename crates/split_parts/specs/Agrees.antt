@@ -3,19 +3,19 @@ use Rattle.std.specs.Prelude.{◌≡◌, ◌≢◌, ℕ, ◌+◌, ◌<◌, ◌�
 use Rattle.stamp_base.specs.declared.stores.Mark.TheVariants.{Committed}
 use Rattle.stamp_base.specs.declared.stores.Store.{Store}
 use Rattle.stamp_base.specs.declared.stores.Store.TheVariants as store
-use Rattle.store_parts.specs.Pairs.{Pairs, mark_of}
-use Rattle.store_parts.specs.Rows.{IsBare}
-use Rattle.client_parts.specs.declared.session.State as state
-use Rattle.client_parts.specs.SessionSteps.{SessionEntry}
-use Rattle.oracle_parts.specs.declared.instance.Held.{Held}
-use Rattle.oracle_parts.specs.declared.instance.Request.{Request}
-use Rattle.oracle_parts.specs.declared.instance.Request.TheVariants.{Begin, Commit}
-use Rattle.oracle_parts.specs.Instance.{InstanceEntry, held_of}
+use Rattle.system_parts.specs.Pairs.{Pairs, mark_of}
+use Rattle.system_parts.specs.Rows.{IsBare}
+use Rattle.system_parts.specs.declared.session.State as state
+use Rattle.system_parts.specs.SessionSteps.{SessionEntry}
+use Rattle.system_parts.specs.declared.instance.Held.{Held}
+use Rattle.system_parts.specs.declared.instance.Request.{Request}
+use Rattle.system_parts.specs.declared.instance.Request.TheVariants.{Begin, Commit}
+use Rattle.system_parts.specs.Instance.{InstanceEntry, held_of}
 use Rattle.machine.specs.State.{Client, State}
 use Rattle.machine.specs.Calls.{HoldsNone}
 use Rattle.machine.specs.Events.Put.{to_place}
 use Rattle.isolation_laws.specs.Words.{ClientAt}
-use Rattle.call_laws.specs.Requests.{PostAt}
+use Rattle.cause_laws.specs.RequestCalls.{PostAt}
 use Rattle.cluster_core.specs.Required.{MayExtend, MayHeal, MayMakeStep, MaySweep}
 use Rattle.cluster_core.specs.Served.{held_in}
 use Rattle.split_parts.specs.declared.event.Event.{Event}

@@ -7,13 +7,13 @@ use Rattle.machine.specs.declared.event.Event.{Event}
 use Rattle.machine.specs.declared.event.Event.TheVariants as event
 use Rattle.machine.specs.Machine.{stepped}
 use Rattle.split_parts.specs.Agrees.{HasSession}
-use Rattle.store_parts.specs.Rows.{Row}
-use Rattle.oracle_parts.specs.Instance.{InstanceEntry}
+use Rattle.system_parts.specs.Rows.{Row}
+use Rattle.system_parts.specs.Instance.{InstanceEntry}
 use Rattle.machine.specs.State.{Client}
 use Rattle.machine.specs.Effect.{Effect}
 use Rattle.event_parts.specs.Made.{Makes}
 use Rattle.event_parts.specs.declared.stopped.Stopped.{Stopped}
-use Rattle.store_parts.specs.Pairs.{Pairs}
+use Rattle.system_parts.specs.Pairs.{Pairs}
 use Rattle.split_parts.specs.Parts.{Parts, Node, Marks, CellRows, filled, given_from, given_pairs, given_rows, lent_pairs, lent_rows}
 
 -- the effect on a client, as one on a lent session

@@ -1,6 +1,6 @@
 -- The lent node's instance in the filled state.
 use Rattle.std.specs.Prelude.{nat_lt, if◌then◌else◌, Option, None, Some}
-use Rattle.oracle_parts.specs.Instance.{InstanceEntry}
+use Rattle.system_parts.specs.Instance.{InstanceEntry}
 use Rattle.split_parts.specs.Parts.{Node}
 
 -- what stands at the lent node, where the setup has such a node

@@ -2,8 +2,7 @@
 use Rattle.std.specs.Prelude.{◌≡◌, ◌<◌, false, ℕ, List, Option, None, Some, Result, Ok, Err, IfSome, IsErr}
 use Rattle.stamp_base.specs.declared.stores.Store.{Store}
 use Rattle.machine.specs.declared.event.Event.{Event}
-use Rattle.turn_rules.specs.Carried.{is_posted, names_after}
-use Rattle.posted_names.specs.Names.{Posted, with_name}
+use Rattle.session_script.specs.PostedNames.{is_posted, names_after, Posted, with_name}
 use Rattle.event_parts.specs.declared.stopped.Stopped.{Stopped}
 use Rattle.event_parts.specs.declared.stopped.Stopped.TheVariants.{NoMemory}
 use Rattle.split_parts.specs.Parts.{Parts, called}

@@ -7,14 +7,14 @@ use Rattle.stamp_base.specs.declared.stores.Store.{Store}
 use Rattle.stamp_base.specs.declared.stores.Store.TheVariants as store
 use Rattle.port_io.specs.declared.weather.Fate.{Fate}
 use Rattle.port_io.specs.declared.weather.Fate.TheVariants.{Works}
-use Rattle.store_parts.specs.Rows.{Row}
-use Rattle.store_parts.specs.Pairs.{Pairs}
-use Rattle.store_parts.specs.Record.{MasterRecord, Leasing}
-use Rattle.client_parts.specs.Sweep.{Sweeping}
-use Rattle.oracle_parts.specs.Instance.{InstanceEntry}
+use Rattle.system_parts.specs.Rows.{Row}
+use Rattle.system_parts.specs.Pairs.{Pairs}
+use Rattle.system_parts.specs.Record.{MasterRecord, Leasing}
+use Rattle.system_parts.specs.Sweep.{Sweeping}
+use Rattle.system_parts.specs.Instance.{InstanceEntry}
 use Rattle.machine.specs.State.{Client, State, opening}
 use Rattle.machine.specs.Events.Take.{rules_of}
-use Rattle.posted_names.specs.Names.{Posted}
+use Rattle.session_script.specs.PostedNames.{Posted}
 use Rattle.split_parts.specs.Calls.{NumberedFault, fate_at}
 use Rattle.split_parts.specs.declared.calls.PlannedCalls.{PlannedCalls}
 use Rattle.split_parts.specs.declared.lent.Lent.{Lent}

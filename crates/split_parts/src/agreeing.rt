@@ -1,6 +1,6 @@
 // Whether the parts that are lent agree, so that the event can be made of them.
 ghost use Rattle.std.specs.Prelude.{◌≡◌, ◌↔◌, ◌<◌, ℕ, IsSome, IsTrue, None, option_map, slice_index_or};
-ghost use Rattle.client_parts.specs.declared.session.State.TheVariants.{Free, Open};
+ghost use Rattle.system_parts.specs.declared.session.State.TheVariants.{Free, Open};
 ghost use Rattle.machine.specs.Events.Put.{to_place};
 ghost use Rattle.cluster_core.specs.Required.{MayExtend, MayHeal, MayMakeStep, MaySweep};
 ghost use Rattle.cluster_core.specs.Served.{held_in};
@@ -12,9 +12,9 @@ ghost use Rattle.split_parts.specs.Parts.{behind, filled, seen, session_of, sess
 use crate::calls::PlannedCalls;
 use crate::parts::SessionPart;
 use crate::{Event, Lent, deciding};
-use client_parts::State;
 use event_parts::Client;
 use stamp_base::{KeyNo, NodeNo, SessionNo, Store};
+use system_parts::State;
 use takeover_core::Post;
 
 /// The base clock goes up to here, and fewer calls than this are made on a store.
@@ -68,14 +68,14 @@ impl Lent<'_> {
         requires { HasSession (seen self.now) session }
         ensures { result ≡ asked_of (seen self.now) (timed_by (seen self.now) (Event.Step session)) }
     {
-        step_events::next_store(self.client(session)?)
+        session_events::next_store(self.client(session)?)
     }
 
     fn sweep_store(&self) -> Option<Store>
         ensures { result ≡ asked_of (seen self.now) (timed_by (seen self.now) Event.SweepStep) }
     {
         match &self.janitor {
-            Some(part) => step_events::sweep_store(&part.sweep),
+            Some(part) => session_events::sweep_store(&part.sweep),
             None => None,
         }
     }

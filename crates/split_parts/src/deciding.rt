@@ -1,9 +1,9 @@
 // Whether a session, a node and the stores agree, each with the others that an event brings together.
 ghost use Rattle.std.specs.Prelude.{◌≡◌, ◌↔◌, IfSome, IsTrue, None, Some};
-ghost use Rattle.store_parts.specs.Rows.{HasOnly, IsBare};
-ghost use Rattle.client_parts.specs.declared.session.State.TheVariants.{Open};
-ghost use Rattle.client_parts.specs.SessionSteps.{handed_commit};
-ghost use Rattle.client_parts.specs.Sweep.{sweep_ask};
+ghost use Rattle.system_parts.specs.Rows.{HasOnly, IsBare};
+ghost use Rattle.system_parts.specs.declared.session.State.TheVariants.{Open};
+ghost use Rattle.system_parts.specs.SessionSteps.{handed_commit};
+ghost use Rattle.system_parts.specs.Sweep.{sweep_ask};
 ghost use Rattle.machine.specs.Calls.{HoldsNone, KeepsShadowNext, MayStep};
 ghost use Rattle.machine.specs.Events.Heal.{offer_of};
 ghost use Rattle.machine.specs.Events.Put.{to_place};
@@ -13,14 +13,13 @@ ghost use Rattle.cluster_core.specs.Required.{Covers};
 ghost use Rattle.split_parts.specs.Agrees.{HasAsked, HasAskedAt, HasAskedIf, NotPlaced};
 
 use cell_store::Cells;
-use client_parts::{Ask, State};
 use commit_table::Table;
 use event_parts::Client;
 use invalidator::Sweep;
 use master_record::Master;
 use oracle_core::Instance;
-use oracle_parts::{Held, Request};
 use stamp_base::{KeyList, KeyNo, Mark, SessionNo, Stamp, TxnId};
+use system_parts::{Ask, Held, Request, State};
 use takeover_core::Post;
 
 /// The node holds no request of the session.

@@ -7,22 +7,19 @@ ghost use Rattle.machine.specs.Events.Vanish.{vanish_on};
 ghost use Rattle.machine.specs.Events.AskBegin.{ask_begin_on};
 ghost use Rattle.machine.specs.Events.AskCommit.{ask_commit_on};
 ghost use Rattle.machine.specs.Clients.{is_reading};
-ghost use Rattle.machine.specs.Calls.{HoldsNone, WaitsAt};
+ghost use Rattle.machine.specs.Calls.{HoldsNone, WaitsAt, KeepsShadowNext, MayStep};
 ghost use Rattle.machine.specs.Events.Accept.{accept_on};
 ghost use Rattle.machine.specs.Events.Put.{put_on, to_place};
 ghost use Rattle.event_parts.specs.Served.{held_at, HasPlaceFor};
 ghost use Rattle.machine.specs.Events.Step.{next_of, step_asks, step_on, work_of};
-ghost use Rattle.machine.specs.Calls.{KeepsShadowNext, MayStep};
-ghost use Rattle.client_parts.specs.SessionSteps.{handed_commit};
-ghost use Rattle.event_parts.specs.Made.{fate_ahead};
+ghost use Rattle.system_parts.specs.SessionSteps.{handed_commit, begin_refusal, work_refusal};
+ghost use Rattle.event_parts.specs.Made.{fate_ahead, Makes};
 ghost use Rattle.machine.specs.Events.Fetch.{fetch_on};
 ghost use Rattle.stamp_base.specs.Setups.{numbers_of};
 ghost use Rattle.machine.specs.Events.Decide.{decide_on};
 ghost use Rattle.machine.specs.Events.Answer.{answer_on};
-ghost use Rattle.client_parts.specs.SessionSteps.{begin_refusal, work_refusal};
-ghost use Rattle.event_parts.specs.Made.{Makes};
 ghost use Rattle.machine.specs.Machine.{asks};
-ghost use Rattle.store_parts.specs.Rows.{IsBare};
+ghost use Rattle.system_parts.specs.Rows.{IsBare};
 ghost use Rattle.cluster_core.specs.Required.{CanMake};
 ghost use Rattle.port_io.specs.declared.weather.Fate.{Fate};
 ghost use Rattle.split_parts.specs.Acts.{Acts, asked_of};
@@ -158,7 +155,7 @@ impl<'a> Lent<'a> {
         requires { HasSession (seen self.now) session }
         ensures { result ≡ asked_of (seen self.now) (Event.Step session) }
     {
-        step_events::next_store(self.client(session)?)
+        session_events::next_store(self.client(session)?)
     }
 
     fn put_store(&self, node: NodeNo, session: SessionNo) -> Option<Store>
@@ -482,11 +479,11 @@ fn step_cells(
     match table {
         Some(place) => {
             let marks = &mut **place;
-            step_events::step(weather, book, client, cells, &mut marks.table, session)
+            session_events::step(weather, book, client, cells, &mut marks.table, session)
         }
         None => {
             let mut none = Table::new(alloc);
-            step_events::step(weather, book, client, cells, &mut none, session)
+            session_events::step(weather, book, client, cells, &mut none, session)
         }
     }
 }

@@ -1,7 +1,7 @@
 // The parts of the system, each of which can be lent alone.
 ghost use Rattle.std.specs.Prelude.{◌≡◌, ◌≤◌, [], None, false};
 ghost use Rattle.machine.specs.State.{client_new};
-ghost use Rattle.turn_rules.specs.Carried.{is_posted};
+ghost use Rattle.session_script.specs.PostedNames.{is_posted};
 ghost use Rattle.split_parts.specs.Calls.{AreNumbered};
 
 use crate::calls::PlannedCalls;
@@ -11,7 +11,7 @@ use event_parts::Client;
 use invalidator::Sweep;
 use master_record::Master;
 use port_io::Fate;
-use posted_names::PostedNames;
+use session_script::PostedNames;
 use stamp_base::{Name, NodeNo, Setup};
 use std::alloc::Global;
 use takeover_core::Post;

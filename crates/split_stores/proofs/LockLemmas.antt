@@ -3,7 +3,7 @@ use Rattle.std.proofs.Common.{◌≡◌, ℕ, ◌<◌, List, length, None, Optio
 use Rattle.std.specs.Prelude.{IfSome, IsSome, IsSomeAnd, slice_index_or, slice_set}
 use Rattle.std.proofs.lemmas.List.{get_or-set_same}
 use Rattle.stamp_base.specs.declared.stores.Store.{Store}
-use Rattle.client_parts.specs.Sweep.{Sweeping}
+use Rattle.system_parts.specs.Sweep.{Sweeping}
 use Rattle.machine.specs.State.{Client}
 use Rattle.machine.specs.Machine.{asks_at_client}
 use Rattle.machine.specs.declared.event.Event.TheVariants as timed

@@ -6,9 +6,9 @@ use Rattle.history_book.proofs.MemberLemmas.{AtEach-weaker}
 use Rattle.machine.specs.declared.event.Event as machine
 use Rattle.machine.specs.Machine.{stepped, asks}
 use Rattle.script_data.specs.Data.{ScriptData}
-use Rattle.line_steps.specs.Planned.{with_tick, Planned}
-use Rattle.line_steps.specs.Runs.{Played, Calls, played, opening_played, step_of, clocks_of, clock_after, calls_after, fate_by}
-use Rattle.planned_laws.specs.Orders.{TimedEvent, all_played, AllRead, ticks_made, OrdersArePlanned}
+use Rattle.command_semantics.specs.Planned.{with_tick, Planned}
+use Rattle.command_semantics.specs.Runs.{Played, Calls, played, opening_played, step_of, clocks_of, clock_after, calls_after, fate_by}
+use Rattle.command_semantics.specs.Orders.{TimedEvent, all_played, AllRead, ticks_made, OrdersArePlanned}
 use Rattle.split_stores.specs.declared.seat.Entry.{Entry}
 use Rattle.split_stores.specs.Merged.{timed_in, played_with, replayed_items, entries_played, merged_played, IsReplayed, IsSettledAt}
 use Rattle.split_stores.specs.Orders.{rise_by, timed_entries, rises_in, without_lines, SettledByPlans, SettledIsPlanned}

@@ -14,12 +14,12 @@ use Rattle.machine.specs.State.{State}
 use Rattle.machine.specs.Machine.{IsSteadyAt, reading_of}
 use Rattle.script_data.specs.Data.{ScriptData, IsSound}
 use Rattle.cause_laws.proofs.AlwaysExplained.{tells_at_first}
-use Rattle.line_steps.specs.Next.{Clocks}
-use Rattle.line_steps.specs.Runs.{Played, played, opening_played, step_of, clocks_of, clock_after}
-use Rattle.line_steps.proofs.Ending.{opening_reached}
-use Rattle.line_steps.proofs.Timing.{Timed, InTime, in_time}
-use Rattle.planned_laws.specs.SoFar.{ReadsClocks}
-use Rattle.planned_laws.specs.Orders.{EventsStayTold, IsTold}
+use Rattle.command_semantics.specs.Next.{Clocks}
+use Rattle.command_semantics.specs.Runs.{Played, played, opening_played, step_of, clocks_of, clock_after}
+use Rattle.command_semantics.proofs.Ending.{opening_reached}
+use Rattle.command_semantics.proofs.Timing.{Timed, InTime, in_time}
+use Rattle.command_semantics.specs.SoFar.{ReadsClocks}
+use Rattle.command_semantics.specs.Orders.{EventsStayTold, IsTold}
 use Rattle.cluster_core.specs.Whole.{Whole}
 use Rattle.planned_cluster.specs.Standing.{StandsAt}
 use Rattle.split_parts.specs.declared.event.Event.{Event}

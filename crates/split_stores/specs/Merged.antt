@@ -5,7 +5,7 @@ use Rattle.history_book.specs.Members.{AtEach}
 use Rattle.machine.specs.declared.event.Event as machine
 use Rattle.machine.specs.declared.event.Event.TheVariants as timed
 use Rattle.script_data.specs.Data.{ScriptData}
-use Rattle.line_steps.specs.Runs.{Played, played, opening_played, step_of}
+use Rattle.command_semantics.specs.Runs.{Played, played, opening_played, step_of}
 use Rattle.cluster_core.specs.Whole.{Whole}
 use Rattle.split_parts.specs.declared.event.Event.{Event}
 use Rattle.split_parts.specs.declared.event.Event.TheVariants as event

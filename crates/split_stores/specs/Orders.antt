@@ -2,10 +2,10 @@
 use Rattle.std.specs.Prelude.{◌≡◌, ℕ, List, [], ◌∷◌, Option, None, Some}
 use Rattle.stamp_base.specs.SetupNumbers.{AreInRange}
 use Rattle.script_data.specs.Data.{ScriptData}
-use Rattle.line_steps.specs.Runs.{Played}
-use Rattle.line_steps.specs.Laws.{IsPlayable}
-use Rattle.line_steps.specs.Planned.{with_tick, ticks_in, Planned}
-use Rattle.planned_laws.specs.Orders.{TimedEvent}
+use Rattle.command_semantics.specs.Runs.{Played}
+use Rattle.command_semantics.specs.Laws.{IsPlayable}
+use Rattle.command_semantics.specs.Planned.{with_tick, ticks_in, Planned}
+use Rattle.command_semantics.specs.Orders.{TimedEvent}
 use Rattle.cluster_core.specs.Whole.{Whole}
 use Rattle.split_parts.specs.declared.event.Event.{Event}
 use Rattle.split_parts.specs.declared.event.Event.TheVariants as event

@@ -1,8 +1,8 @@
 -- What a look at a locked part sees. What stands there when its lock is taken no clause says.
 use Rattle.std.specs.Prelude.{◌≡◌, ℕ, ◌+◌, ◌==◌, if◌then◌else◌, Option, None, Some, is_some}
-use Rattle.oracle_parts.specs.declared.instance.Place.{Place}
-use Rattle.oracle_parts.specs.declared.instance.Request.{Request}
-use Rattle.oracle_parts.specs.Instance.{InstanceEntry, request_at}
+use Rattle.system_parts.specs.declared.instance.Place.{Place}
+use Rattle.system_parts.specs.declared.instance.Request.{Request}
+use Rattle.system_parts.specs.Instance.{InstanceEntry, request_at}
 use Rattle.machine.specs.Readers.{client_doing}
 use Rattle.split_parts.specs.declared.parts.SessionPart.{SessionPart}
 use Rattle.split_parts.specs.declared.parts.JanitorPart.{JanitorPart}

@@ -1,7 +1,7 @@
 // What holds of every history that was settled.
 ghost use Rattle.split_stores.specs.Orders.{SettledByPlans, SettledIsPlanned};
 
-use planned_laws::orders_are_planned;
+use command_semantics::orders_are_planned;
 
 /// Which lines a script has makes no difference to what its logs come to: its setup, leads and faults alone do.
 pub fn settled_by_plans()

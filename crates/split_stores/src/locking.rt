@@ -11,10 +11,10 @@ ghost use Rattle.tick_word.specs.Rule.{seat_limit};
 
 use crate::inside::Turn;
 use crate::{ActorSeat, Event, Lent, Made, PartGate, Split};
+use session_events::{next_store, sweep_store};
 use stamp_base::{NodeNo, SessionNo, Store};
 use std::alloc::Global;
 use std::sync::Wait;
-use step_events::{next_store, sweep_store};
 use tick_word::SEAT_LIMIT;
 
 impl Split {

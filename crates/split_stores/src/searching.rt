@@ -2,9 +2,9 @@
 ghost use Rattle.std.specs.Prelude.{◌≡◌, ◌<◌, None};
 ghost use Rattle.split_stores.specs.Seen.{found_at, held_by, none_searched, request_in, searched};
 
-use oracle_parts::{Place, Request};
 use split_parts::NodePart;
 use stamp_base::{NodeNo, SessionNo};
+use system_parts::{Place, Request};
 use takeover_core::Post;
 
 /// A request, with the node that holds it and the place where it stands.

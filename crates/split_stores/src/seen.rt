@@ -3,11 +3,11 @@ ghost use Rattle.std.specs.Prelude.{◌≡◌};
 ghost use Rattle.machine.specs.Readers as read;
 ghost use Rattle.split_stores.specs.Seen.{doing_seen, sweep_seen};
 
-use client_parts::State;
 use event_parts::Client;
 use machine::Doing;
 use split_parts::{JanitorPart, SessionPart};
 use stamp_base::SessionNo;
+use system_parts::State;
 
 /// What a session was doing when its part was looked at.
 #[derive(Clone, Copy, Debug, PartialEq, Eq)]

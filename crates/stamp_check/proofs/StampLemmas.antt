@@ -10,8 +10,8 @@ use Rattle.trace_rules.specs.Stamping.{Numbered, Stampable}
 use Rattle.trace_rules.specs.Rising.{Listed, Rising}
 use Rattle.trace_rules.specs.Wants.{no_wants}
 use Rattle.trace_rules.specs.Serial.{RisingPlaces, one_by_one}
-use Rattle.trace_laws.proofs.Isolates.{isolates}
-use Rattle.trace_laws.proofs.Serial.{serialises}
+use Rattle.trace_rules.proofs.Isolates.{isolates}
+use Rattle.trace_rules.proofs.Serial.{serialises}
 use Rattle.outer_reads.specs.declared.writings.Writing.{Writing}
 use Rattle.outer_reads.specs.declared.readings.Reading.{Reading}
 use Rattle.outer_reads.specs.Sources.{AreKnown}

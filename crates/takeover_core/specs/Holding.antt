@@ -1,8 +1,8 @@
 -- What a node's post tells of the instance there.
 use Rattle.std.specs.Prelude.{ℕ, Option, None, Some}
 use Rattle.history_book.specs.declared.cause.Cause.{Cause}
-use Rattle.oracle_parts.specs.Instance.{InstanceEntry}
-use Rattle.oracle_parts.specs.PostSteps as step
+use Rattle.system_parts.specs.Instance.{InstanceEntry}
+use Rattle.system_parts.specs.PostSteps as step
 
 -- the term of the instance
 abbrev pub term_held : Option InstanceEntry → Option ℕ

@@ -18,7 +18,7 @@ pub struct Post {
 
 impl Model for Post {
     ghost use Rattle.std.specs.Prelude.{Option};
-    ghost use Rattle.oracle_parts.specs.Instance.{InstanceEntry};
+    ghost use Rattle.system_parts.specs.Instance.{InstanceEntry};
 
     ghost Value = { Option InstanceEntry };
 

@@ -8,10 +8,10 @@ use Rattle.std.proofs.lemmas.Option.{slice_get_past}
 use Rattle.history_book.specs.declared.item.Actor.{Actor}
 use Rattle.script_data.specs.declared.line.Line.{Line}
 use Rattle.script_data.specs.Data.{ScriptData}
-use Rattle.line_steps.specs.Answers.{same_actor}
-use Rattle.line_steps.proofs.ScriptWalks.{actor_same}
+use Rattle.command_semantics.specs.Answers.{same_actor}
+use Rattle.command_semantics.proofs.ScriptWalks.{actor_same}
 use Rattle.turn_rules.specs.Seats.{lines_of}
-use Rattle.line_shares.specs.declared.cursor.Cursor.{Cursor}
+use Rattle.thread_steps.specs.declared.cursor.Cursor.{Cursor}
 use Rattle.thread_scripts.proofs.ListEnd.{ends_by}
 use Rattle.thread_scripts.specs.Actors.{AreBehind, HasCursor, CoverLines, AreAtTheirEnds}
 

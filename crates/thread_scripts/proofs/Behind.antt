@@ -5,9 +5,9 @@ use Rattle.std.specs.Prelude.{map}
 use Rattle.std.proofs.lemmas.List.Elements.{All-map, All-weaker}
 use Rattle.history_book.specs.declared.item.Actor.{Actor}
 use Rattle.script_data.specs.declared.line.Line.{Line}
-use Rattle.line_shares.specs.declared.cursor.Cursor.{Cursor}
-use Rattle.line_shares.specs.Done.{first_cursor, caught_up}
-use Rattle.line_shares.proofs.CaughtUp.{each_keeps, same_actors}
+use Rattle.thread_steps.specs.declared.cursor.Cursor.{Cursor}
+use Rattle.thread_steps.specs.Done.{first_cursor, caught_up}
+use Rattle.thread_steps.proofs.CaughtUp.{each_keeps, same_actors}
 use Rattle.thread_scripts.specs.Actors.{AreBehind, HasCursor, CoverLines}
 
 pub behind_at_first : (place : Actor → ℕ) (actors : List Actor) → AreBehind place (map first_cursor actors)

@@ -10,13 +10,13 @@ use Rattle.history_book.specs.declared.item.Actor.{Actor}
 use Rattle.history_book.specs.declared.item.Actor.TheVariants.{Clock, Node, Session, Janitor}
 use Rattle.script_data.specs.declared.line.Line.{Line}
 use Rattle.script_data.specs.Data.{ScriptData}
-use Rattle.line_steps.specs.Answers.{same_actor}
-use Rattle.line_steps.specs.Laws.{ActorFits, AreLinesOf}
-use Rattle.line_steps.proofs.ScriptWalks.{actor_same, same_itself}
+use Rattle.command_semantics.specs.Answers.{same_actor}
+use Rattle.command_semantics.specs.Laws.{ActorFits, AreLinesOf}
+use Rattle.command_semantics.proofs.ScriptWalks.{actor_same, same_itself}
 use Rattle.turn_rules.specs.declared.seat.Seat.{Seat}
 use Rattle.turn_rules.specs.Seats.{first_seat, first_seats, seats_of}
-use Rattle.line_shares.specs.declared.cursor.Cursor.{Cursor}
-use Rattle.line_shares.specs.Done.{first_cursor}
+use Rattle.thread_steps.specs.declared.cursor.Cursor.{Cursor}
+use Rattle.thread_steps.specs.Done.{first_cursor}
 use Rattle.thread_scripts.specs.Actors.{has_lines, actors_of, HasCursor, CoverLines}
 
 -- ---- tests of lists

@@ -11,11 +11,11 @@ use Rattle.machine.specs.declared.event.Event.{Event}
 use Rattle.machine.specs.Machine.{Step}
 use Rattle.script_data.specs.declared.line.Line.{Line}
 use Rattle.script_data.specs.Data.{ScriptData}
-use Rattle.line_steps.specs.declared.point.View.{View}
-use Rattle.line_steps.specs.Answers.{same_actor}
-use Rattle.line_steps.specs.Next.{Clocks}
-use Rattle.line_steps.specs.Runs.{clocks_of, step_of}
-use Rattle.line_steps.specs.Views.{view_of}
+use Rattle.command_semantics.specs.declared.point.View.{View}
+use Rattle.command_semantics.specs.Answers.{same_actor}
+use Rattle.command_semantics.specs.Next.{Clocks}
+use Rattle.command_semantics.specs.Runs.{clocks_of, step_of}
+use Rattle.command_semantics.specs.Views.{view_of}
 use Rattle.turn_rules.specs.declared.seat.Seat.{Seat}
 use Rattle.turn_rules.specs.declared.turn.Turn.{Turn}
 use Rattle.turn_rules.specs.declared.turn.Turn.TheVariants as turn

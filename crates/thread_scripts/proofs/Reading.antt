@@ -6,15 +6,15 @@ use Rattle.stamp_base.specs.declared.limits.TheConstants.{BYTE_LIMIT, LINE_LIMIT
 use Rattle.history_book.specs.declared.item.Actor.{Actor}
 use Rattle.script_data.specs.Data.{ScriptData}
 use Rattle.script_data.specs.declared.line.Line.{Line}
-use Rattle.script_lines.specs.declared.cause.ScriptCause.{ScriptCause}
-use Rattle.script_lines.specs.declared.cause.ScriptCause.TheVariants.{TooManyLines, BadByte}
-use Rattle.script_lines.specs.declared.form.SetupForm.{SetupForm}
-use Rattle.script_lines.specs.declared.mode.Mode.TheVariants.{Run}
-use Rattle.script_lines.specs.Arguments.{actor_of}
-use Rattle.script_lines.specs.Grammar.{named, setup_forms}
-use Rattle.script_lines.specs.Results.{unless}
-use Rattle.script_lines.specs.Verbs.{verb_at}
-use Rattle.script_lines.specs.Words.{is_plain, is_silent, words_of, LineWords, line_words}
+use Rattle.session_script.specs.declared.cause.ScriptCause.{ScriptCause}
+use Rattle.session_script.specs.declared.cause.ScriptCause.TheVariants.{TooManyLines, BadByte}
+use Rattle.session_script.specs.declared.form.SetupForm.{SetupForm}
+use Rattle.session_script.specs.declared.mode.Mode.TheVariants.{Run}
+use Rattle.session_script.specs.Arguments.{actor_of}
+use Rattle.session_script.specs.Grammar.{named, setup_forms}
+use Rattle.session_script.specs.Results.{unless}
+use Rattle.session_script.specs.Verbs.{verb_at}
+use Rattle.session_script.specs.Words.{is_plain, is_silent, words_of, LineWords, line_words}
 use Rattle.session_script.specs.Names.{name_objection}
 use Rattle.session_script.specs.Script.{SoFar, BadLine, script_from, after_line, after_words, opened_line, setup_line, actor_line, after_setting, after_telling, or_bad_line, nothing_read}
 use Rattle.session_script.specs.Settings.{setting_of, objection}

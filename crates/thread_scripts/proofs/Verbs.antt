@@ -1,16 +1,16 @@
 -- A line that is read for threads has a verb for threads.
 use Rattle.std.proofs.Common.{◌≡◌, ℕ, ◌==◌, nat_lt, Bool, true, false, not, if◌then◌else◌, Option, Some, None, Result, Ok, Err, IfOk, refl}
 use Rattle.history_book.specs.declared.item.Actor.{Actor}
-use Rattle.script_lines.specs.declared.cause.ScriptCause.{ScriptCause}
-use Rattle.script_lines.specs.declared.cause.ScriptCause.TheVariants.{WrongNumberOfWords, ReplayOnly}
-use Rattle.script_lines.specs.declared.form.VerbForm.{VerbForm}
-use Rattle.script_lines.specs.declared.form.VerbForm.TheVariants.{Tick, Take, Renew, Crash, Extend, Hold, Free, Accept, Decide, Put, Answer, Begin, Commit, Submit, AskBegin, AskCommit, Write, Read, Fetch, Collect, Abort, Heal, Vanish, Step, Finish, Sweep, OpenSweep, SweepStep, SweepFinish, Post, Await}
-use Rattle.script_lines.specs.declared.mode.Mode.TheVariants.{Run}
-use Rattle.script_lines.specs.Checked.{number_at, start_at, node_at, target_at, key_at, value_at, stage_at, name_at}
-use Rattle.script_lines.specs.Grammar.{named, verb_forms, verb_words, is_replay_only}
-use Rattle.script_lines.specs.Results.{◌>>=◌}
-use Rattle.script_lines.specs.Verbs.{form_at, form_of, verb_of, verb_at}
-use Rattle.script_lines.specs.Words.{LineWords}
+use Rattle.session_script.specs.declared.cause.ScriptCause.{ScriptCause}
+use Rattle.session_script.specs.declared.cause.ScriptCause.TheVariants.{WrongNumberOfWords, ReplayOnly}
+use Rattle.session_script.specs.declared.form.VerbForm.{VerbForm}
+use Rattle.session_script.specs.declared.form.VerbForm.TheVariants.{Tick, Take, Renew, Crash, Extend, Hold, Free, Accept, Decide, Put, Answer, Begin, Commit, Submit, AskBegin, AskCommit, Write, Read, Fetch, Collect, Abort, Heal, Vanish, Step, Finish, Sweep, OpenSweep, SweepStep, SweepFinish, Post, Await}
+use Rattle.session_script.specs.declared.mode.Mode.TheVariants.{Run}
+use Rattle.session_script.specs.Checked.{number_at, start_at, node_at, target_at, key_at, value_at, stage_at, name_at}
+use Rattle.session_script.specs.Grammar.{named, verb_forms, verb_words, is_replay_only}
+use Rattle.session_script.specs.Results.{◌>>=◌}
+use Rattle.session_script.specs.Verbs.{form_at, form_of, verb_of, verb_at}
+use Rattle.session_script.specs.Words.{LineWords}
 use Rattle.turn_rules.specs.Told.{IsForThreads}
 
 -- ---- answers

@@ -4,10 +4,10 @@ use Rattle.std.specs.List.{list_any}
 use Rattle.history_book.specs.declared.item.Actor.{Actor}
 use Rattle.script_data.specs.declared.line.Line.{Line}
 use Rattle.script_data.specs.Data.{ScriptData}
-use Rattle.line_steps.specs.Answers.{same_actor}
+use Rattle.command_semantics.specs.Answers.{same_actor}
 use Rattle.turn_rules.specs.declared.seat.Seat.{Seat}
 use Rattle.turn_rules.specs.Seats.{first_seats, lines_of}
-use Rattle.line_shares.specs.declared.cursor.Cursor.{Cursor}
+use Rattle.thread_steps.specs.declared.cursor.Cursor.{Cursor}
 
 -- ---- the actors that have lines, in the order of the seats
 abbrev pub has_lines : ScriptData → Actor → Bool

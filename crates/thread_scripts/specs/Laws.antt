@@ -1,7 +1,7 @@
 -- What the reader's mode keeps out of a script.
 use Rattle.std.specs.Prelude.{◌≡◌, ℕ, List, Ok}
 use Rattle.script_data.specs.Data.{ScriptData}
-use Rattle.script_lines.specs.declared.mode.Mode.TheVariants.{Run}
+use Rattle.session_script.specs.declared.mode.Mode.TheVariants.{Run}
 use Rattle.session_script.specs.Script.{script_of}
 use Rattle.turn_rules.specs.Told.{AreForThreads}
 

@@ -3,7 +3,7 @@ ghost use Rattle.std.specs.Prelude.{◌≡◌, ◌+◌, ◌<◌, ◌≤◌, IfOk
 ghost use Rattle.stamp_base.specs.Ranges.{IsNode, IsSession};
 ghost use Rattle.history_book.specs.declared.item.Actor.TheVariants.{Node, Session};
 ghost use Rattle.session_script.specs.Script.{data_of};
-ghost use Rattle.line_shares.specs.Done.{parts_for};
+ghost use Rattle.thread_steps.specs.Done.{parts_for};
 ghost use Rattle.thread_scripts.specs.Actors.{has_lines, with_actor, actors_of};
 
 use history_book::Actor;

@@ -4,8 +4,8 @@ ghost use Rattle.session_script.specs.Script.{data_of};
 ghost use Rattle.turn_rules.specs.Seats.{lines_of};
 ghost use Rattle.thread_scripts.specs.Actors.{AreAtTheirEnds};
 
-use line_shares::Cursor;
 use session_script::Script;
+use thread_steps::Cursor;
 
 /// Whether no actor has a line behind its cursor.
 pub fn are_at_their_ends(script: &Script, cursors: &[Cursor]) -> bool

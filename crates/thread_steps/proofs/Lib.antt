@@ -1,0 +1,2 @@
+pub mod CaughtUp
+mod Few

@@ -1,6 +1,6 @@
 -- What a step does to the share of its actor.
 use Rattle.std.specs.Prelude.{◌≡◌, ◌≤◌}
-use Rattle.line_shares.specs.Done.{Done}
+use Rattle.thread_steps.specs.Done.{Done}
 
 -- the share's count never falls, and its actor and its aim stay
 pub record GoesOn (mine now : Done) : Type 0 where

@@ -1,6 +1,6 @@
 ghost use Rattle.thread_steps.specs.Going.{GoesOn};
 
-use line_shares::ActorShare;
+use crate::share::ActorShare;
 use stamp_base::{NodeNo, Term};
 use std::sync::Wait;
 use std::sync::ledger::Ledger;

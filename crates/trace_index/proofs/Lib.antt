@@ -1,2 +1,4 @@
+mod FlagLemmas
+mod ChoiceLemmas
 mod LeftLemmas
 mod RoundLemmas

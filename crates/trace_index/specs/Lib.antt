@@ -1,3 +1,4 @@
+pub mod Choices
 pub mod Attempts
 pub mod Said
 pub mod Versions

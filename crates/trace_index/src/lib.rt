@@ -1,4 +1,5 @@
-//! From what was recorded to the trace that is judged: its transactions, who wrote what was read, and which open outcomes count.
+//! From what was recorded to the trace that is judged: its transactions, who wrote what was read, and which open outcomes count, and
+//! why just those.
 #![tactic(auto)]
 
 mod attempts;
@@ -6,6 +7,7 @@ mod fault;
 mod flags;
 mod indexing;
 mod latest;
+mod outcomes;
 mod said;
 mod versions;
 mod writers;
@@ -13,3 +15,4 @@ mod writers;
 pub use attempts::{Attempt, Fate, attempts_of};
 pub use fault::{Fault, Unclear};
 pub use indexing::{Indexed, index};
+pub use outcomes::open_outcomes_are_the_least;

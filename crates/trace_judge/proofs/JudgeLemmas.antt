@@ -11,7 +11,7 @@ use Rattle.trace_rules.specs.declared.wanted.Level.{Level}
 use Rattle.trace_rules.specs.Trace.{Trace}
 use Rattle.trace_rules.specs.Below.{Below, Then}
 use Rattle.trace_rules.specs.Wants.{no_wants}
-use Rattle.trace_laws.proofs.Forced.{cycles, wrong_outer, wrong_own}
+use Rattle.trace_rules.proofs.Forced.{cycles, wrong_outer, wrong_own}
 use Rattle.rising_numbers.specs.declared.Edge.{Edge}
 use Rattle.rising_numbers.specs.Rises.{Leads, IsCycle}
 use Rattle.outer_reads.specs.declared.writings.Writing.{Writing}

@@ -2,9 +2,9 @@
 use Rattle.std.specs.Prelude.{ℕ, List, [], ◌++◌, codes, decimal}
 use Rattle.std.specs.List.{flat_map}
 use Rattle.trace_index.specs.declared.attempts.Attempt.{Attempt}
-use Rattle.trace_names.specs.declared.step.Step.{Step}
-use Rattle.trace_names.specs.declared.step.Way.{Way}
-use Rattle.trace_names.specs.declared.step.Way.TheVariants.{Next, Read, Missed, Session, Time}
+use Rattle.trace_report.specs.declared.step.Step.{Step}
+use Rattle.trace_report.specs.declared.step.Way.{Way}
+use Rattle.trace_report.specs.declared.step.Way.TheVariants.{Next, Read, Missed, Session, Time}
 use Rattle.trace_report.specs.Parts.{line_at, name_at}
 
 abbrev pub written_text : List ℕ → List ℕ

@@ -1,3 +1,5 @@
+pub mod Names
+pub mod Wrongs
 pub mod Parts
 pub mod Cycle
 pub mod Verdict

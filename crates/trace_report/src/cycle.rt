@@ -4,9 +4,9 @@ ghost use Rattle.trace_report.specs.Parts.{name_at};
 ghost use Rattle.trace_report.specs.Cycle.{cycle_text, first_text, read_text, second_text, step_text, way_text, written_text};
 
 use crate::parts::{push_line, push_name};
+use crate::step::{Step, Way};
 use stamp_base::NoMemory;
 use trace_index::Attempt;
-use trace_names::{Step, Way};
 use trace_reading::{Recording, push_words};
 
 /// Adds the cycle: for each step the two transactions by their lines, what each did, and why the first comes before the other.

@@ -1,17 +1,17 @@
--- For turn_engine and grant_laws too.
+-- For run_board and grant_laws too.
 -- At which node a share is aimed decides no more than whom a line asks: whether the line makes an
 -- event, waits or is passed is the same by any clocks.
 use Rattle.std.proofs.Common.{◌≡◌, ℕ, Bool, true, false, cond, List, Option, Some, None, refl, sym, ◌∙◌, ap}
 use Rattle.history_book.specs.declared.item.Actor.{Actor}
 use Rattle.history_book.specs.declared.item.Actor.TheVariants.{Clock, Node, Session, Janitor}
-use Rattle.oracle_parts.specs.declared.instance.Place.{Place}
+use Rattle.system_parts.specs.declared.instance.Place.{Place}
 use Rattle.machine.specs.declared.event.Event.{Event}
 use Rattle.script_data.specs.declared.line.Verb.{Verb}
 use Rattle.script_data.specs.declared.line.Verb.TheVariants as verb
-use Rattle.line_steps.specs.declared.point.Point.{Point}
-use Rattle.line_steps.specs.declared.point.Point.TheVariants.{Opens, Drives, Extends, Finishes, Reads, Steps, Over}
-use Rattle.line_steps.specs.declared.point.View.{View}
-use Rattle.line_steps.specs.Next.{Clocks, is_served, places, name_opens, finish_next, placing_next, idle_next, extend_next, read_next, steps_next, collect_next, drive_next, serves, clock_opens, node_opens, session_opens, session_next, janitor_next, opens_alone, next}
+use Rattle.command_semantics.specs.declared.point.Point.{Point}
+use Rattle.command_semantics.specs.declared.point.Point.TheVariants.{Opens, Drives, Extends, Finishes, Reads, Steps, Over}
+use Rattle.command_semantics.specs.declared.point.View.{View}
+use Rattle.command_semantics.specs.Next.{Clocks, is_served, places, name_opens, finish_next, placing_next, idle_next, extend_next, read_next, steps_next, collect_next, drive_next, serves, clock_opens, node_opens, session_opens, session_next, janitor_next, opens_alone, next}
 use Rattle.turn_rules.specs.declared.ahead.Ahead.{Ahead}
 use Rattle.turn_rules.specs.declared.ahead.Ahead.TheVariants.{Makes, Waits, Passes}
 use Rattle.turn_rules.specs.declared.ahead.Why.{Why}

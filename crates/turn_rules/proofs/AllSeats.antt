@@ -1,4 +1,4 @@
--- For turn_engine too.
+-- For run_board too.
 -- Each actor of the system has a seat, whichever turns are made; so an actor without one has no line.
 use Rattle.std.proofs.Common.{◌≡◌, ℕ, zero, suc, ◌<◌, Bool, true, false, cond, ◌&&◌, List, [], ◌∷◌, ◌++◌, Option, Some, None, inl, inr, refl, sym, ◌∙◌, ap, subst, arith}
 use Rattle.std.specs.Prelude.{filter, fold}
@@ -11,10 +11,10 @@ use Rattle.history_book.specs.declared.item.Actor.TheVariants.{Clock, Node, Sess
 use Rattle.machine.specs.declared.event.Event.{Event}
 use Rattle.script_data.specs.declared.line.Line.{Line}
 use Rattle.script_data.specs.Data.{ScriptData}
-use Rattle.line_steps.specs.declared.point.Point.TheVariants.{Opens}
-use Rattle.line_steps.specs.Answers.{same_actor, has_opening, is_of, asks_some, Answered}
-use Rattle.line_steps.specs.Laws.{ActorFits, AreLinesOf}
-use Rattle.line_steps.proofs.ScriptWalks.{actor_same, same_itself}
+use Rattle.command_semantics.specs.declared.point.Point.TheVariants.{Opens}
+use Rattle.command_semantics.specs.Answers.{same_actor, has_opening, is_of, asks_some, Answered}
+use Rattle.command_semantics.specs.Laws.{ActorFits, AreLinesOf}
+use Rattle.command_semantics.proofs.ScriptWalks.{actor_same, same_itself}
 use Rattle.turn_rules.specs.declared.seat.Seat.{Seat}
 use Rattle.turn_rules.specs.declared.turn.Turn.{Turn}
 use Rattle.turn_rules.specs.Seats.{first_seat, seats_of, first_seats, lines_of}
@@ -144,7 +144,7 @@ at_seat script actor (Some seat) is =
     let same : seat.actor ≡ actor = actor_same seat.actor actor (find_true (λ (x : Seat). same_actor x.actor actor) (first_seats script.setup) seat is) in
     let all : StandsSo actor script.lines (at_first script).played.state [] Opens (lines_of script actor) = stands_next actor script.lines (at_first script).played.state [] (lines_of script actor) (answered_mine script actor) in
     let mine : StandsSo actor script.lines (at_first script).played.state [] Opens (lines_of script seat.actor) = subst (λ (a : Actor). StandsSo actor script.lines (at_first script).played.state [] Opens (lines_of script a)) (sym same) all in
-    let here : StandsSo actor script.lines (at_first script).played.state [] seat.point (lines_of script seat.actor) = subst (λ (p : Rattle.line_steps.specs.declared.point.Point.Point). StandsSo actor script.lines (at_first script).played.state [] p (lines_of script seat.actor)) (sym first.point) mine in
+    let here : StandsSo actor script.lines (at_first script).played.state [] seat.point (lines_of script seat.actor) = subst (λ (p : Rattle.command_semantics.specs.declared.point.Point.Point). StandsSo actor script.lines (at_first script).played.state [] p (lines_of script seat.actor)) (sym first.point) mine in
     (same, subst (λ (n : ℕ). StandsSo actor script.lines (at_first script).played.state [] seat.point (Rattle.std.specs.Prelude.drop n (lines_of script seat.actor))) (sym first.place) here)
 
 pub at_opening : (script : ScriptData) (actor : Actor) → IsAt script (at_first script) actor (seat_of (at_first script).seats actor)

@@ -12,14 +12,14 @@ use Rattle.machine.specs.declared.event.Event.TheVariants as event
 use Rattle.machine.specs.Readers.{doing_of}
 use Rattle.script_data.specs.declared.line.Line.{Line}
 use Rattle.script_data.specs.Data.{ScriptData}
-use Rattle.line_steps.specs.declared.point.Point.{Point}
-use Rattle.line_steps.specs.declared.point.Point.TheVariants.{Opens, Drives, Extends, Finishes, Reads, Steps, Over}
-use Rattle.line_steps.specs.Answers.{same_actor, is_of, asks_some, Answered}
-use Rattle.line_steps.specs.Laws.{AreLinesOf, IsPlayable}
-use Rattle.line_steps.specs.Next.{read_next}
-use Rattle.line_steps.specs.Views.{view_of}
-use Rattle.line_steps.proofs.ReadSteps.{read_has_next}
-use Rattle.line_steps.proofs.Walks.{walks_end}
+use Rattle.command_semantics.specs.declared.point.Point.{Point}
+use Rattle.command_semantics.specs.declared.point.Point.TheVariants.{Opens, Drives, Extends, Finishes, Reads, Steps, Over}
+use Rattle.command_semantics.specs.Answers.{same_actor, is_of, asks_some, Answered}
+use Rattle.command_semantics.specs.Laws.{AreLinesOf, IsPlayable}
+use Rattle.command_semantics.specs.Next.{read_next}
+use Rattle.command_semantics.specs.Views.{view_of}
+use Rattle.command_semantics.proofs.ReadSteps.{read_has_next}
+use Rattle.command_semantics.proofs.Walks.{walks_end}
 use Rattle.turn_rules.specs.declared.seat.Seat.{Seat}
 use Rattle.turn_rules.specs.declared.turn.Turn.{Turn}
 use Rattle.turn_rules.specs.Seats.{lines_of, lines_left}

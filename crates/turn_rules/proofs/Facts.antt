@@ -1,4 +1,4 @@
--- For turn_engine and grant_laws too.
+-- For run_board and grant_laws too.
 -- Whichever turns are made, all facts hold, and the clock has not ticked further than its lines say.
 use Rattle.std.proofs.Common.{◌≡◌, ℕ, suc, ◌+◌, ◌≤◌, Bool, true, false, cond, List, [], ◌∷◌, Option, Some, None, refl, sym, ◌∙◌, ap, subst, arith}
 use Rattle.std.specs.Prelude.{filter, fold, drop}
@@ -10,20 +10,20 @@ use Rattle.machine.specs.declared.event.Event.{Event}
 use Rattle.machine.specs.Machine.{Step}
 use Rattle.script_data.specs.declared.line.Line.{Line}
 use Rattle.script_data.specs.Data.{ScriptData}
-use Rattle.line_steps.specs.declared.point.Point.{Point}
-use Rattle.line_steps.specs.declared.point.Point.TheVariants.{Opens}
-use Rattle.line_steps.specs.Answers.{same_actor}
+use Rattle.command_semantics.specs.declared.point.Point.{Point}
+use Rattle.command_semantics.specs.declared.point.Point.TheVariants.{Opens}
+use Rattle.command_semantics.specs.Answers.{same_actor}
 use Rattle.script_data.specs.Ticks.{ticks_of}
-use Rattle.line_steps.specs.Laws.{IsPlayable, IsReached}
-use Rattle.line_steps.specs.Runs.{clocks_of, step_of, played}
-use Rattle.line_steps.specs.Views.{view_of}
-use Rattle.line_steps.proofs.Takes.{TakesFit, takes_at_first}
-use Rattle.line_steps.proofs.AlwaysFit.{Fit, fit_at_first}
-use Rattle.line_steps.proofs.Ending.{opening_reached}
-use Rattle.line_steps.proofs.LaterEvents.{IsLater}
-use Rattle.line_steps.proofs.OwnLines.{follows_later}
-use Rattle.line_steps.proofs.ScriptWalks.{actor_same}
-use Rattle.line_steps.proofs.Timing.{tick_ahead, Timed}
+use Rattle.command_semantics.specs.Laws.{IsPlayable, IsReached}
+use Rattle.command_semantics.specs.Runs.{clocks_of, step_of, played}
+use Rattle.command_semantics.specs.Views.{view_of}
+use Rattle.command_semantics.proofs.Takes.{TakesFit, takes_at_first}
+use Rattle.command_semantics.proofs.AlwaysFit.{Fit, fit_at_first}
+use Rattle.command_semantics.proofs.Ending.{opening_reached}
+use Rattle.command_semantics.proofs.LaterEvents.{IsLater}
+use Rattle.command_semantics.proofs.OwnLines.{follows_later}
+use Rattle.command_semantics.proofs.ScriptWalks.{actor_same}
+use Rattle.command_semantics.proofs.Timing.{tick_ahead, Timed}
 use Rattle.turn_rules.specs.declared.seat.Seat.{Seat}
 use Rattle.turn_rules.specs.declared.turn.Turn.{Turn}
 use Rattle.turn_rules.specs.declared.turn.Turn.TheVariants as turn

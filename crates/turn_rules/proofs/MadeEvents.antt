@@ -8,11 +8,11 @@ use Rattle.machine.specs.Machine.{stepped, reading_of, seen_after, IsSteadyAt}
 use Rattle.machine.proofs.PartsKept.{seen_up, leaves_parts}
 use Rattle.script_data.specs.Data.{ScriptData}
 use Rattle.isolation_laws.proofs.AlwaysHolds.{facts_stay}
-use Rattle.line_steps.specs.Laws.{IsReached}
-use Rattle.line_steps.specs.Runs.{Played, fate_of, clocks_of, played}
-use Rattle.line_steps.proofs.AlwaysFit.{Fit, fit_stays}
-use Rattle.line_steps.proofs.Takes.{TakesFit, takes_stay}
-use Rattle.line_steps.proofs.Timing.{Timed, InTime, in_time}
+use Rattle.command_semantics.specs.Laws.{IsReached}
+use Rattle.command_semantics.specs.Runs.{Played, fate_of, clocks_of, played}
+use Rattle.command_semantics.proofs.AlwaysFit.{Fit, fit_stays}
+use Rattle.command_semantics.proofs.Takes.{TakesFit, takes_stay}
+use Rattle.command_semantics.proofs.Timing.{Timed, InTime, in_time}
 
 -- what was played after it
 pub record Made (script : ScriptData) (p : Played) (tick : ℕ) (e : Event) : Type 0 where

@@ -9,17 +9,17 @@ use Rattle.machine.specs.declared.event.Event.TheVariants as event
 use Rattle.machine.specs.Machine.{Step}
 use Rattle.script_data.specs.declared.line.Line.{Line}
 use Rattle.script_data.specs.Data.{ScriptData}
-use Rattle.line_steps.specs.Answers.{same_actor}
-use Rattle.line_steps.specs.Laws.{IsPlayable}
-use Rattle.line_steps.specs.Next.{reading_at}
-use Rattle.line_steps.specs.Planned.{with_tick, ticks_in}
-use Rattle.line_steps.specs.Runs.{clocks_of, step_of}
-use Rattle.line_steps.proofs.OwnLines.{follows_later}
-use Rattle.line_steps.proofs.ScriptWalks.{actor_same}
-use Rattle.line_steps.proofs.Timing.{tick_ahead}
-use Rattle.planned_laws.specs.Laws.{EventsStayPlanned, LinesReadClocks}
-use Rattle.planned_laws.specs.Orders.{IsTold, EventsStayTold}
-use Rattle.planned_laws.specs.SoFar.{ReadsClocks, ticks_with, tick_at}
+use Rattle.command_semantics.specs.Answers.{same_actor}
+use Rattle.command_semantics.specs.Laws.{IsPlayable}
+use Rattle.command_semantics.specs.Next.{reading_at}
+use Rattle.command_semantics.specs.Planned.{with_tick, ticks_in}
+use Rattle.command_semantics.specs.Runs.{clocks_of, step_of}
+use Rattle.command_semantics.proofs.OwnLines.{follows_later}
+use Rattle.command_semantics.proofs.ScriptWalks.{actor_same}
+use Rattle.command_semantics.proofs.Timing.{tick_ahead}
+use Rattle.command_semantics.specs.PlannedLaws.{EventsStayPlanned, LinesReadClocks}
+use Rattle.command_semantics.specs.Orders.{IsTold, EventsStayTold}
+use Rattle.command_semantics.specs.SoFar.{ReadsClocks, ticks_with, tick_at}
 use Rattle.turn_rules.specs.declared.seat.Seat.{Seat}
 use Rattle.turn_rules.specs.declared.turn.Turn.{Turn}
 use Rattle.turn_rules.specs.declared.turn.Turn.TheVariants as turn

@@ -2,19 +2,19 @@
 use Rattle.std.proofs.Common.{◌≡◌, ℕ, Bool, true, false, cond, Option, Some, None, refl}
 use Rattle.history_book.specs.declared.item.Actor.{Actor}
 use Rattle.history_book.specs.declared.item.Actor.TheVariants.{Clock, Node, Session, Janitor}
-use Rattle.oracle_parts.specs.declared.instance.Place.{Place}
+use Rattle.system_parts.specs.declared.instance.Place.{Place}
 use Rattle.machine.specs.declared.event.Doing.{Doing}
 use Rattle.machine.specs.declared.event.Doing.TheVariants as doing
 use Rattle.machine.specs.declared.event.Event.{Event}
 use Rattle.machine.specs.declared.event.Event.TheVariants as event
 use Rattle.script_data.specs.declared.line.Verb.{Verb}
 use Rattle.script_data.specs.declared.line.Verb.TheVariants as verb
-use Rattle.line_steps.specs.declared.point.Point.{Point}
-use Rattle.line_steps.specs.declared.point.Point.TheVariants.{Opens, Drives, Extends, Finishes, Reads, Steps, Over}
-use Rattle.line_steps.specs.declared.point.View.{View}
-use Rattle.line_steps.specs.Answers.{clock_opening, node_opening, session_opening, name_opening, has_opening}
-use Rattle.line_steps.specs.Next.{Clocks, is_served, finish_next, places, placing_next, idle_next, read_next, steps_next, sweep_next}
-use Rattle.line_steps.proofs.LaterEvents.{IsLater}
+use Rattle.command_semantics.specs.declared.point.Point.{Point}
+use Rattle.command_semantics.specs.declared.point.Point.TheVariants.{Opens, Drives, Extends, Finishes, Reads, Steps, Over}
+use Rattle.command_semantics.specs.declared.point.View.{View}
+use Rattle.command_semantics.specs.Answers.{clock_opening, node_opening, session_opening, name_opening, has_opening}
+use Rattle.command_semantics.specs.Next.{Clocks, is_served, finish_next, places, placing_next, idle_next, read_next, steps_next, sweep_next}
+use Rattle.command_semantics.proofs.LaterEvents.{IsLater}
 use Rattle.turn_rules.specs.declared.ahead.Ahead.{Ahead}
 use Rattle.turn_rules.specs.declared.ahead.Ahead.TheVariants.{Makes, Waits, Passes}
 use Rattle.turn_rules.specs.declared.ahead.Why.TheVariants.{Reply}

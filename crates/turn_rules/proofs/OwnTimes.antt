@@ -1,4 +1,4 @@
--- For turn_engine and grant_laws too.
+-- For run_board and grant_laws too.
 -- The events of own turns come at their time, and so do those of stages; only the clock's own line ticks.
 use Rattle.std.proofs.Common.{◌≡◌, ℕ, List, Some, inl, inr, refl, sym, ◌∙◌, ap, subst}
 use Rattle.std.proofs.lemmas.Option.{none-some}
@@ -8,13 +8,13 @@ use Rattle.machine.specs.declared.event.Event.{Event}
 use Rattle.machine.specs.declared.event.Event.TheVariants as event
 use Rattle.script_data.specs.declared.line.Verb.{Verb}
 use Rattle.script_data.specs.declared.line.Verb.TheVariants as verb
-use Rattle.line_steps.specs.declared.point.Point.{Point}
-use Rattle.line_steps.specs.declared.point.Point.TheVariants.{Opens, Drives}
-use Rattle.line_steps.specs.declared.point.View.{View}
+use Rattle.command_semantics.specs.declared.point.Point.{Point}
+use Rattle.command_semantics.specs.declared.point.Point.TheVariants.{Opens, Drives}
+use Rattle.command_semantics.specs.declared.point.View.{View}
 use Rattle.script_data.specs.Ticks.{tick_of}
-use Rattle.line_steps.specs.Clocks.{clocks}
-use Rattle.line_steps.specs.Next.{Clocks, next}
-use Rattle.line_steps.proofs.Timing.{tick_ahead, Timed, event_timed}
+use Rattle.command_semantics.specs.Clocks.{clocks}
+use Rattle.command_semantics.specs.Next.{Clocks, next}
+use Rattle.command_semantics.proofs.Timing.{tick_ahead, Timed, event_timed}
 use Rattle.turn_rules.proofs.OwnEvents.{IsNextOf}
 
 -- ---- a tick is only the clock's

@@ -12,16 +12,16 @@ use Rattle.script_data.specs.declared.line.Line.{Line}
 use Rattle.script_data.specs.Data.{ScriptData}
 use Rattle.isolation_laws.specs.Sound.{Stands}
 use Rattle.isolation_laws.specs.Words.{ClientAt}
-use Rattle.line_steps.specs.declared.point.Point.{Point}
-use Rattle.line_steps.specs.declared.point.Point.TheVariants.{Opens}
-use Rattle.line_steps.specs.Answers.{same_actor, has_opening, IsAnswer, asks_some}
-use Rattle.line_steps.specs.Laws.{ActorFits}
-use Rattle.line_steps.specs.Runs.{Played, fate_of, step_of}
-use Rattle.line_steps.specs.Views.{view_of}
-use Rattle.line_steps.proofs.AlwaysFit.{Fit, found}
-use Rattle.line_steps.proofs.LaterEvents.{IsLater}
-use Rattle.line_steps.proofs.OpenedLines.{line_answered}
-use Rattle.line_steps.proofs.OpeningItems.{Begins}
+use Rattle.command_semantics.specs.declared.point.Point.{Point}
+use Rattle.command_semantics.specs.declared.point.Point.TheVariants.{Opens}
+use Rattle.command_semantics.specs.Answers.{same_actor, has_opening, IsAnswer, asks_some}
+use Rattle.command_semantics.specs.Laws.{ActorFits}
+use Rattle.command_semantics.specs.Runs.{Played, fate_of, step_of}
+use Rattle.command_semantics.specs.Views.{view_of}
+use Rattle.command_semantics.proofs.AlwaysFit.{Fit, found}
+use Rattle.command_semantics.proofs.LaterEvents.{IsLater}
+use Rattle.command_semantics.proofs.OpenedLines.{line_answered}
+use Rattle.command_semantics.proofs.OpeningItems.{Begins}
 use Rattle.turn_rules.specs.declared.ahead.Ahead.{Ahead}
 use Rattle.turn_rules.specs.declared.ahead.Ahead.TheVariants.{Makes, Waits, Passes}
 use Rattle.turn_rules.specs.Carried.{Carried, aimed_clocks, name_posted, made_by, all_passed, at_first, carried}

@@ -1,4 +1,4 @@
--- For turn_engine and grant_laws too.
+-- For run_board and grant_laws too.
 -- What makes an event: a line of the actor's seat, or a stage.
 use Rattle.std.proofs.Common.{◌≡◌, ℕ, zero, suc, List, [], ◌∷◌, Option, Some, None, refl, sym, ◌∙◌, subst}
 use Rattle.std.specs.Prelude.{slice_get}
@@ -9,15 +9,15 @@ use Rattle.machine.specs.declared.event.Event.{Event}
 use Rattle.machine.specs.declared.event.Event.TheVariants as event
 use Rattle.script_data.specs.declared.line.Line.{Line}
 use Rattle.script_data.specs.Data.{ScriptData}
-use Rattle.line_steps.specs.Answers.{same_actor}
-use Rattle.line_steps.specs.Laws.{ActorFits, VerbFits, AreLinesOf}
-use Rattle.line_steps.specs.Master.{last_master}
-use Rattle.line_steps.specs.Next.{reading_at}
-use Rattle.line_steps.specs.Runs.{clocks_of}
-use Rattle.line_steps.specs.Views.{view_of}
-use Rattle.line_steps.proofs.PlainEvents.{OpensNone}
-use Rattle.line_steps.proofs.ScriptWalks.{actor_same}
-use Rattle.line_steps.proofs.Timing.{Timed, tick_ahead}
+use Rattle.command_semantics.specs.Answers.{same_actor}
+use Rattle.command_semantics.specs.Laws.{ActorFits, VerbFits, AreLinesOf}
+use Rattle.command_semantics.specs.Master.{last_master}
+use Rattle.command_semantics.specs.Next.{reading_at}
+use Rattle.command_semantics.specs.Runs.{clocks_of}
+use Rattle.command_semantics.specs.Views.{view_of}
+use Rattle.command_semantics.proofs.PlainEvents.{OpensNone}
+use Rattle.command_semantics.proofs.ScriptWalks.{actor_same}
+use Rattle.command_semantics.proofs.Timing.{Timed, tick_ahead}
 use Rattle.turn_rules.specs.declared.seat.Seat.{Seat}
 use Rattle.turn_rules.specs.declared.turn.Turn.{Turn}
 use Rattle.turn_rules.specs.declared.turn.Turn.TheVariants as turn

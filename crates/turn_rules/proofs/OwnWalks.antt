@@ -17,22 +17,22 @@ use Rattle.script_data.specs.declared.line.Target.{Target}
 use Rattle.script_data.specs.declared.line.Verb.{Verb}
 use Rattle.script_data.specs.declared.line.Verb.TheVariants as verb
 use Rattle.isolation_laws.specs.Sound.{Stands}
-use Rattle.line_steps.specs.declared.point.Point.{Point}
-use Rattle.line_steps.specs.declared.point.Point.TheVariants.{Opens, Drives, Reads}
-use Rattle.line_steps.specs.declared.point.View.{View}
-use Rattle.line_steps.specs.Answers.{same_actor, has_opening, is_of, IsAnswer, asks_some}
-use Rattle.line_steps.specs.Halts.{halt_of, follows}
-use Rattle.line_steps.specs.Laws.{ActorFits, VerbFits}
-use Rattle.line_steps.specs.Next.{Clocks, target_node, read_next, next}
-use Rattle.line_steps.specs.Views.{view_of}
-use Rattle.line_steps.proofs.AlwaysFit.{Fit}
-use Rattle.line_steps.proofs.LaterEvents.{IsLater}
-use Rattle.line_steps.proofs.LineWalks.{any_not}
-use Rattle.line_steps.proofs.OwnLines.{follows_later, later_plain, opens_line, opens_some, read_next_is}
-use Rattle.line_steps.proofs.ReadLines.{ReadsKey, EndsOrReads}
-use Rattle.line_steps.proofs.ReadSteps.{read_goes_on, read_has_next}
-use Rattle.line_steps.proofs.ScriptWalks.{same_itself}
-use Rattle.line_steps.proofs.Walks.{AllNot}
+use Rattle.command_semantics.specs.declared.point.Point.{Point}
+use Rattle.command_semantics.specs.declared.point.Point.TheVariants.{Opens, Drives, Reads}
+use Rattle.command_semantics.specs.declared.point.View.{View}
+use Rattle.command_semantics.specs.Answers.{same_actor, has_opening, is_of, IsAnswer, asks_some}
+use Rattle.command_semantics.specs.Halts.{halt_of, follows}
+use Rattle.command_semantics.specs.Laws.{ActorFits, VerbFits}
+use Rattle.command_semantics.specs.Next.{Clocks, target_node, read_next, next}
+use Rattle.command_semantics.specs.Views.{view_of}
+use Rattle.command_semantics.proofs.AlwaysFit.{Fit}
+use Rattle.command_semantics.proofs.LaterEvents.{IsLater}
+use Rattle.command_semantics.proofs.LineWalks.{any_not}
+use Rattle.command_semantics.proofs.OwnLines.{follows_later, later_plain, opens_line, opens_some, read_next_is}
+use Rattle.command_semantics.proofs.ReadLines.{ReadsKey, EndsOrReads}
+use Rattle.command_semantics.proofs.ReadSteps.{read_goes_on, read_has_next}
+use Rattle.command_semantics.proofs.ScriptWalks.{same_itself}
+use Rattle.command_semantics.proofs.Walks.{AllNot}
 use Rattle.turn_rules.specs.declared.ahead.Ahead.TheVariants.{Waits, Passes}
 use Rattle.turn_rules.specs.declared.ahead.Why.TheVariants.{Name}
 use Rattle.turn_rules.specs.Carried.{made_by}
@@ -94,7 +94,7 @@ first_event : (actor : Actor) (all : List Line) (clocks : Clocks) (w : State) (h
 first_event actor all clocks w h line lines e fate k own is so =
     let step : Step = stepped w e fate in
     elim (opens_line (asks_some h) clocks w h line.actor line.verb (view_of w line.actor) e fate k.stands k.fit k.in_range k.asks k.master k.may (own_opening actor line k.same true own) is) [
-      | inl items ↦ inr (inl (follows_later line.verb Opens step, answered_line actor all h step.items line lines own (subst (λ (a : Actor). Rattle.line_steps.proofs.Walks.LineItems (IsAnswer (asks_some h) line.actor line.verb) a line.verb step.items) k.same items) so))
+      | inl items ↦ inr (inl (follows_later line.verb Opens step, answered_line actor all h step.items line lines own (subst (λ (a : Actor). Rattle.command_semantics.proofs.Walks.LineItems (IsAnswer (asks_some h) line.actor line.verb) a line.verb step.items) k.same items) so))
       | inr (on, stop) ↦
           let mine : actor ≡ Session on.s = sym k.same ∙ on.actor_is in
           inr (inr (record {
@@ -122,7 +122,7 @@ read_event actor all clocks w h line lines e fate own k is =
     let mine : read_next k.s (doing_of w k.s) ≡ Some e = subst (λ (a : Actor). next clocks a line.verb Reads (view_of w a) ≡ Some e) (own.same ∙ k.actor_is) is in
     let ends : EndsOrReads k.s k.key step = subst (λ (x : Event). EndsOrReads k.s k.key (stepped w x fate)) (read_next_is w k.s k.key e k.reads mine) (read_goes_on w k.s k.key k.reads fate) in
     elim ends [
-      | inl paid ↦ inr (inl (follows_later line.verb Reads step, answered_read actor k.key all h step.items lines (subst (λ (a : Actor). Rattle.line_steps.proofs.Walks.Paid a k.key step.items) (sym k.actor_is) paid) k.to))
+      | inl paid ↦ inr (inl (follows_later line.verb Reads step, answered_read actor k.key all h step.items lines (subst (λ (a : Actor). Rattle.command_semantics.proofs.Walks.Paid a k.key step.items) (sym k.actor_is) paid) k.to))
       | inr (none, reads, stop) ↦ inr (inr (record {
         s = k.s;
         key = k.key;

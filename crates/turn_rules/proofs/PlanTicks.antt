@@ -10,19 +10,19 @@ use Rattle.script_data.specs.declared.line.Line.{Line}
 use Rattle.script_data.specs.declared.line.Verb.{Verb}
 use Rattle.script_data.specs.declared.line.Verb.TheVariants as verb
 use Rattle.script_data.specs.Data.{ScriptData}
-use Rattle.line_steps.specs.declared.point.Point.{Point}
-use Rattle.line_steps.specs.declared.point.Point.TheVariants.{Opens, Drives, Extends, Finishes, Reads, Steps, Over}
-use Rattle.line_steps.specs.declared.point.View.{View}
-use Rattle.line_steps.specs.Answers.{same_actor}
-use Rattle.line_steps.specs.Clocks.{clocks}
-use Rattle.line_steps.specs.Master.{last_master}
-use Rattle.line_steps.specs.Next.{Clocks}
-use Rattle.line_steps.specs.Planned.{tick_by, with_tick, ticks_in}
-use Rattle.line_steps.specs.Runs.{clocks_of}
-use Rattle.line_steps.specs.Views.{view_of}
-use Rattle.line_steps.proofs.Timing.{tick_ahead}
-use Rattle.planned_laws.specs.Laws.{LinesReadClocks}
-use Rattle.planned_laws.specs.SoFar.{ReadsClocks, ticks_with, tick_at}
+use Rattle.command_semantics.specs.declared.point.Point.{Point}
+use Rattle.command_semantics.specs.declared.point.Point.TheVariants.{Opens, Drives, Extends, Finishes, Reads, Steps, Over}
+use Rattle.command_semantics.specs.declared.point.View.{View}
+use Rattle.command_semantics.specs.Answers.{same_actor}
+use Rattle.command_semantics.specs.Clocks.{clocks}
+use Rattle.command_semantics.specs.Master.{last_master}
+use Rattle.command_semantics.specs.Next.{Clocks}
+use Rattle.command_semantics.specs.Planned.{tick_by, with_tick, ticks_in}
+use Rattle.command_semantics.specs.Runs.{clocks_of}
+use Rattle.command_semantics.specs.Views.{view_of}
+use Rattle.command_semantics.proofs.Timing.{tick_ahead}
+use Rattle.command_semantics.specs.PlannedLaws.{LinesReadClocks}
+use Rattle.command_semantics.specs.SoFar.{ReadsClocks, ticks_with, tick_at}
 use Rattle.turn_rules.specs.declared.ahead.Ahead.TheVariants.{Passes}
 use Rattle.turn_rules.specs.declared.seat.Seat.{Seat}
 use Rattle.turn_rules.specs.Seats.{lines_of, lines_left, ahead_of}

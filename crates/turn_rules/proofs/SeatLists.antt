@@ -1,4 +1,4 @@
--- For turn_engine and grant_laws too.
+-- For run_board and grant_laws too.
 -- Seats in their list, and the lines of a seat in the script.
 use Rattle.std.proofs.Common.{◌≡◌, ℕ, zero, suc, ◌+◌, ◌<◌, Bool, true, false, cond, List, [], ◌∷◌, Option, Some, refl, sym, ◌∙◌, ap, subst, arith, length}
 use Rattle.std.specs.Prelude.{map, find, filter, drop, slice_get, slice_index_or}

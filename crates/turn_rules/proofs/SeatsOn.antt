@@ -1,4 +1,4 @@
--- For turn_engine and grant_laws too.
+-- For run_board and grant_laws too.
 -- What a seat keeps while it passes lines, and what a turn makes of the seats.
 use Rattle.std.proofs.Common.{◌≡◌, ℕ, Bool, true, false, cond, List, [], ◌∷◌, Option, Some, None, refl, sym, ◌∙◌, ap, subst}
 use Rattle.std.specs.Prelude.{map}
@@ -8,12 +8,12 @@ use Rattle.machine.specs.declared.event.Event.{Event}
 use Rattle.machine.specs.Machine.{Step}
 use Rattle.script_data.specs.declared.line.Line.{Line}
 use Rattle.script_data.specs.Data.{ScriptData}
-use Rattle.line_steps.specs.declared.point.View.{View}
-use Rattle.line_steps.specs.Answers.{same_actor}
-use Rattle.line_steps.specs.Next.{Clocks}
-use Rattle.line_steps.specs.Runs.{clocks_of, step_of}
-use Rattle.line_steps.specs.Views.{view_of}
-use Rattle.line_steps.proofs.ScriptWalks.{same_itself}
+use Rattle.command_semantics.specs.declared.point.View.{View}
+use Rattle.command_semantics.specs.Answers.{same_actor}
+use Rattle.command_semantics.specs.Next.{Clocks}
+use Rattle.command_semantics.specs.Runs.{clocks_of, step_of}
+use Rattle.command_semantics.specs.Views.{view_of}
+use Rattle.command_semantics.proofs.ScriptWalks.{same_itself}
 use Rattle.turn_rules.specs.declared.ahead.Ahead.{Ahead}
 use Rattle.turn_rules.specs.declared.ahead.Ahead.TheVariants.{Makes, Waits, Passes}
 use Rattle.turn_rules.specs.declared.seat.Seat.{Seat}

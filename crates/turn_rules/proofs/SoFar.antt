@@ -13,19 +13,19 @@ use Rattle.script_data.specs.declared.line.Line.{Line}
 use Rattle.script_data.specs.declared.line.Target.{Target}
 use Rattle.script_data.specs.declared.line.Target.TheVariants as target
 use Rattle.script_data.specs.Data.{ScriptData}
-use Rattle.line_steps.specs.Answers.{same_actor, asks_some}
-use Rattle.line_steps.specs.Laws.{ActorFits, VerbFits, AreLinesOf, IsPlayable}
-use Rattle.line_steps.specs.Master.{has_take}
-use Rattle.line_steps.specs.Next.{target_node}
-use Rattle.line_steps.specs.Runs.{fate_of, clocks_of, step_of}
-use Rattle.line_steps.specs.Views.{view_of}
-use Rattle.line_steps.specs.declared.point.Point.TheVariants.{Drives}
-use Rattle.line_steps.proofs.LineWalks.{any_not}
-use Rattle.line_steps.proofs.PlainEvents.{events_plain}
-use Rattle.line_steps.proofs.ReadLines.{ReadsKey}
-use Rattle.line_steps.proofs.ScriptWalks.{actor_same, same_itself}
-use Rattle.line_steps.proofs.Takes.{some_fits}
-use Rattle.line_steps.proofs.Walks.{AllNot, plain_not}
+use Rattle.command_semantics.specs.Answers.{same_actor, asks_some}
+use Rattle.command_semantics.specs.Laws.{ActorFits, VerbFits, AreLinesOf, IsPlayable}
+use Rattle.command_semantics.specs.Master.{has_take}
+use Rattle.command_semantics.specs.Next.{target_node}
+use Rattle.command_semantics.specs.Runs.{fate_of, clocks_of, step_of}
+use Rattle.command_semantics.specs.Views.{view_of}
+use Rattle.command_semantics.specs.declared.point.Point.TheVariants.{Drives}
+use Rattle.command_semantics.proofs.LineWalks.{any_not}
+use Rattle.command_semantics.proofs.PlainEvents.{events_plain}
+use Rattle.command_semantics.proofs.ReadLines.{ReadsKey}
+use Rattle.command_semantics.proofs.ScriptWalks.{actor_same, same_itself}
+use Rattle.command_semantics.proofs.Takes.{some_fits}
+use Rattle.command_semantics.proofs.Walks.{AllNot, plain_not}
 use Rattle.turn_rules.specs.declared.seat.Seat.{Seat}
 use Rattle.turn_rules.specs.declared.turn.Turn.{Turn}
 use Rattle.turn_rules.specs.declared.turn.Turn.TheVariants as turn

@@ -8,16 +8,16 @@ use Rattle.port_io.specs.declared.weather.Fate.TheVariants.{Works, FailsUnchange
 use Rattle.history_book.specs.declared.cause.Cause.{Cause}
 use Rattle.history_book.specs.declared.cause.Cause.TheVariants as cause
 use Rattle.history_book.specs.declared.item.Item.{Item}
-use Rattle.store_parts.specs.declared.record.ExtendRefused.{ExtendRefused}
-use Rattle.store_parts.specs.declared.record.ExtendRefused.TheVariants.{StoreFault, Replaced, Spent}
-use Rattle.store_parts.specs.Pairs.{Pairs, mark_of}
-use Rattle.store_parts.specs.Record.{MasterRecord}
-use Rattle.oracle_parts.specs.declared.instance.Held.{Held}
-use Rattle.oracle_parts.specs.declared.instance.Place.{Place}
-use Rattle.oracle_parts.specs.declared.instance.Place.TheVariants as place
-use Rattle.oracle_parts.specs.declared.instance.Request.{Request}
-use Rattle.oracle_parts.specs.Instance.{InstanceEntry, held_of}
-use Rattle.oracle_parts.specs.InstanceSteps.{instance_accept}
+use Rattle.system_parts.specs.declared.record.ExtendRefused.{ExtendRefused}
+use Rattle.system_parts.specs.declared.record.ExtendRefused.TheVariants.{StoreFault, Replaced, Spent}
+use Rattle.system_parts.specs.Pairs.{Pairs, mark_of}
+use Rattle.system_parts.specs.Record.{MasterRecord}
+use Rattle.system_parts.specs.declared.instance.Held.{Held}
+use Rattle.system_parts.specs.declared.instance.Place.{Place}
+use Rattle.system_parts.specs.declared.instance.Place.TheVariants as place
+use Rattle.system_parts.specs.declared.instance.Request.{Request}
+use Rattle.system_parts.specs.Instance.{InstanceEntry, held_of}
+use Rattle.system_parts.specs.InstanceSteps.{instance_accept}
 use Rattle.machine.specs.declared.event.Event.{Event}
 use Rattle.machine.specs.declared.event.Event.TheVariants as event
 use Rattle.machine.specs.State.{Client, State}
@@ -29,9 +29,9 @@ use Rattle.machine.specs.Events.Put.{to_place, put_by, put_commit, put_on}
 use Rattle.script_data.specs.Data.{ScriptData}
 use Rattle.isolation_laws.specs.Sound.{Stands}
 use Rattle.machine.proofs.Lookups.{held_by}
-use Rattle.line_steps.specs.Next.{reading_at}
-use Rattle.line_steps.specs.Runs.{Played, fate_of, clocks_of}
-use Rattle.line_steps.proofs.Holders.{Served, is_served_at}
+use Rattle.command_semantics.specs.Next.{reading_at}
+use Rattle.command_semantics.specs.Runs.{Played, fate_of, clocks_of}
+use Rattle.command_semantics.proofs.Holders.{Served, is_served_at}
 use Rattle.turn_rules.specs.declared.turn.Turn.TheVariants as turn
 use Rattle.turn_rules.specs.Lawful.{LacksStamps, IsTold}
 use Rattle.turn_rules.specs.Told.{StageTurnsAreTold}

@@ -8,22 +8,21 @@ use Rattle.history_book.specs.declared.item.Actor.{Actor}
 use Rattle.history_book.specs.declared.item.Actor.TheVariants.{Session, Janitor}
 use Rattle.history_book.specs.declared.item.Item.{Item}
 use Rattle.history_book.specs.declared.item.Item.TheVariants.{Placed}
-use Rattle.store_parts.specs.Rows.{Row}
-use Rattle.store_parts.specs.Pairs.{Pairs, mark_of}
-use Rattle.client_parts.specs.declared.asks.Ask.{Ask}
-use Rattle.client_parts.specs.declared.asks.Ask.TheVariants as ask
-use Rattle.client_parts.specs.declared.asks.Told.{Told}
-use Rattle.client_parts.specs.declared.session.State.{State as SessionState}
-use Rattle.client_parts.specs.declared.session.State.TheVariants as phase
-use Rattle.client_parts.specs.KeyRead.{Reading, read_ask}
-use Rattle.client_parts.specs.Resolve.{Settling, settle_ask}
-use Rattle.client_parts.specs.SessionSteps.{work_refusal, step_refusal, handed_commit}
-use Rattle.client_parts.specs.Sweep.{Sweeping, sweep_ask}
+use Rattle.system_parts.specs.Rows.{Row}
+use Rattle.system_parts.specs.Pairs.{Pairs, mark_of}
+use Rattle.system_parts.specs.declared.asks.Ask.{Ask}
+use Rattle.system_parts.specs.declared.asks.Ask.TheVariants as ask
+use Rattle.system_parts.specs.declared.asks.Told.{Told}
+use Rattle.system_parts.specs.declared.session.State.{State as SessionState}
+use Rattle.system_parts.specs.declared.session.State.TheVariants as phase
+use Rattle.system_parts.specs.KeyRead.{Reading, read_ask}
+use Rattle.system_parts.specs.Resolve.{Settling, settle_ask}
+use Rattle.system_parts.specs.SessionSteps.{work_refusal, step_refusal, handed_commit}
+use Rattle.system_parts.specs.Sweep.{Sweeping, sweep_ask}
 use Rattle.machine.specs.declared.event.Event.TheVariants as event
 use Rattle.machine.specs.State.{UnderWay, Reads, Settles, Completes, Client, State}
 use Rattle.machine.specs.Clients.{is_reading}
-use Rattle.machine.specs.Machine.{Step, at_client, with_client, stepped}
-use Rattle.machine.specs.Machine.{step_by as machine_step_by}
+use Rattle.machine.specs.Machine.{Step, at_client, with_client, stepped, step_by as machine_step_by}
 use Rattle.machine.specs.StoreSteps.{Met, mark_kept, told_by, met}
 use Rattle.machine.specs.Effect.{kept_items}
 use Rattle.machine.specs.Events.Abort.{abort_by, abort_on}
@@ -34,9 +33,9 @@ use Rattle.machine.specs.Events.Step.{work_by, work_of, read_by, settle_by, comp
 use Rattle.machine.specs.Events.SweepStep.{sweep_by, sweep_lists, sweep_at, sweep_step_on}
 use Rattle.isolation_laws.specs.Sound.{Stands}
 use Rattle.isolation_laws.specs.Words.{ClientAt}
-use Rattle.line_steps.proofs.Stepping.{stores_step, step_is, unhanded, place_is}
-use Rattle.line_steps.proofs.Working.{ReadWork, CompleteWork, HasWork, has_work}
-use Rattle.line_steps.proofs.WorkItems.{HasNumber, starts}
+use Rattle.command_semantics.proofs.Stepping.{stores_step, step_is, unhanded, place_is}
+use Rattle.command_semantics.proofs.Working.{ReadWork, CompleteWork, HasWork, has_work}
+use Rattle.command_semantics.proofs.WorkItems.{HasNumber, starts}
 
 -- an item is appended
 abbrev pub Appends : List Item → Type 0

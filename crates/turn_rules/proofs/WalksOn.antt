@@ -10,13 +10,13 @@ use Rattle.machine.specs.State.{State}
 use Rattle.script_data.specs.declared.line.Line.{Line}
 use Rattle.script_data.specs.declared.line.Verb.{Verb}
 use Rattle.script_data.specs.declared.line.Verb.TheVariants as verb
-use Rattle.line_steps.specs.declared.point.Point.{Point}
-use Rattle.line_steps.specs.declared.point.Point.TheVariants.{Opens, Reads}
-use Rattle.line_steps.specs.Answers.{is_of, IsAnswer, read_begun, asks_some, Answered}
-use Rattle.line_steps.proofs.FetchLines.{ReadBegun}
-use Rattle.line_steps.proofs.LaterEvents.{IsLater}
-use Rattle.line_steps.proofs.ReadLines.{ReadsKey}
-use Rattle.line_steps.proofs.Walks.{AllNot, Paid, LineItems, shifted, walks_over, walks_read, walks_line}
+use Rattle.command_semantics.specs.declared.point.Point.{Point}
+use Rattle.command_semantics.specs.declared.point.Point.TheVariants.{Opens, Reads}
+use Rattle.command_semantics.specs.Answers.{is_of, IsAnswer, read_begun, asks_some, Answered}
+use Rattle.command_semantics.proofs.FetchLines.{ReadBegun}
+use Rattle.command_semantics.proofs.LaterEvents.{IsLater}
+use Rattle.command_semantics.proofs.ReadLines.{ReadsKey}
+use Rattle.command_semantics.proofs.Walks.{AllNot, Paid, LineItems, shifted, walks_over, walks_read, walks_line}
 use Rattle.turn_rules.specs.Laws.{IsAnsweredTo}
 
 -- ---- the walk

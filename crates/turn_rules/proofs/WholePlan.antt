@@ -9,11 +9,11 @@ use Rattle.machine.specs.State.{opening}
 use Rattle.script_data.specs.declared.line.Line.{Line}
 use Rattle.script_data.specs.Data.{ScriptData}
 use Rattle.cause_laws.specs.Shows.{Tells}
-use Rattle.line_steps.specs.Answers.{same_actor}
-use Rattle.line_steps.specs.Planned.{tick_by, with_tick, ticks_in}
-use Rattle.line_steps.proofs.Ending.{opening_reached}
-use Rattle.planned_laws.specs.Laws.{PlannedAtFirst, PlannedInTheEnd}
-use Rattle.planned_laws.specs.SoFar.{PlannedSoFar}
+use Rattle.command_semantics.specs.Answers.{same_actor}
+use Rattle.command_semantics.specs.Planned.{tick_by, with_tick, ticks_in}
+use Rattle.command_semantics.proofs.Ending.{opening_reached}
+use Rattle.command_semantics.specs.PlannedLaws.{PlannedAtFirst, PlannedInTheEnd}
+use Rattle.command_semantics.specs.SoFar.{PlannedSoFar}
 use Rattle.turn_rules.specs.declared.seat.Seat.{Seat}
 use Rattle.turn_rules.specs.Seats.{first_seat, lines_of, lines_left}
 use Rattle.turn_rules.specs.Carried.{Carried, seat_of, all_passed, at_first, carried}

@@ -3,9 +3,9 @@ use Rattle.std.proofs.Common.{◌≡◌, refl}
 use Rattle.std.specs.Prelude.{map}
 use Rattle.port_io.specs.Planned.{planned_fate}
 use Rattle.history_book.specs.declared.item.Actor.TheVariants.{Node, Session}
-use Rattle.store_parts.specs.Rows.{put_row}
-use Rattle.oracle_parts.specs.Buckets.{record_pairs, kept_commit, verdict}
-use Rattle.oracle_parts.specs.Instance.{least_unsettled}
+use Rattle.system_parts.specs.Rows.{put_row}
+use Rattle.system_parts.specs.Buckets.{record_pairs, kept_commit, verdict}
+use Rattle.system_parts.specs.Instance.{least_unsettled}
 use Rattle.machine.specs.Events.Crash.{crashed_clients, all_crashed_items}
 use Rattle.machine.specs.Readers.{holder_from}
 use Rattle.turn_rules.specs.declared.ahead.Ahead.TheVariants.{Waits}

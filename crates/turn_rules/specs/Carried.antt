@@ -1,7 +1,5 @@
 -- What a list of turns makes of a script.
-use Rattle.std.specs.Prelude.{ℕ, Bool, true, false, if◌then◌else◌, List, [], ◌∷◌, ◌++◌, All, ◌≡◌, map, fold, find, replicate, slice_index_or, slice_set, Option, None, Some}
-use Rattle.std.specs.List.{list_any}
-use Rattle.std.specs.Str.{bytes_eq}
+use Rattle.std.specs.Prelude.{ℕ, Bool, true, false, if◌then◌else◌, List, [], All, ◌≡◌, map, fold, find, replicate, slice_index_or, slice_set, Option, None, Some}
 use Rattle.stamp_base.specs.declared.stage.Stage.{Stage}
 use Rattle.stamp_base.specs.declared.stage.Stage.TheVariants.{Request, Persist, Reply}
 use Rattle.history_book.specs.declared.item.Actor.{Actor}
@@ -15,12 +13,12 @@ use Rattle.script_data.specs.declared.line.Line.{Line}
 use Rattle.script_data.specs.declared.line.Verb.{Verb}
 use Rattle.script_data.specs.declared.line.Verb.TheVariants as verb
 use Rattle.script_data.specs.Data.{ScriptData}
-use Rattle.line_steps.specs.Answers.{same_actor}
-use Rattle.line_steps.specs.Clocks.{clocks}
-use Rattle.line_steps.specs.Master.{has_take}
-use Rattle.line_steps.specs.Next.{Clocks, reading_at}
-use Rattle.line_steps.specs.Runs.{Played, clocks_of, step_of, played, opening_played}
-use Rattle.line_steps.specs.Views.{view_of}
+use Rattle.command_semantics.specs.Answers.{same_actor}
+use Rattle.command_semantics.specs.Clocks.{clocks}
+use Rattle.command_semantics.specs.Master.{has_take}
+use Rattle.command_semantics.specs.Next.{Clocks, reading_at}
+use Rattle.command_semantics.specs.Runs.{Played, clocks_of, step_of, played, opening_played}
+use Rattle.command_semantics.specs.Views.{view_of}
 use Rattle.turn_rules.specs.declared.ahead.Ahead.{Ahead}
 use Rattle.turn_rules.specs.declared.ahead.Ahead.TheVariants.{Makes, Passes}
 use Rattle.turn_rules.specs.declared.seat.Holds.{Holds}
@@ -28,6 +26,7 @@ use Rattle.turn_rules.specs.declared.seat.Seat.{Seat}
 use Rattle.turn_rules.specs.declared.turn.Turn.{Turn}
 use Rattle.turn_rules.specs.declared.turn.Turn.TheVariants as turn
 use Rattle.turn_rules.specs.Seats.{first_seats, lines_left, present_line, ahead_of, passed, with_event_at}
+use Rattle.session_script.specs.PostedNames.{is_posted, names_after}
 
 -- what was carried out so far: state, history, clock and calls, the names that are posted, the stages that are held node by
 -- node, and how far each actor has come
@@ -38,17 +37,10 @@ pub record Carried : Type 0 where
   pub seats : List Seat
 
 -- ---- names and stages
-abbrev pub is_posted : List (List ℕ) → List ℕ → Bool
-is_posted names name = list_any (bytes_eq name) names
-
 -- the name that a line awaits is posted
 abbrev pub name_posted : List (List ℕ) → Verb → Bool
 name_posted names (verb.Await name) = is_posted names name
 name_posted names _ = true
-
-abbrev pub names_after : List (List ℕ) → Event → List (List ℕ)
-names_after names (event.Note actor (note.Post name)) = if is_posted names name then names else names ++ name ∷ []
-names_after names _ = names
 
 abbrev pub none_held : Holds
 none_held = record { request = false; persist = false; reply = false }

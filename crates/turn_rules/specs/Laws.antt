@@ -14,16 +14,16 @@ use Rattle.script_data.specs.declared.line.Verb.{Verb}
 use Rattle.script_data.specs.declared.line.Verb.TheVariants as verb
 use Rattle.script_data.specs.Data.{ScriptData}
 use Rattle.isolation_laws.specs.Sound.{Stands}
-use Rattle.line_steps.specs.declared.point.Point.{Point}
-use Rattle.line_steps.specs.declared.point.Point.TheVariants.{Opens, Reads}
-use Rattle.line_steps.specs.Answers.{is_of, asks_some, Answered, AnswersOnThreads}
-use Rattle.line_steps.specs.Halts.{halt_of, follows}
-use Rattle.line_steps.specs.Laws.{IsPlayable, IsReached, AreLinesOf}
-use Rattle.line_steps.specs.Left.{left}
-use Rattle.line_steps.specs.Next.{Clocks}
-use Rattle.line_steps.specs.Planned.{ticks_in, Planned}
-use Rattle.line_steps.specs.Views.{view_of}
-use Rattle.planned_laws.specs.SoFar.{PlannedSoFar}
+use Rattle.command_semantics.specs.declared.point.Point.{Point}
+use Rattle.command_semantics.specs.declared.point.Point.TheVariants.{Opens, Reads}
+use Rattle.command_semantics.specs.Answers.{is_of, asks_some, Answered, AnswersOnThreads}
+use Rattle.command_semantics.specs.Halts.{halt_of, follows}
+use Rattle.command_semantics.specs.Laws.{IsPlayable, IsReached, AreLinesOf}
+use Rattle.command_semantics.specs.Left.{left}
+use Rattle.command_semantics.specs.Next.{Clocks}
+use Rattle.command_semantics.specs.Planned.{ticks_in, Planned}
+use Rattle.command_semantics.specs.Views.{view_of}
+use Rattle.command_semantics.specs.SoFar.{PlannedSoFar}
 use Rattle.turn_rules.specs.declared.ahead.Ahead.TheVariants.{Makes}
 use Rattle.turn_rules.specs.declared.seat.Seat.{Seat}
 use Rattle.turn_rules.specs.declared.turn.Turn.{Turn}

@@ -11,12 +11,12 @@ use Rattle.script_data.specs.declared.line.Line.{Line}
 use Rattle.script_data.specs.declared.line.Verb.{Verb}
 use Rattle.script_data.specs.declared.line.Verb.TheVariants as verb
 use Rattle.script_data.specs.Data.{ScriptData}
-use Rattle.line_steps.specs.declared.point.Halt.{Halt}
-use Rattle.line_steps.specs.declared.point.Point.TheVariants.{Opens}
-use Rattle.line_steps.specs.declared.point.View.{View}
-use Rattle.line_steps.specs.Answers.{same_actor}
-use Rattle.line_steps.specs.Halts.{halt_of, follows}
-use Rattle.line_steps.specs.Next.{Clocks}
+use Rattle.command_semantics.specs.declared.point.Halt.{Halt}
+use Rattle.command_semantics.specs.declared.point.Point.TheVariants.{Opens}
+use Rattle.command_semantics.specs.declared.point.View.{View}
+use Rattle.command_semantics.specs.Answers.{same_actor}
+use Rattle.command_semantics.specs.Halts.{halt_of, follows}
+use Rattle.command_semantics.specs.Next.{Clocks}
 use Rattle.turn_rules.specs.declared.ahead.Ahead.{Ahead}
 use Rattle.turn_rules.specs.declared.ahead.Ahead.TheVariants.{Passes}
 use Rattle.turn_rules.specs.declared.seat.Seat.{Seat}

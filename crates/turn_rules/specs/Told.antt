@@ -9,8 +9,8 @@ use Rattle.script_data.specs.declared.line.Verb.{Verb}
 use Rattle.script_data.specs.declared.line.Verb.TheVariants as verb
 use Rattle.script_data.specs.Data.{ScriptData}
 use Rattle.isolation_laws.specs.Sound.{Stands}
-use Rattle.line_steps.specs.Laws.{IsPlayable, AreLinesOf}
-use Rattle.line_steps.specs.Runs.{Played, step_of, played}
+use Rattle.command_semantics.specs.Laws.{IsPlayable, AreLinesOf}
+use Rattle.command_semantics.specs.Runs.{Played, step_of, played}
 use Rattle.turn_rules.specs.declared.turn.Turn.{Turn}
 use Rattle.turn_rules.specs.declared.turn.Turn.TheVariants as turn
 use Rattle.turn_rules.specs.Carried.{Carried, event_of, carried}

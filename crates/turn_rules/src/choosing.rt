@@ -1,11 +1,11 @@
 // What is ahead of a line that is carried out on threads.
 ghost use Rattle.std.specs.Prelude.{◌≡◌};
-ghost use Rattle.line_steps.specs.Clocks.{clocks, HaveRoom};
+ghost use Rattle.command_semantics.specs.Clocks.{clocks, HaveRoom};
 ghost use Rattle.turn_rules.specs.Waiting as waiting;
 
 use crate::ahead::{Ahead, Why};
+use command_semantics::{Point, View, idle_next, is_served, next_event, places, placing_next};
 use history_book::Actor;
-use line_steps::{Point, View, idle_next, is_served, next_event, places, placing_next};
 use machine::Event;
 use script_data::{Line, Verb};
 use stamp_base::{NodeNo, SessionNo};

@@ -3,9 +3,9 @@ ghost use Rattle.turn_rules.specs.Laws.{OwnEventsLowerWhatIsLeft, TurnsKeepFacts
 ghost use Rattle.turn_rules.specs.Told.{OwnTurnsAreTold, StageTurnsAreTold, QuietTurnsChangeNothing};
 
 use cause_laws::told_at_first;
-use line_steps::events_lower_what_is_left;
-use planned_laws::{
-    events_stay_planned, events_stay_told, lines_read_clocks, planned_at_first, planned_in_the_end,
+use command_semantics::{
+    events_lower_what_is_left, events_stay_planned, events_stay_told, lines_read_clocks,
+    planned_at_first, planned_in_the_end,
 };
 
 /// Each event of an own turn leaves fewer to make of its line, in every state that is reached, whatever becomes of its store

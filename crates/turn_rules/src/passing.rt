@@ -1,12 +1,12 @@
 // Passing lines with nothing left to do.
 ghost use Rattle.std.specs.Prelude.{◌≡◌, ◌<◌, ◌≤◌, ◌^◌, true, All, drop, length};
-ghost use Rattle.line_steps.specs.Clocks.{clocks, HaveRoom};
+ghost use Rattle.command_semantics.specs.Clocks.{clocks, HaveRoom};
 ghost use Rattle.turn_rules.specs.Seats as seats;
 
 use crate::ahead::Ahead;
 use crate::choosing::own_event;
 use crate::seat::Seat;
-use line_steps::{Point, View};
+use command_semantics::{Point, View};
 use script_data::{Line, Verb};
 use stamp_base::NodeNo;
 

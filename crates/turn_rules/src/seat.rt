@@ -2,8 +2,8 @@ ghost use Rattle.std.specs.Prelude.{◌≡◌};
 ghost use Rattle.turn_rules.specs.Seats as seats;
 ghost use Rattle.turn_rules.specs.Carried.{none_held, is_held, with_stage};
 
+use command_semantics::{Halt, Point, follows};
 use history_book::{Actor, Item};
-use line_steps::{Halt, Point, follows};
 use script_data::Verb;
 use stamp_base::Stage;
 

@@ -1,10 +1,10 @@
 ghost use Rattle.std.specs.Prelude.{◌≡◌};
 ghost use Rattle.turn_rules.specs.Lawful as lawful;
 
+use command_semantics::View;
 use history_book::Actor;
-use line_steps::View;
-use oracle_parts::Place;
 use stamp_base::{NodeNo, SessionNo, Stage};
+use system_parts::Place;
 
 /// Who makes the next event. On threads the order of the turns is the order in which the lock round the cluster was taken.
 #[derive(Clone, Copy, Debug, PartialEq, Eq)]

@@ -5,12 +5,12 @@ use crate::making::{
 use crate::texts::{ends_with, tells};
 use cluster_core::Cluster;
 use history_book::{Actor, Note};
-use oracle_parts::Place;
 use port_io::CalmWeather;
 use stamp_base::{Name, NodeNo, SessionNo, Setup, TxnId};
 use std::alloc::Global;
 use std::test::Fail;
-use worked_commits::commits::PLAIN_HISTORY;
+use system_parts::Place;
+use worked_texts::commits::PLAIN_HISTORY;
 
 const NODE: NodeNo = NodeNo::FIRST;
 

@@ -4,7 +4,7 @@ use replay_driver::replay;
 use session_script::{Mode, read_script};
 use std::alloc::{AllocError, Global};
 use std::test::Fail;
-use worked_commits::commits::{PLAIN_HISTORY, PLAIN_PATH};
+use worked_texts::commits::{PLAIN_HISTORY, PLAIN_PATH};
 
 /// Whether the script's history is this. False where it is no script.
 fn is_replayed(alloc: Global, script: &str, history: &str) -> Result<bool, AllocError> {

@@ -2,8 +2,8 @@
 use Rattle.std.proofs.Common.{◌≡◌, ℕ, ◌<◌, ◌≤◌, List, [], ◌∷◌, arith}
 use Rattle.std.proofs.lemmas.List.Elements.{All-cons}
 use Rattle.std.proofs.lemmas.List.Kept.{AllPairs-cons}
-use Rattle.store_parts.specs.declared.rows.Cell.{Cell}
-use Rattle.client_parts.specs.KeyRead.{AreFetched}
+use Rattle.system_parts.specs.declared.rows.Cell.{Cell}
+use Rattle.system_parts.specs.KeyRead.{AreFetched}
 
 pub fetched_one : (start : ℕ) (c : Cell) (cells : List Cell) → cells ≡ c ∷ [] → c.version ≤ start → AreFetched start cells
 fetched_one start c cells e h = rw e (record {

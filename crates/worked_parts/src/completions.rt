@@ -1,7 +1,7 @@
 // What is left to do once a transaction has ended.
 use crate::numbers::{key, keys, stamp};
-use client_parts::Ask;
 use shadow_cells::Completion;
+use system_parts::Ask;
 
 /// The next step, which is then done.
 fn step(completion: &mut Completion) -> Option<Ask> {

@@ -1,14 +1,14 @@
 // The steps of a read, from its fetch to its answer.
 ghost use Rattle.std.specs.Prelude.{◌≡◌, IfSome};
-ghost use Rattle.client_parts.specs.Asks.{Fits};
-ghost use Rattle.client_parts.specs.KeyRead.{AreFetched, is_recall};
+ghost use Rattle.system_parts.specs.Asks.{Fits};
+ghost use Rattle.system_parts.specs.KeyRead.{AreFetched, is_recall};
 
 use crate::numbers::{key, stamp, value};
-use client_parts::{Answer, Ask, Known, Next, Told};
 use reader_resolve::{Cell, ReadRun};
 use stamp_base::{KeyNo, Stamp};
 use std::alloc::Global;
 use std::test::Fail;
+use system_parts::{Answer, Ask, Known, Next, Told};
 
 fn bare(version: u64, text: &[u8]) -> Option<Cell> {
     Some(Cell {

@@ -1,15 +1,14 @@
 // Each call once with ample memory, and the end of the stamps, which no script reaches.
 ghost use Rattle.std.specs.Prelude.{◌≡◌};
-ghost use Rattle.oracle_parts.specs.Instance as entry;
+ghost use Rattle.system_parts.specs.Instance as entry;
 
 use crate::numbers::keys;
 use history_book::Cause;
 use oracle_core::{Decided, Instance, Place, Reply, Request, Settled};
-use oracle_parts::Verdict;
 use stamp_base::{NodeNo, SessionNo, Setup, SetupFlag, Stamp, Term};
 use std::alloc::Global;
 use std::test::Fail;
-use store_parts::Grant;
+use system_parts::{Grant, Verdict};
 
 /// An instance of the first node, with these stamps to draw and a lease up to 10.
 fn opened(alloc: Global, epoch: u64, ceiling: u64) -> Result<Instance, Fail> {

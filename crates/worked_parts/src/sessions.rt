@@ -1,6 +1,6 @@
 // A session from call to call, and what it remembers of others.
 ghost use Rattle.std.specs.Prelude.{◌≡◌, ◌≢◌, [], None, IfOk, OnOk};
-ghost use Rattle.client_parts.specs.declared.session.State.{State};
+ghost use Rattle.system_parts.specs.declared.session.State.{State};
 
 use crate::numbers::{key, stamp};
 use client_txn::{Known, Session, State};

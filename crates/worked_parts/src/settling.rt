@@ -1,14 +1,14 @@
 // How an outcome is settled, and how a sweep goes.
 ghost use Rattle.std.specs.Prelude.{IfOk};
 ghost use Rattle.std.specs.List.Sorted.{IsStrictlyIncreasing};
-ghost use Rattle.client_parts.specs.Asks.{Fits};
+ghost use Rattle.system_parts.specs.Asks.{Fits};
 
 use crate::numbers::{key, stamp};
-use client_parts::{Ask, Told};
 use invalidator::{Outcome, Settle, Sweep};
 use stamp_base::{KeyNo, Stamp};
 use std::alloc::{AllocError, Global};
 use std::test::Fail;
+use system_parts::{Ask, Told};
 
 /// Tells an answer, whose ask must be next, and gives what it decides.
 fn settled(settle: &mut Settle, ask: Ask, told: Told) -> Option<Option<Outcome>>

@@ -1,10 +1,11 @@
 // What the program says of histories that it audits, byte for byte.
+use crate::calls::answers;
+use crate::told::{Told, first_unlike};
 use std::alloc::{AllocError, Global};
 use std::sync::Wait;
 use std::test::Fail;
 use std::thread::Threads;
-use worked_calls::{Told, answers, first_unlike};
-use worked_commits::commits::PLAIN_HISTORY;
+use worked_texts::commits::PLAIN_HISTORY;
 
 /// One item of each kind.
 const EACH_KIND: &str =

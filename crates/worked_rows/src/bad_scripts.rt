@@ -1,8 +1,9 @@
 // What the program says of words that are no command, and of bytes that are no script.
+use crate::calls::answers;
+use crate::told::{Told, first_unlike};
 use std::alloc::{AllocError, Global};
 use std::test::Fail;
-use worked_calls::{Told, answers, first_unlike};
-use worked_commits::commits::PLAIN_PATH;
+use worked_texts::commits::PLAIN_PATH;
 
 pub const USAGE: &str =
     "usage: omid replay [summary|json|compact N] | run [split] | audit [strict] | storm N\n";

@@ -1,7 +1,7 @@
 // What a replay writes that compacts its stores, byte for byte.
+use crate::calls::{answers, joined};
 use std::test::Fail;
-use worked_calls::{answers, joined};
-use worked_faults::takeovers::TAKEN_OVER;
+use worked_texts::takeovers::TAKEN_OVER;
 
 /// Three commits of one key, at 2, 4 and 6, and a write that is not committed, of the transaction 7.
 const THREE_COMMITS: &str = "\

@@ -1,14 +1,14 @@
 // Sources and sinks that fail, or move a byte at a time.
 use crate::drips::{DripSink, DripSource};
+use crate::failing::{first_lines, keeps_lines, reads_nothing};
+use crate::ports::{call, open_sink, open_source};
+use omid_top::OpenGate;
 use std::alloc::{AllocError, Global};
 use std::sync::Wait;
 use std::test::Fail;
 use std::thread::Threads;
-use worked_calls::{
-    OpenGate, call, first_lines, keeps_lines, open_sink, open_source, reads_nothing,
-};
-use worked_commits::commits::{PLAIN_HISTORY, PLAIN_PATH};
-use worked_commits::json::PLAIN_JSON;
+use worked_texts::commits::{PLAIN_HISTORY, PLAIN_PATH};
+use worked_texts::json::PLAIN_JSON;
 
 /// Words and what they read, the text that they write, in so many writes, and the status.
 struct Call {

@@ -1,8 +1,9 @@
 // A script under each fault that can be planned for it: all is carried out, and what is written is isolated.
+use crate::calls::is_carried_out;
+use crate::told::first_untold;
 use std::alloc::{AllocError, Global};
 use std::test::Fail;
-use worked_calls::{first_untold, is_carried_out};
-use worked_examples::hostile::{HOSTILE, replays};
+use worked_texts::hostile::{HOSTILE, replays};
 
 /// The calls that the script makes on each store, carried out in file order. On threads it may make fewer.
 const CALLS: [(&str, u64); 3] = [("cells", 11), ("table", 6), ("master", 2)];

@@ -1,13 +1,14 @@
 // Histories as JSON: what a replay writes, and what an audit says of it.
+use crate::calls::{answer_of, answers, joined};
 use crate::rows::{TOPICS, topic};
+use crate::told::{Told, first_unlike};
 use std::alloc::{AllocError, Global};
 use std::sync::Wait;
 use std::test::Fail;
 use std::thread::Threads;
-use worked_calls::{Told, answer_of, answers, first_unlike, joined};
-use worked_commits::commits::PLAIN_PATH;
-use worked_commits::json::{EACH_KIND, EACH_KIND_JSON, PLAIN_JSON};
-use worked_pieces::Replay;
+use worked_texts::Replay;
+use worked_texts::commits::PLAIN_PATH;
+use worked_texts::json::{EACH_KIND, EACH_KIND_JSON, PLAIN_JSON};
 
 /// A history, what an audit of it must write, and its status.
 static AUDITS: [Told; 15] = [

@@ -1,10 +1,11 @@
 // Progress: a gate that wants to know how far a replay is hears of each line once.
+use crate::ports::{call, open_sink, open_source};
+use omid_top::{Gate, GatePlace};
 use std::alloc::{AllocError, Global};
 use std::sync::Wait;
 use std::sync::atomic::{AtomicUsize, Ordering};
 use std::test::Fail;
 use std::thread::Threads;
-use worked_calls::{Gate, GatePlace, call, open_sink, open_source};
 
 /// The commands, their input, and how many lines are carried out for them.
 static COUNTS: [(&[&str], &str, usize); 6] = [

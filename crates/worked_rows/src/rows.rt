@@ -1,13 +1,14 @@
 // What a replay writes for a script, byte for byte, and that it is isolated, and serial where reads are strict.
+use crate::calls::is_carried_out;
+use crate::told::first_untold;
 use std::alloc::{AllocError, Global};
 use std::sync::Wait;
 use std::test::Fail;
 use std::thread::Threads;
-use worked_calls::{first_untold, is_carried_out};
-use worked_commits::{commits, conflicts, direct, many_keys, remembered, strict};
-use worked_examples::{examples, threads};
-use worked_faults::{direct as direct_faults, leases, masters, outcomes, refusals, takeovers};
-use worked_pieces::Replay;
+use worked_texts::{
+    Replay, commits, conflicts, direct, direct_faults, examples, leases, many_keys, masters,
+    outcomes, refusals, remembered, strict, takeovers, threads,
+};
 
 /// How many topics the worked examples have.
 pub const TOPICS: usize = 14;

@@ -1,8 +1,10 @@
 // Storms, and the summaries of histories.
+use crate::calls::{answers, joined};
+use crate::ports::{call, open_sink, open_source};
+use omid_top::OpenGate;
 use std::test::Fail;
-use worked_calls::{OpenGate, answers, call, joined, open_sink, open_source};
-use worked_commits::commits::PLAIN_PATH;
-use worked_faults::takeovers::{LATE_PUT, TAKEN_OVER};
+use worked_texts::commits::PLAIN_PATH;
+use worked_texts::takeovers::{LATE_PUT, TAKEN_OVER};
 
 /// How many transactions, and the summary of their history.
 static STORMS: [(&str, &str); 6] = [

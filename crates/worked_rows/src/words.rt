@@ -1,8 +1,9 @@
 // What becomes of the words that the system hands in.
 use crate::bad_scripts::USAGE;
+use crate::calls::written_for;
+use omid_top::words_behind;
 use std::env::{Env, FillError};
 use std::test::Fail;
-use worked_calls::{words_behind, written_for};
 
 /// A system that hands in these words, the program's name first.
 #[derive(Clone, Copy)]

@@ -4,7 +4,7 @@ use std::sync::Wait;
 use std::sync::atomic::{AtomicU64, Ordering};
 use std::test::Fail;
 use std::thread::Threads;
-use worked_calls::{Gate, GatePlace, call, is_isolated, open_sink, open_source};
+use worked_rows::{Gate, GatePlace, call, is_isolated, open_sink, open_source};
 
 /// An always open gate that refuses the threads from this number on, so many of them; they are counted from 1.
 #[derive(Drop)]

@@ -4,8 +4,8 @@ use std::alloc::{AllocError, Global};
 use std::sync::Wait;
 use std::test::Fail;
 use std::thread::Threads;
-use worked_calls::{answer_of, answers};
-use worked_pieces::READ_BEHIND;
+use worked_rows::{answer_of, answers};
+use worked_texts::READ_BEHIND;
 
 const RUN_SPLIT: &[&str] = &["run", "split"];
 

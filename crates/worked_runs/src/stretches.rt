@@ -5,7 +5,7 @@ use std::alloc::{AllocError, Global};
 use std::sync::Wait;
 use std::test::Fail;
 use std::thread::Threads;
-use worked_calls::{Gate, GatePlace, call, is_isolated, joined, open_sink, open_source};
+use worked_rows::{Gate, GatePlace, call, is_isolated, joined, open_sink, open_source};
 
 /// So many bytes are enough for each history.
 const ROOM: usize = 1 << 16;

@@ -6,13 +6,12 @@ use std::alloc::{AllocError, Global};
 use std::sync::Wait;
 use std::test::Fail;
 use std::thread::Threads;
-use worked_calls::{
+use worked_rows::{
     Gate, GatePlace, call, first_untold, is_carried_out, is_isolated, keeps_lines, open_sink,
     open_source, reads_nothing,
 };
-use worked_commits::commits::PLAIN_PATH;
-use worked_examples::threads;
-use worked_pieces::Meeting;
+use worked_texts::commits::PLAIN_PATH;
+use worked_texts::{Meeting, threads};
 
 const RUN: &[&str] = &["run"];
 

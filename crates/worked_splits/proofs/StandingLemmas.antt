@@ -5,9 +5,9 @@ use Rattle.std.specs.Prelude.{slice_index_or, IfSome, IsSome, IsSomeAnd}
 use Rattle.stamp_base.specs.SetupNumbers.{SetupNumbers}
 use Rattle.stamp_base.specs.declared.stores.Store.{Store}
 use Rattle.stamp_base.specs.declared.stores.Store.TheVariants as store
-use Rattle.store_parts.specs.Rows.{Row}
-use Rattle.store_parts.specs.Record.{MasterRecord}
-use Rattle.oracle_parts.specs.Instance.{InstanceEntry}
+use Rattle.system_parts.specs.Rows.{Row}
+use Rattle.system_parts.specs.Record.{MasterRecord}
+use Rattle.system_parts.specs.Instance.{InstanceEntry}
 use Rattle.machine.specs.declared.event.Event as machine
 use Rattle.machine.specs.declared.event.Event.TheVariants as timed
 use Rattle.machine.specs.Events.Take.{rules_of}

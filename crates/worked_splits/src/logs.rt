@@ -10,7 +10,7 @@ use stamp_base::{NoMemory, Setup};
 use std::alloc::Global;
 use std::sync::Wait;
 use std::test::Fail;
-use worked_pieces::READ_BEHIND;
+use worked_texts::READ_BEHIND;
 
 /// Whether the setup turns on nothing that split stores have not.
 fn is_plain(setup: &Setup) -> bool

@@ -4,7 +4,7 @@ use split_driver::run_split;
 use split_stores::{Event, PartGate};
 use std::sync::Wait;
 use std::test::Fail;
-use worked_pieces::Meeting;
+use worked_texts::Meeting;
 
 /// A gate at which the write of `k1`, under the locks of its session and the cells, meets a step, under those of another session
 /// and the table.

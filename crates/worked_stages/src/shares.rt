@@ -2,15 +2,15 @@
 ghost use Rattle.std.specs.Prelude.{◌≡◌};
 
 use history_book::Actor;
-use line_shares::{Cursor, Cursors};
 use stamp_base::{NoMemory, NodeNo};
 use std::alloc::Global;
 use std::marker::Brand;
 use std::sync::ledger::{Blank, Ledger};
 use std::test::Fail;
+use thread_steps::{Cursor, Cursors};
 
 /// The clock does two lines and then three, and the janitor none.
-#[tactic(auto, unfolding(line_shares::specs::Done::caught_up))]
+#[tactic(auto, unfolding(thread_steps::specs::Done::caught_up))]
 fn two_actors<L: Ledger>(alloc: Global, blank: Blank) -> Result<(u64, Vec<Cursor>), NoMemory>
     requires name { blank.name ≡ L.name }
     requires of_blank { blank.parts ≡ L.parts }

@@ -2,7 +2,7 @@
 use history_book::Actor;
 use port_io::Fate;
 use script_data::{Target, Verb};
-use script_lines::{
+use session_script::{
     Mode, ScriptCause, SetupForm, actor_of, cut_line, is_silent, kind_at, node_at, number_at,
     setup_form, store_at, verb_at,
 };

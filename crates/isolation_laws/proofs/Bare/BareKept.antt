@@ -6,11 +6,11 @@ use Rattle.std.proofs.lemmas.List.Sums.{sum_by-append}
 use Rattle.std.proofs.lemmas.Option.{same_Some}
 use Rattle.history_book.specs.Members.{◌∈◌}
 use Rattle.history_book.specs.declared.item.Item.{Item}
-use Rattle.store_parts.specs.Rows.{Row, put_row, with_shadow}
-use Rattle.client_parts.specs.declared.asks.Ask.TheVariants.{Shadow}
-use Rattle.client_parts.specs.declared.session.State.TheVariants as phase
-use Rattle.client_parts.specs.Resolve.{settle_ask, settle_turn}
-use Rattle.oracle_parts.specs.declared.instance.Request.{Request}
+use Rattle.system_parts.specs.Rows.{Row, put_row, with_shadow}
+use Rattle.system_parts.specs.declared.asks.Ask.TheVariants.{Shadow}
+use Rattle.system_parts.specs.declared.session.State.TheVariants as phase
+use Rattle.system_parts.specs.Resolve.{settle_ask, settle_turn}
+use Rattle.system_parts.specs.declared.instance.Request.{Request}
 use Rattle.machine.specs.State.{UnderWay, Client, State}
 use Rattle.machine.specs.Clients.{client_freed, client_aborted}
 use Rattle.machine.specs.StoreSteps.{rows_after, told_by}

@@ -5,15 +5,15 @@ use Rattle.std.proofs.lemmas.Option.{same_Some, none-some}
 use Rattle.history_book.specs.Members.{◌∈◌}
 use Rattle.history_book.specs.Isolation.{last_write}
 use Rattle.history_book.specs.declared.item.Item.{Item}
-use Rattle.store_parts.specs.declared.rows.Cell.{Cell}
-use Rattle.store_parts.specs.Rows.{Row, looked, shadowed, without_bare, IsBare, AreOrdered}
-use Rattle.store_parts.proofs.RowLaws.{looked-without}
-use Rattle.store_parts.proofs.RowVersions.{without_bare_gone}
-use Rattle.client_parts.specs.declared.asks.Ask.{Ask}
-use Rattle.client_parts.specs.declared.asks.Ask.TheVariants as ask
-use Rattle.client_parts.specs.declared.session.State.{State as SessionState}
-use Rattle.client_parts.specs.declared.session.State.TheVariants as phase
-use Rattle.client_parts.specs.Completion.{finish_asks, undo_asks}
+use Rattle.system_parts.specs.declared.rows.Cell.{Cell}
+use Rattle.system_parts.specs.Rows.{Row, looked, shadowed, without_bare, IsBare, AreOrdered}
+use Rattle.system_parts.proofs.RowLaws.{looked-without}
+use Rattle.system_parts.proofs.RowVersions.{without_bare_gone}
+use Rattle.system_parts.specs.declared.asks.Ask.{Ask}
+use Rattle.system_parts.specs.declared.asks.Ask.TheVariants as ask
+use Rattle.system_parts.specs.declared.session.State.{State as SessionState}
+use Rattle.system_parts.specs.declared.session.State.TheVariants as phase
+use Rattle.system_parts.specs.Completion.{finish_asks, undo_asks}
 use Rattle.machine.specs.State.{Completes, Client, State}
 use Rattle.machine.specs.StoreSteps.{rows_after}
 use Rattle.machine.specs.Events.Step.{after_asks}

@@ -4,12 +4,12 @@ use Rattle.machine.specs.Outcome.Outcomes.{OfAborted, OfAnsweredCommit, OfComple
 use Rattle.std.proofs.Common.{◌≡◌, ◌≤◌, ℕ, Bool, true, false, if◌then◌else◌, List, ◌++◌, [], refl, subst, arith}
 use Rattle.std.proofs.lemmas.List.Elements.{All-nil}
 use Rattle.history_book.specs.declared.item.Item.{Item}
-use Rattle.store_parts.specs.Rows.{with_shadow, Row}
-use Rattle.store_parts.specs.Pairs.{Pairs}
-use Rattle.client_parts.specs.declared.asks.Ask.{Ask}
-use Rattle.client_parts.specs.declared.resolve.SettlePoint.{SettlePoint}
-use Rattle.client_parts.specs.declared.resolve.SettlePoint.TheVariants as point
-use Rattle.client_parts.specs.Resolve.{Settling, ask_at, settle_ask}
+use Rattle.system_parts.specs.Rows.{with_shadow, Row}
+use Rattle.system_parts.specs.Pairs.{Pairs}
+use Rattle.system_parts.specs.declared.asks.Ask.{Ask}
+use Rattle.system_parts.specs.declared.resolve.SettlePoint.{SettlePoint}
+use Rattle.system_parts.specs.declared.resolve.SettlePoint.TheVariants as point
+use Rattle.system_parts.specs.Resolve.{Settling, ask_at, settle_ask}
 use Rattle.machine.specs.State.{Client, State}
 use Rattle.machine.specs.StoreSteps.{rows_after, pairs_after}
 use Rattle.machine.specs.Quiet.{Quiet, AllQuiet}

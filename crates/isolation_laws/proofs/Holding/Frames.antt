@@ -3,11 +3,11 @@
 use Rattle.std.proofs.Common.{ℕ, ◌≤◌, List, ◌++◌, Option, Some, None, inl, refl}
 use Rattle.std.specs.Prelude.{slice_set}
 use Rattle.history_book.specs.declared.item.Item.{Item}
-use Rattle.store_parts.specs.Rows.{Row}
-use Rattle.store_parts.specs.Pairs.{Pairs}
-use Rattle.oracle_parts.specs.declared.instance.Settled.{Settled}
-use Rattle.oracle_parts.specs.Instance.{InstanceEntry}
-use Rattle.oracle_parts.specs.InstanceSteps.{without_request}
+use Rattle.system_parts.specs.Rows.{Row}
+use Rattle.system_parts.specs.Pairs.{Pairs}
+use Rattle.system_parts.specs.declared.instance.Settled.{Settled}
+use Rattle.system_parts.specs.Instance.{InstanceEntry}
+use Rattle.system_parts.specs.InstanceSteps.{without_request}
 use Rattle.machine.specs.State.{Client, State}
 use Rattle.isolation_laws.specs.Words.{InstanceAt}
 use Rattle.machine.specs.Quiet.{AllQuiet}

@@ -1,4 +1,4 @@
--- For served_lines too.
+-- For request_completion too.
 -- What an outcome appends, by its begins and its placed commits: no outcome has more than one of them, and most have none.
 use Rattle.std.proofs.Common.{◌≡◌, ℕ, true, false, List, [], ◌∷◌, ◌++◌, append_assoc, inl, inr, refl, sym, ◌∙◌, subst}
 use Rattle.std.proofs.lemmas.List.{append-nil}

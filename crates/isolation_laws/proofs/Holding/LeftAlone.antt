@@ -1,4 +1,4 @@
--- For served_lines too.
+-- For request_completion too.
 -- What each outcome leaves alone: a row for each that has no frame, and the frame of the others.
 use Rattle.std.proofs.Common.{◌≡◌, ℕ, ◌+◌, Bool, true, false, List, [], ◌∷◌, ◌++◌, Option, Some, inl, inr, max, refl, sym, ap, subst, arith}
 use Rattle.std.specs.Prelude.{slice_set}
@@ -7,12 +7,12 @@ use Rattle.history_book.specs.declared.item.Actor.TheVariants.{Janitor}
 use Rattle.history_book.specs.declared.item.StoreStep.TheVariants.{Keys}
 use Rattle.history_book.specs.declared.item.Item.{Item}
 use Rattle.history_book.specs.declared.item.Item.TheVariants.{AskBegin, Begin, Write, Placed, Step}
-use Rattle.store_parts.specs.Record.{renewed_until}
-use Rattle.client_parts.specs.KeyRead.{ReadTurn, settling_of}
-use Rattle.store_parts.specs.Pairs.{Pairs}
-use Rattle.oracle_parts.specs.declared.instance.Held.{Held}
-use Rattle.oracle_parts.specs.Instance.{InstanceEntry, with_request}
-use Rattle.oracle_parts.specs.InstanceSteps.{instance_renewed}
+use Rattle.system_parts.specs.Record.{renewed_until}
+use Rattle.system_parts.specs.KeyRead.{ReadTurn, settling_of}
+use Rattle.system_parts.specs.Pairs.{Pairs}
+use Rattle.system_parts.specs.declared.instance.Held.{Held}
+use Rattle.system_parts.specs.Instance.{InstanceEntry, with_request}
+use Rattle.system_parts.specs.InstanceSteps.{instance_renewed}
 use Rattle.machine.specs.State.{State}
 use Rattle.machine.specs.Events.Take.{rules_of}
 use Rattle.machine.specs.Quiet.{Quiet}

@@ -7,9 +7,9 @@ use Rattle.history_book.specs.Isolation.{Committed}
 use Rattle.history_book.specs.declared.item.Item.{Item}
 use Rattle.history_book.specs.declared.item.Item.TheVariants.{Begin, Placed}
 use Rattle.history_book.proofs.MemberLemmas.{in_front, in_push}
-use Rattle.client_parts.specs.KeyRead.{read_ask}
-use Rattle.client_parts.specs.Resolve.{settle_ask}
-use Rattle.store_parts.specs.Pairs.{mark_of}
+use Rattle.system_parts.specs.KeyRead.{read_ask}
+use Rattle.system_parts.specs.Resolve.{settle_ask}
+use Rattle.system_parts.specs.Pairs.{mark_of}
 use Rattle.machine.specs.State.{State}
 use Rattle.machine.specs.StoreSteps.{pairs_after}
 use Rattle.isolation_laws.specs.Words.{Marked, Begun}

@@ -3,9 +3,9 @@ use Rattle.std.proofs.Common.{◌≡◌, ℕ, Bool, true, false, List, [], ◌�
 use Rattle.std.proofs.lemmas.List.Elements.{All-nil, All-cons, All-head, All-tail}
 use Rattle.history_book.specs.declared.item.Item.{Item}
 use Rattle.history_book.specs.declared.item.Item.TheVariants as item
-use Rattle.client_parts.specs.KeyRead.{ReadTurn, Asks, Answers}
-use Rattle.oracle_parts.specs.declared.instance.Request.{Request}
-use Rattle.oracle_parts.specs.declared.instance.Request.TheVariants.{Begin, Commit}
+use Rattle.system_parts.specs.KeyRead.{ReadTurn, Asks, Answers}
+use Rattle.system_parts.specs.declared.instance.Request.{Request}
+use Rattle.system_parts.specs.declared.instance.Request.TheVariants.{Begin, Commit}
 use Rattle.machine.specs.Events.Decide.{draw_item}
 use Rattle.machine.specs.Events.Fetch.{read_items, found_of}
 use Rattle.machine.specs.Quiet.{Quiet, AllQuiet}

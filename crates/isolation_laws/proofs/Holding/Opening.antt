@@ -6,9 +6,9 @@ use Rattle.std.proofs.lemmas.Option.{none-some}
 use Rattle.stamp_base.specs.declared.stores.Mark.TheVariants.{Committed as CommittedMark}
 use Rattle.stamp_base.specs.SetupNumbers.{SetupNumbers, AreInRange}
 use Rattle.history_book.specs.Isolation.{NewStamps, StartsAbove, RightRead, Isolated}
-use Rattle.store_parts.specs.declared.rows.Cell.{Cell}
-use Rattle.store_parts.specs.Rows.{looked, AreOrdered}
-use Rattle.client_parts.specs.declared.session.State.TheVariants as phase
+use Rattle.system_parts.specs.declared.rows.Cell.{Cell}
+use Rattle.system_parts.specs.Rows.{looked, AreOrdered}
+use Rattle.system_parts.specs.declared.session.State.TheVariants as phase
 use Rattle.machine.specs.State.{Nothing, Reads, Settles, Client, opening}
 use Rattle.isolation_laws.specs.Bare.{AreOwned}
 use Rattle.isolation_laws.specs.Words.{HasRecord}

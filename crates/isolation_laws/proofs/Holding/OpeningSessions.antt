@@ -2,9 +2,9 @@
 use Rattle.std.proofs.Common.{[], ◌≡◌, ℕ, true, IsTrue, List, ◌⊎◌, inl, inr, refl, sym, ◌∙◌, ap}
 use Rattle.stamp_base.specs.SetupNumbers.{SetupNumbers}
 use Rattle.history_book.specs.Members.{◌∈◌, AtEach}
-use Rattle.client_parts.specs.declared.session.State.{State as SessionState}
-use Rattle.client_parts.specs.declared.session.State.TheVariants as phase
-use Rattle.client_parts.specs.SessionSteps.{has_transaction}
+use Rattle.system_parts.specs.declared.session.State.{State as SessionState}
+use Rattle.system_parts.specs.declared.session.State.TheVariants as phase
+use Rattle.system_parts.specs.SessionSteps.{has_transaction}
 use Rattle.machine.specs.State.{UnderWay, Nothing, Client, client_new, opening}
 use Rattle.isolation_laws.specs.Words.{ClientAt, OpenAt}
 use Rattle.isolation_laws.specs.Pending.{InFlight, is_placing, Pending}

@@ -3,7 +3,7 @@
 use Rattle.std.specs.Prelude.{IfSome, slice_get, replicate}
 use Rattle.port_io.specs.declared.weather.Fate.{Fate}
 use Rattle.history_book.specs.declared.cause.Cause.{Cause}
-use Rattle.oracle_parts.specs.InstanceSteps.{IsStop}
+use Rattle.system_parts.specs.InstanceSteps.{IsStop}
 use Rattle.machine.specs.declared.event.Event.{Event}
 use Rattle.machine.specs.Machine.{stepped}
 use Rattle.machine.proofs.StopsKept.{stops_kept}
@@ -11,9 +11,9 @@ use Rattle.std.proofs.Common.{◌≡◌, ℕ, ◌<◌, Option, Some, None, refl,
 use Rattle.std.proofs.lemmas.Option.{same_Some, none-some, slice_get_within, get_or_from_slice_get}
 use Rattle.std.proofs.lemmas.List.{get_or-replicate, length-replicate}
 use Rattle.stamp_base.specs.SetupNumbers.{SetupNumbers}
-use Rattle.client_parts.specs.declared.asks.Ask.{Ask}
-use Rattle.client_parts.specs.Sweep.{Sweeping, sweep_open, sweep_ask}
-use Rattle.oracle_parts.specs.Instance.{InstanceEntry}
+use Rattle.system_parts.specs.declared.asks.Ask.{Ask}
+use Rattle.system_parts.specs.Sweep.{Sweeping, sweep_open, sweep_ask}
+use Rattle.system_parts.specs.Instance.{InstanceEntry}
 use Rattle.machine.specs.State.{State, opening}
 use Rattle.machine.specs.Events.SweepStep.{still_open, sweep_left}
 use Rattle.isolation_laws.specs.Words.{InstanceAt}

@@ -1,18 +1,18 @@
--- For call_laws too.
+-- For cause_laws too.
 -- What a session has under way fits its state, and what stands in the table in the place of a commit that it places is a mark.
 use Rattle.std.proofs.Common.{◌≡◌, ℕ, Bool, true, false, IsTrue, if◌then◌else◌, List, [], ◌∷◌, Option, Some, None, ◌⊎◌, inl, inr, refl, sym, ◌∙◌, ap, subst}
 use Rattle.std.proofs.lemmas.Option.{same_Some, none-some}
 use Rattle.stamp_base.specs.declared.stores.Mark.{Mark}
 use Rattle.history_book.specs.declared.cause.Cause.TheVariants.{Idle}
 use Rattle.history_book.specs.declared.item.Item.{Item}
-use Rattle.store_parts.specs.Pairs.{mark_of}
-use Rattle.client_parts.specs.declared.asks.Ask.{Ask}
-use Rattle.client_parts.specs.declared.asks.Ask.TheVariants as ask
-use Rattle.client_parts.specs.declared.session.State.{State as SessionState}
-use Rattle.client_parts.specs.declared.session.State.TheVariants as phase
-use Rattle.client_parts.specs.Completion.{finish_asks, undo_asks, first_ask}
-use Rattle.client_parts.specs.Resolve.{Settling, own_settling}
-use Rattle.client_parts.specs.SessionSteps.{SessionEntry, step_refusal, has_transaction, handed_by, handed_commit}
+use Rattle.system_parts.specs.Pairs.{mark_of}
+use Rattle.system_parts.specs.declared.asks.Ask.{Ask}
+use Rattle.system_parts.specs.declared.asks.Ask.TheVariants as ask
+use Rattle.system_parts.specs.declared.session.State.{State as SessionState}
+use Rattle.system_parts.specs.declared.session.State.TheVariants as phase
+use Rattle.system_parts.specs.Completion.{finish_asks, undo_asks, first_ask}
+use Rattle.system_parts.specs.Resolve.{Settling, own_settling}
+use Rattle.system_parts.specs.SessionSteps.{SessionEntry, step_refusal, has_transaction, handed_by, handed_commit}
 use Rattle.machine.specs.State.{UnderWay, Nothing, Reads, Settles, Completes, Client, State}
 use Rattle.machine.specs.Clients.{is_reading, is_reading_by}
 use Rattle.machine.specs.Events.Step.{own_resolve, work_by, work_of}

@@ -6,14 +6,14 @@ use Rattle.std.proofs.lemmas.List.Elements.{All-weaker}
 use Rattle.history_book.specs.declared.item.Item.{Item}
 use Rattle.history_book.specs.declared.item.Item.TheVariants.{Placed}
 use Rattle.history_book.proofs.MemberLemmas.{in_front}
-use Rattle.store_parts.specs.declared.rows.Cell.{Cell}
-use Rattle.store_parts.specs.Rows.{fetched, front_of}
-use Rattle.store_parts.specs.Pairs.{Pairs}
-use Rattle.client_parts.specs.declared.known.Known.{Known}
-use Rattle.client_parts.specs.declared.known.Known.TheVariants as known
-use Rattle.client_parts.specs.declared.asks.Told.{Told}
-use Rattle.client_parts.specs.Cache.{Cache, put_fresh, cache_learnt, learnt_by}
-use Rattle.client_parts.specs.KeyRead.{Reading, ReadTurn, Asks, Answers, read_ask}
+use Rattle.system_parts.specs.declared.rows.Cell.{Cell}
+use Rattle.system_parts.specs.Rows.{fetched, front_of}
+use Rattle.system_parts.specs.Pairs.{Pairs}
+use Rattle.system_parts.specs.declared.known.Known.{Known}
+use Rattle.system_parts.specs.declared.known.Known.TheVariants as known
+use Rattle.system_parts.specs.declared.asks.Told.{Told}
+use Rattle.system_parts.specs.Cache.{Cache, put_fresh, cache_learnt, learnt_by}
+use Rattle.system_parts.specs.KeyRead.{Reading, ReadTurn, Asks, Answers, read_ask}
 use Rattle.machine.specs.State.{Reads, Client, State}
 use Rattle.machine.specs.StoreSteps.{pairs_after, told_by}
 use Rattle.machine.specs.Events.Fetch.{marks_every, client_read}

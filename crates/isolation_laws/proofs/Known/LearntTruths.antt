@@ -2,15 +2,15 @@
 use Rattle.std.proofs.Common.{◌≡◌, ℕ, Bool, true, false, All, List, ◌∷◌, Option, Some, IfSome, inl, inr, refl, sym, ◌∙◌, ap, arith}
 use Rattle.history_book.specs.Isolation.{Committed}
 use Rattle.history_book.specs.declared.item.Item.{Item}
-use Rattle.store_parts.specs.declared.rows.Cell.{Cell}
-use Rattle.store_parts.specs.Rows.{Row, looked}
-use Rattle.store_parts.specs.Pairs.{Pairs}
-use Rattle.client_parts.specs.declared.resolve.Outcome.TheVariants.{Committed as CommittedAt, Dead}
-use Rattle.client_parts.specs.declared.resolve.SettlePoint.{SettlePoint}
-use Rattle.client_parts.specs.declared.resolve.SettlePoint.TheVariants.{LastLook}
-use Rattle.client_parts.specs.Resolve.{SettleTurn, Goes, Decides, settle_turn_at, ask_at, after_last_look}
-use Rattle.client_parts.specs.KeyRead.{Reading, may_mark, read_ask}
-use Rattle.client_parts.specs.Cache.{dead_for_good, learnt_of, learnt_by}
+use Rattle.system_parts.specs.declared.rows.Cell.{Cell}
+use Rattle.system_parts.specs.Rows.{Row, looked}
+use Rattle.system_parts.specs.Pairs.{Pairs}
+use Rattle.system_parts.specs.declared.resolve.Outcome.TheVariants.{Committed as CommittedAt, Dead}
+use Rattle.system_parts.specs.declared.resolve.SettlePoint.{SettlePoint}
+use Rattle.system_parts.specs.declared.resolve.SettlePoint.TheVariants.{LastLook}
+use Rattle.system_parts.specs.Resolve.{SettleTurn, Goes, Decides, settle_turn_at, ask_at, after_last_look}
+use Rattle.system_parts.specs.KeyRead.{Reading, may_mark, read_ask}
+use Rattle.system_parts.specs.Cache.{dead_for_good, learnt_of, learnt_by}
 use Rattle.machine.specs.State.{State}
 use Rattle.machine.specs.StoreSteps.{pairs_after, told_by, told_cell, told_shadow}
 use Rattle.isolation_laws.specs.Words.{OpenAt, Marked, cell_with}

@@ -4,11 +4,11 @@ use Rattle.std.proofs.lemmas.Bool.{cases_Bool}
 use Rattle.std.proofs.lemmas.Option.{same_Some}
 use Rattle.history_book.specs.declared.item.Item.{Item}
 use Rattle.history_book.specs.declared.item.Item.TheVariants.{Placed}
-use Rattle.store_parts.specs.Pairs.{Pairs}
-use Rattle.client_parts.specs.declared.known.Known.{Known}
-use Rattle.client_parts.specs.declared.known.Known.TheVariants as known
-use Rattle.client_parts.specs.Cache.{Cache, cache_new, used, fresh_put, put_fresh, cache_learnt}
-use Rattle.client_parts.proofs.CacheLemmas.{used_there, put_there}
+use Rattle.system_parts.specs.Pairs.{Pairs}
+use Rattle.system_parts.specs.declared.known.Known.{Known}
+use Rattle.system_parts.specs.declared.known.Known.TheVariants as known
+use Rattle.system_parts.specs.Cache.{Cache, cache_new, used, fresh_put, put_fresh, cache_learnt}
+use Rattle.system_parts.proofs.CacheLemmas.{used_there, put_there}
 use Rattle.isolation_laws.specs.Known.{IsTrueOf, IsTruePair, IsTrueCache}
 use Rattle.isolation_laws.proofs.Stores.StoresStay.{MarksStay}
 use Rattle.isolation_laws.proofs.Stores.Calm.{Calm}

@@ -5,17 +5,17 @@ use Rattle.std.proofs.lemmas.Option.{none-some}
 use Rattle.std.proofs.lemmas.List.Elements.{All-tail}
 use Rattle.history_book.specs.Isolation.{last_write}
 use Rattle.history_book.specs.declared.item.Item.{Item}
-use Rattle.store_parts.specs.declared.rows.Cell.{Cell}
-use Rattle.store_parts.specs.Rows.{looked, fetched, front_of}
-use Rattle.store_parts.proofs.RowFetches.{front-all}
-use Rattle.client_parts.specs.declared.asks.Told.{Told}
-use Rattle.client_parts.specs.declared.key_read.Answer.{Answer}
-use Rattle.client_parts.specs.declared.resolve.Outcome.TheVariants.{Committed as CommittedAt, Dead}
-use Rattle.client_parts.specs.Resolve.{SettleTurn, Goes, Decides, settle_turn}
-use Rattle.client_parts.specs.KeyRead.{Reading, ReadTurn, Asks, Answers, found_none, found_cell, found_by, is_passed, after_passed, turn_at, settling_of, read_over, read_by}
-use Rattle.client_parts.specs.Cache.{Cache}
-use Rattle.client_parts.specs.Recalled.{outcome_known, recalled_over, recalled_told}
-use Rattle.client_parts.proofs.RecalledLemmas.{AnyCache, Recalls, come_to, over_holds, told_holds}
+use Rattle.system_parts.specs.declared.rows.Cell.{Cell}
+use Rattle.system_parts.specs.Rows.{looked, fetched, front_of}
+use Rattle.system_parts.proofs.RowFetches.{front-all}
+use Rattle.system_parts.specs.declared.asks.Told.{Told}
+use Rattle.system_parts.specs.declared.key_read.Answer.{Answer}
+use Rattle.system_parts.specs.declared.resolve.Outcome.TheVariants.{Committed as CommittedAt, Dead}
+use Rattle.system_parts.specs.Resolve.{SettleTurn, Goes, Decides, settle_turn}
+use Rattle.system_parts.specs.KeyRead.{Reading, ReadTurn, Asks, Answers, found_none, found_cell, found_by, is_passed, after_passed, turn_at, settling_of, read_over, read_by}
+use Rattle.system_parts.specs.Cache.{Cache}
+use Rattle.system_parts.specs.Recalled.{outcome_known, recalled_over, recalled_told}
+use Rattle.system_parts.proofs.RecalledLemmas.{AnyCache, Recalls, come_to, over_holds, told_holds}
 use Rattle.machine.specs.State.{State}
 use Rattle.isolation_laws.specs.Words.{cell_with}
 use Rattle.isolation_laws.specs.Known.{IsWrittenCell}

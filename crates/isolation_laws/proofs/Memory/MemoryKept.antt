@@ -1,7 +1,7 @@
 -- Every outcome keeps the facts on the conflict memory.
 use Rattle.std.proofs.Common.{◌≡◌, ℕ, ◌+◌, Bool, true, false, List, [], ◌++◌, Some, inl, inr, refl, sym, ◌∙◌, ap, arith}
 use Rattle.history_book.specs.declared.item.Item.{Item}
-use Rattle.oracle_parts.specs.Buckets.{contents}
+use Rattle.system_parts.specs.Buckets.{contents}
 use Rattle.machine.specs.State.{State}
 use Rattle.isolation_laws.specs.Words.{recorded}
 use Rattle.isolation_laws.specs.Memory.{AreOfForm, AreRecorded, MemoryFacts}

@@ -9,14 +9,14 @@ use Rattle.history_book.specs.Isolation.{Wrote, last_write}
 use Rattle.history_book.specs.declared.item.Item.{Item}
 use Rattle.history_book.specs.declared.item.Item.TheVariants.{Draw, Write}
 use Rattle.history_book.proofs.HistoryLemmas.{last_write-push}
-use Rattle.oracle_parts.specs.declared.buckets.Verdict.{Verdict}
-use Rattle.oracle_parts.specs.declared.buckets.Verdict.TheVariants.{Free}
-use Rattle.oracle_parts.specs.declared.instance.Request.{Request}
-use Rattle.oracle_parts.specs.declared.instance.Request.TheVariants.{Begin as BeginRequest, Commit}
-use Rattle.oracle_parts.specs.Buckets.{contents, last_commit, verdict, record_pairs, IsShown}
-use Rattle.oracle_parts.specs.InstanceSteps.{pairs_by, request_verdict}
-use Rattle.oracle_parts.proofs.BucketVerdicts.{verdict_shown, record_pairs-append}
-use Rattle.oracle_parts.proofs.LastCommits.{last_commit_greatest}
+use Rattle.system_parts.specs.declared.buckets.Verdict.{Verdict}
+use Rattle.system_parts.specs.declared.buckets.Verdict.TheVariants.{Free}
+use Rattle.system_parts.specs.declared.instance.Request.{Request}
+use Rattle.system_parts.specs.declared.instance.Request.TheVariants.{Begin as BeginRequest, Commit}
+use Rattle.system_parts.specs.Buckets.{contents, last_commit, verdict, record_pairs, IsShown}
+use Rattle.system_parts.specs.InstanceSteps.{pairs_by, request_verdict}
+use Rattle.system_parts.proofs.BucketVerdicts.{verdict_shown, record_pairs-append}
+use Rattle.system_parts.proofs.LastCommits.{last_commit_greatest}
 use Rattle.machine.specs.State.{State}
 use Rattle.isolation_laws.specs.Words.{DrewCommit, written_keys, recorded, recorded_by}
 use Rattle.isolation_laws.specs.Memory.{AreRecorded, DrawnApart}

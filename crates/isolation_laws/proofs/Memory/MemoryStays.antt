@@ -12,9 +12,9 @@ use Rattle.history_book.specs.declared.item.Item.TheVariants.{Draw, Write, Read}
 use Rattle.history_book.proofs.HistoryLemmas.{last_write-push}
 use Rattle.history_book.proofs.MemberLemmas.{in_old}
 use Rattle.stamp_base.specs.SetupNumbers.{SetupNumbers}
-use Rattle.client_parts.specs.KeyRead.{ReadTurn, Asks, Answers}
-use Rattle.oracle_parts.specs.Buckets.{contents}
-use Rattle.oracle_parts.specs.Instance.{InstanceEntry}
+use Rattle.system_parts.specs.KeyRead.{ReadTurn, Asks, Answers}
+use Rattle.system_parts.specs.Buckets.{contents}
+use Rattle.system_parts.specs.Instance.{InstanceEntry}
 use Rattle.isolation_laws.specs.Words.{InstanceAt, DrewCommit, HasDrawn, keys_with, written_keys, recorded_by, recorded}
 use Rattle.machine.specs.Events.Fetch.{read_items, found_of}
 use Rattle.machine.specs.Quiet.{Quiet, AllQuiet}

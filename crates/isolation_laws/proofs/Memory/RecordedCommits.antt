@@ -10,10 +10,10 @@ use Rattle.history_book.specs.Members.{◌∈◌, AtEach}
 use Rattle.history_book.specs.Isolation.{Wrote, last_write, written_by}
 use Rattle.history_book.specs.declared.item.Item.{Item}
 use Rattle.history_book.specs.declared.item.Item.TheVariants.{Draw, Write}
-use Rattle.client_parts.specs.SessionSteps.{has_key, key_added}
-use Rattle.oracle_parts.specs.declared.buckets.Recorded.{Recorded}
-use Rattle.oracle_parts.specs.Buckets.{pair_of, pairs_of, CommitsRise}
-use Rattle.oracle_parts.proofs.LastCommits.{NotAfter, rise_tail, rise_head}
+use Rattle.system_parts.specs.SessionSteps.{has_key, key_added}
+use Rattle.system_parts.specs.declared.buckets.Recorded.{Recorded}
+use Rattle.system_parts.specs.Buckets.{pair_of, pairs_of, CommitsRise}
+use Rattle.system_parts.proofs.LastCommits.{NotAfter, rise_tail, rise_head}
 use Rattle.isolation_laws.specs.Words.{DrewCommit, keys_with, keys_from, written_keys, recorded_by, recorded_in, recorded}
 use Rattle.isolation_laws.specs.Numbers.{IsNewDraw, AreNewDraws}
 use Rattle.isolation_laws.proofs.OnceEach.{place_of}

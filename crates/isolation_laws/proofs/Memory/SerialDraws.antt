@@ -3,7 +3,7 @@
 use Rattle.std.proofs.Common.{ap, ◌∙◌, ◌≡◌, ℕ, ◌+◌, ◌<◌, true, List, ◌++◌, Some, ◌⊎◌, inl, inr, refl, sym, subst, arith}
 use Rattle.history_book.specs.Isolation.{Wrote}
 use Rattle.history_book.specs.declared.item.Item.{Item}
-use Rattle.oracle_parts.specs.declared.instance.Request.TheVariants.{Commit}
+use Rattle.system_parts.specs.declared.instance.Request.TheVariants.{Commit}
 use Rattle.machine.specs.State.{State}
 use Rattle.isolation_laws.specs.Words.{HeldBy, DrewCommit}
 use Rattle.isolation_laws.specs.ReadSets.{ReadFirst, KeepsReads}

@@ -7,8 +7,8 @@ use Rattle.history_book.specs.declared.item.Found.{Found}
 use Rattle.history_book.specs.declared.item.Item.{Item}
 use Rattle.history_book.specs.declared.item.Item.TheVariants.{Begin, Draw, Write, Read, Placed}
 use Rattle.history_book.proofs.MemberLemmas.{in_push, in_old, AtEach-push}
-use Rattle.oracle_parts.specs.declared.instance.Request.{Request}
-use Rattle.oracle_parts.specs.declared.instance.Request.TheVariants.{Begin as BeginRequest, Commit}
+use Rattle.system_parts.specs.declared.instance.Request.{Request}
+use Rattle.system_parts.specs.declared.instance.Request.TheVariants.{Begin as BeginRequest, Commit}
 use Rattle.machine.specs.State.{State}
 use Rattle.isolation_laws.specs.Words.{Begun, drawn_stamp}
 use Rattle.isolation_laws.specs.Pending.{Taken}

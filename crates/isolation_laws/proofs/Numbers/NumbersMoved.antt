@@ -2,8 +2,8 @@
 use Rattle.std.proofs.Common.{◌≡◌, ℕ, ◌<◌, ◌≤◌, List, ◌++◌, Option, ◌⊎◌, arith}
 use Rattle.history_book.specs.declared.item.Item.{Item}
 use Rattle.stamp_base.specs.SetupNumbers.{SetupNumbers}
-use Rattle.store_parts.specs.Record.{MasterRecord}
-use Rattle.oracle_parts.specs.Instance.{InstanceEntry}
+use Rattle.system_parts.specs.Record.{MasterRecord}
+use Rattle.system_parts.specs.Instance.{InstanceEntry}
 use Rattle.machine.specs.Quiet.{AllQuiet}
 use Rattle.isolation_laws.specs.Numbers.{AreRanges, AreDrawn, NumberFacts, AreLeases}
 use Rattle.isolation_laws.proofs.Numbers.NumbersStay.{numbered_same, numbers_quiet}

@@ -3,7 +3,7 @@ use Rattle.std.proofs.Common.{◌∷◌, Option, [], List, ◌++◌, refl, sym, 
 use Rattle.std.proofs.lemmas.List.Elements.{All-nil}
 use Rattle.history_book.specs.declared.item.Item.{Item}
 use Rattle.history_book.specs.declared.item.Item.TheVariants.{Begin, Write}
-use Rattle.oracle_parts.specs.Instance.{InstanceEntry}
+use Rattle.system_parts.specs.Instance.{InstanceEntry}
 use Rattle.machine.specs.State.{State}
 use Rattle.isolation_laws.specs.Words.{Begun}
 use Rattle.machine.specs.Quiet.{AllQuiet, Quiet}

@@ -4,8 +4,8 @@ use Rattle.history_book.specs.declared.item.Found.{Found}
 use Rattle.history_book.specs.declared.item.Item.{Item}
 use Rattle.history_book.specs.declared.item.Item.TheVariants.{Begin, Draw, Write, Read, Placed}
 use Rattle.history_book.proofs.MemberLemmas.{in_push, in_old, AtEach-push}
-use Rattle.store_parts.specs.Record.{MasterRecord}
-use Rattle.oracle_parts.specs.Instance.{InstanceEntry}
+use Rattle.system_parts.specs.Record.{MasterRecord}
+use Rattle.system_parts.specs.Instance.{InstanceEntry}
 use Rattle.isolation_laws.specs.Words.{Begun, DrewStart, DrewCommit}
 use Rattle.isolation_laws.specs.Numbers.{AreDrawn, IsNewDraw, AreNewDraws, AreBegun, ArePlaced}
 use Rattle.isolation_laws.proofs.Numbers.NumbersStay.{begun_on, start_on, placed_on}

@@ -9,8 +9,8 @@ use Rattle.history_book.specs.declared.item.Item.{Item}
 use Rattle.history_book.specs.declared.item.Item.TheVariants.{Begin, Draw}
 use Rattle.history_book.proofs.MemberLemmas.{in_front, AtEach-push}
 use Rattle.stamp_base.specs.SetupNumbers.{SetupNumbers}
-use Rattle.store_parts.specs.Record.{MasterRecord}
-use Rattle.oracle_parts.specs.Instance.{InstanceEntry}
+use Rattle.system_parts.specs.Record.{MasterRecord}
+use Rattle.system_parts.specs.Instance.{InstanceEntry}
 use Rattle.isolation_laws.specs.Words.{InstanceAt, Begun, DrewStart, DrewCommit}
 use Rattle.machine.specs.Quiet.{Quiet, AllQuiet}
 use Rattle.isolation_laws.specs.Numbers.{AreRanges, AreLeases, AreDrawn, IsNewDraw, AreNewDraws, AreBegun, ArePlaced, NumberFacts}

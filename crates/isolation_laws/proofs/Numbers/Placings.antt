@@ -1,11 +1,11 @@
--- For served_lines too.
+-- For request_completion too.
 -- A commit that is pending and has no mark is placed. Who places it does not matter here.
 use Rattle.std.proofs.Common.{◌≡◌, ℕ, true, List, None, inl, inr, refl, ap}
 use Rattle.history_book.specs.Isolation.{Committed}
 use Rattle.history_book.specs.declared.item.Item.{Item}
 use Rattle.history_book.specs.declared.item.Item.TheVariants.{Placed}
 use Rattle.stamp_base.specs.declared.stores.Mark.TheVariants.{Committed as CommittedMark}
-use Rattle.store_parts.specs.Pairs.{Pairs, mark_of, put_pair}
+use Rattle.system_parts.specs.Pairs.{Pairs, mark_of, put_pair}
 use Rattle.machine.specs.State.{State}
 use Rattle.isolation_laws.specs.Words.{DrewCommit}
 use Rattle.isolation_laws.specs.Pending.{InFlight, Has, is_placing, PlacingAt, Pending, Live}

@@ -9,7 +9,7 @@ use Rattle.history_book.specs.declared.item.Found.{Found}
 use Rattle.history_book.specs.declared.item.Item.{Item}
 use Rattle.history_book.specs.declared.item.Item.TheVariants.{Read, Write}
 use Rattle.history_book.proofs.MemberLemmas.{in_front, slice_get-push, in_at}
-use Rattle.client_parts.specs.KeyRead.{ReadTurn, Asks, Answers}
+use Rattle.system_parts.specs.KeyRead.{ReadTurn, Asks, Answers}
 use Rattle.machine.specs.Events.Fetch.{found_of, read_items}
 use Rattle.machine.specs.Quiet.{Quiet}
 use Rattle.isolation_laws.specs.ReadSets.{ReadFirst}

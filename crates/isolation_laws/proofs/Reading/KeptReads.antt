@@ -2,8 +2,8 @@
 use Rattle.isolation_laws.proofs.Requests.ClientMoves.{clients_move}
 use Rattle.std.proofs.Common.{◌≡◌, ℕ, Bool, true, false, List, inl, inr, refl, sym, ◌∙◌, ap, subst}
 use Rattle.std.specs.Prelude.{slice_set}
-use Rattle.client_parts.specs.KeyRead.{ReadTurn, Asks, Answers}
-use Rattle.client_parts.specs.Cache.{Cache}
+use Rattle.system_parts.specs.KeyRead.{ReadTurn, Asks, Answers}
+use Rattle.system_parts.specs.Cache.{Cache}
 use Rattle.machine.specs.State.{Client, State}
 use Rattle.machine.specs.Clients.{client_begun, client_handed, unless_gone}
 use Rattle.machine.specs.Events.Fetch.{client_read}

@@ -5,10 +5,10 @@ use Rattle.std.proofs.lemmas.Bool.{cases_Bool}
 use Rattle.history_book.specs.Members.{◌∈◌}
 use Rattle.history_book.specs.declared.item.Item.{Item}
 use Rattle.stamp_base.specs.SetupNumbers.{SetupNumbers}
-use Rattle.client_parts.specs.SessionSteps.{has_key, key_added}
-use Rattle.client_parts.specs.KeyRead.{read_ask}
-use Rattle.client_parts.specs.Cache.{put_fresh}
-use Rattle.store_parts.specs.Rows.{fetched, front_of}
+use Rattle.system_parts.specs.SessionSteps.{has_key, key_added}
+use Rattle.system_parts.specs.KeyRead.{read_ask}
+use Rattle.system_parts.specs.Cache.{put_fresh}
+use Rattle.system_parts.specs.Rows.{fetched, front_of}
 use Rattle.machine.specs.State.{Client, State}
 use Rattle.machine.specs.StoreSteps.{told_by}
 use Rattle.machine.specs.Events.Fetch.{marks_every, keeps_read, reads_after}

@@ -5,21 +5,21 @@ use Rattle.std.proofs.lemmas.Bool.{cases_Bool}
 use Rattle.std.proofs.lemmas.Option.{same_Some, none-some}
 use Rattle.history_book.specs.Isolation.{Wrote, last_write, Stamped}
 use Rattle.history_book.specs.declared.item.Item.{Item}
-use Rattle.store_parts.specs.declared.rows.Cell.{Cell}
-use Rattle.client_parts.specs.declared.resolve.Outcome.TheVariants.{Committed, Dead}
-use Rattle.client_parts.specs.declared.session.State.TheVariants as phase
-use Rattle.client_parts.specs.declared.key_read.Answer.{Answer}
-use Rattle.client_parts.specs.declared.asks.Told.{Told}
-use Rattle.client_parts.specs.Resolve.{SettleTurn, Goes, Decides, settle_turn}
-use Rattle.client_parts.specs.declared.resolve.SettlePoint.TheVariants.{Table}
-use Rattle.client_parts.specs.KeyRead.{Reading, ReadTurn, Asks, Answers, found_none, found_cell, found_by, settling_of, after_passed, turn_at, read_over, read_by}
-use Rattle.client_parts.specs.Cache.{Cache}
-use Rattle.client_parts.specs.Recalled.{outcome_known, recalled_over, recalled_told}
-use Rattle.client_parts.proofs.RecalledLemmas.{AnyCache, Recalls, over_holds, told_holds}
-use Rattle.oracle_parts.specs.declared.instance.Progress.{Progress}
-use Rattle.oracle_parts.specs.declared.instance.Progress.TheVariants as progress
-use Rattle.oracle_parts.specs.declared.instance.Request.TheVariants.{Commit}
-use Rattle.oracle_parts.specs.Instance.{InstanceEntry}
+use Rattle.system_parts.specs.declared.rows.Cell.{Cell}
+use Rattle.system_parts.specs.declared.resolve.Outcome.TheVariants.{Committed, Dead}
+use Rattle.system_parts.specs.declared.session.State.TheVariants as phase
+use Rattle.system_parts.specs.declared.key_read.Answer.{Answer}
+use Rattle.system_parts.specs.declared.asks.Told.{Told}
+use Rattle.system_parts.specs.Resolve.{SettleTurn, Goes, Decides, settle_turn}
+use Rattle.system_parts.specs.declared.resolve.SettlePoint.TheVariants.{Table}
+use Rattle.system_parts.specs.KeyRead.{Reading, ReadTurn, Asks, Answers, found_none, found_cell, found_by, settling_of, after_passed, turn_at, read_over, read_by}
+use Rattle.system_parts.specs.Cache.{Cache}
+use Rattle.system_parts.specs.Recalled.{outcome_known, recalled_over, recalled_told}
+use Rattle.system_parts.proofs.RecalledLemmas.{AnyCache, Recalls, over_holds, told_holds}
+use Rattle.system_parts.specs.declared.instance.Progress.{Progress}
+use Rattle.system_parts.specs.declared.instance.Progress.TheVariants as progress
+use Rattle.system_parts.specs.declared.instance.Request.TheVariants.{Commit}
+use Rattle.system_parts.specs.Instance.{InstanceEntry}
 use Rattle.stamp_base.specs.SetupNumbers.{SetupNumbers}
 use Rattle.machine.specs.State.{Reads, Client, State}
 use Rattle.machine.specs.Events.Fetch.{client_read, read_items}

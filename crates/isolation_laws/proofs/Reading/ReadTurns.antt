@@ -10,19 +10,19 @@ use Rattle.stamp_base.specs.declared.stores.Mark.{Mark}
 use Rattle.stamp_base.specs.declared.stores.Mark.TheVariants.{Committed as CommittedMark, Invalid as InvalidMark}
 use Rattle.history_book.specs.Isolation.{Committed, last_write}
 use Rattle.history_book.specs.declared.item.Item.{Item}
-use Rattle.store_parts.specs.declared.rows.Cell.{Cell}
-use Rattle.store_parts.specs.Rows.{looked}
-use Rattle.store_parts.specs.Pairs.{Pairs, mark_of, put_pair, put_over}
-use Rattle.client_parts.specs.declared.resolve.Outcome.TheVariants.{Committed as CommittedAt, Dead}
-use Rattle.client_parts.specs.declared.resolve.SettlePoint.{SettlePoint}
-use Rattle.client_parts.specs.declared.resolve.SettlePoint.TheVariants.{FirstLook, Table, Marking, LastLook}
-use Rattle.client_parts.specs.Resolve.{SettleTurn, Goes, Decides, settle_turn, settle_turn_at, ask_at, after_table, after_marking, after_last_look}
-use Rattle.client_parts.specs.declared.known.Known.{Known}
-use Rattle.client_parts.specs.declared.known.Known.TheVariants as known
-use Rattle.client_parts.specs.Recalled.{outcome_known}
-use Rattle.client_parts.proofs.CacheLemmas.{known_there}
-use Rattle.client_parts.proofs.RecalledLemmas.{Recalls}
-use Rattle.client_parts.specs.KeyRead.{Reading, ReadTurn, Asks, may_mark, settling_of, read_over, read_by, read_ask, read_told}
+use Rattle.system_parts.specs.declared.rows.Cell.{Cell}
+use Rattle.system_parts.specs.Rows.{looked}
+use Rattle.system_parts.specs.Pairs.{Pairs, mark_of, put_pair, put_over}
+use Rattle.system_parts.specs.declared.resolve.Outcome.TheVariants.{Committed as CommittedAt, Dead}
+use Rattle.system_parts.specs.declared.resolve.SettlePoint.{SettlePoint}
+use Rattle.system_parts.specs.declared.resolve.SettlePoint.TheVariants.{FirstLook, Table, Marking, LastLook}
+use Rattle.system_parts.specs.Resolve.{SettleTurn, Goes, Decides, settle_turn, settle_turn_at, ask_at, after_table, after_marking, after_last_look}
+use Rattle.system_parts.specs.declared.known.Known.{Known}
+use Rattle.system_parts.specs.declared.known.Known.TheVariants as known
+use Rattle.system_parts.specs.Recalled.{outcome_known}
+use Rattle.system_parts.proofs.CacheLemmas.{known_there}
+use Rattle.system_parts.proofs.RecalledLemmas.{Recalls}
+use Rattle.system_parts.specs.KeyRead.{Reading, ReadTurn, Asks, may_mark, settling_of, read_over, read_by, read_ask, read_told}
 use Rattle.machine.specs.State.{State}
 use Rattle.machine.specs.Events.Fetch.{marks_every}
 use Rattle.machine.specs.StoreSteps.{pairs_after, told_by, told_entry, told_mark, told_shadow, told_cell}

@@ -6,13 +6,13 @@ use Rattle.history_book.specs.Isolation.{Candidate, Visible, RightAnswer}
 use Rattle.history_book.specs.declared.item.Found.{Found}
 use Rattle.history_book.specs.declared.item.Item.{Item}
 use Rattle.history_book.specs.declared.item.Item.TheVariants.{Placed}
-use Rattle.store_parts.specs.declared.rows.Cell.{Cell}
-use Rattle.store_parts.specs.Rows.{Row}
-use Rattle.store_parts.specs.Pairs.{Pairs}
-use Rattle.client_parts.specs.declared.resolve.SettlePoint.{SettlePoint}
-use Rattle.client_parts.specs.declared.resolve.SettlePoint.TheVariants.{FirstLook, Table, Marking, LastLook}
-use Rattle.client_parts.specs.KeyRead.{Reading}
-use Rattle.oracle_parts.specs.Instance.{InstanceEntry}
+use Rattle.system_parts.specs.declared.rows.Cell.{Cell}
+use Rattle.system_parts.specs.Rows.{Row}
+use Rattle.system_parts.specs.Pairs.{Pairs}
+use Rattle.system_parts.specs.declared.resolve.SettlePoint.{SettlePoint}
+use Rattle.system_parts.specs.declared.resolve.SettlePoint.TheVariants.{FirstLook, Table, Marking, LastLook}
+use Rattle.system_parts.specs.KeyRead.{Reading}
+use Rattle.system_parts.specs.Instance.{InstanceEntry}
 use Rattle.machine.specs.State.{Reads, Client, State}
 use Rattle.isolation_laws.specs.Words.{ClientAt, epoch_or_none, OpenAt, Begun}
 use Rattle.isolation_laws.specs.Reads.{SeesAll, IsResolvedTo, IsReading, AreReading}

@@ -10,15 +10,15 @@ use Rattle.history_book.specs.declared.item.Found.{Found}
 use Rattle.history_book.specs.declared.item.Item.{Item}
 use Rattle.history_book.specs.declared.item.Item.TheVariants.{Read}
 use Rattle.history_book.proofs.MemberLemmas.{AtEach-push}
-use Rattle.store_parts.specs.declared.rows.Cell.{Cell}
-use Rattle.store_parts.specs.Rows.{fetched, front_of, is_below}
-use Rattle.store_parts.specs.Pairs.{Pairs}
-use Rattle.client_parts.specs.declared.key_read.Answer.{Answer}
-use Rattle.client_parts.specs.declared.asks.Told.{Told}
-use Rattle.client_parts.specs.Cache.{Cache, put_fresh, cache_learnt, learnt_by}
-use Rattle.client_parts.specs.Recalled.{recalled_over, recalled_from}
-use Rattle.client_parts.proofs.RecalledLemmas.{over_from, HoldBoth, over_holds, told_holds}
-use Rattle.client_parts.specs.KeyRead.{Reading, ReadTurn, Asks, Answers, found_cell, after_passed, read_over, read_ask}
+use Rattle.system_parts.specs.declared.rows.Cell.{Cell}
+use Rattle.system_parts.specs.Rows.{fetched, front_of, is_below}
+use Rattle.system_parts.specs.Pairs.{Pairs}
+use Rattle.system_parts.specs.declared.key_read.Answer.{Answer}
+use Rattle.system_parts.specs.declared.asks.Told.{Told}
+use Rattle.system_parts.specs.Cache.{Cache, put_fresh, cache_learnt, learnt_by}
+use Rattle.system_parts.specs.Recalled.{recalled_over, recalled_from}
+use Rattle.system_parts.proofs.RecalledLemmas.{over_from, HoldBoth, over_holds, told_holds}
+use Rattle.system_parts.specs.KeyRead.{Reading, ReadTurn, Asks, Answers, found_cell, after_passed, read_over, read_ask}
 use Rattle.machine.specs.State.{Client, State}
 use Rattle.machine.specs.StoreSteps.{pairs_after, told_by}
 use Rattle.machine.specs.Events.Fetch.{marks_every, found_of, client_read, read_items}

@@ -6,12 +6,12 @@ use Rattle.std.proofs.lemmas.Option.{same_Some, none-some}
 use Rattle.std.proofs.lemmas.List.Elements.{All-contains}
 use Rattle.history_book.specs.Isolation.{Committed, Wrote, last_write, WasListed}
 use Rattle.history_book.specs.declared.item.Item.{Item}
-use Rattle.store_parts.specs.declared.rows.Cell.{Cell}
-use Rattle.store_parts.specs.Rows.{Row, looked, fetched, front_of, AreFalling, AreUpto}
-use Rattle.store_parts.specs.Pairs.{Pairs}
-use Rattle.store_parts.proofs.RowLaws.{looked-version}
-use Rattle.store_parts.proofs.RowFetches.{fetched-upto, fetched-falls, Contains-fetched, front-all, front-falls}
-use Rattle.oracle_parts.specs.Instance.{InstanceEntry}
+use Rattle.system_parts.specs.declared.rows.Cell.{Cell}
+use Rattle.system_parts.specs.Rows.{Row, looked, fetched, front_of, AreFalling, AreUpto}
+use Rattle.system_parts.specs.Pairs.{Pairs}
+use Rattle.system_parts.proofs.RowLaws.{looked-version}
+use Rattle.system_parts.proofs.RowFetches.{fetched-upto, fetched-falls, Contains-fetched, front-all, front-falls}
+use Rattle.system_parts.specs.Instance.{InstanceEntry}
 use Rattle.machine.specs.State.{Client, State}
 use Rattle.isolation_laws.specs.Words.{OpenAt, Marked, cell_with}
 use Rattle.isolation_laws.specs.Pending.{ComesBelow, IsPending}

@@ -7,12 +7,12 @@ use Rattle.stamp_base.specs.declared.stores.Mark.TheVariants.{Committed as Commi
 use Rattle.history_book.specs.Isolation.{Committed, Wrote, WasListed, Candidate, Visible}
 use Rattle.history_book.specs.declared.item.Found.{Found}
 use Rattle.history_book.specs.declared.item.Item.{Item}
-use Rattle.store_parts.specs.declared.rows.Cell.{Cell}
-use Rattle.store_parts.specs.Rows.{is_below}
-use Rattle.store_parts.specs.Pairs.{Pairs, mark_of}
-use Rattle.client_parts.specs.declared.resolve.SettlePoint.TheVariants.{Table}
-use Rattle.client_parts.specs.KeyRead.{Reading, ReadTurn, Asks, Answers, found_cell, is_late, is_passed, after_passed, turn_at, read_over}
-use Rattle.oracle_parts.specs.Instance.{InstanceEntry}
+use Rattle.system_parts.specs.declared.rows.Cell.{Cell}
+use Rattle.system_parts.specs.Rows.{is_below}
+use Rattle.system_parts.specs.Pairs.{Pairs, mark_of}
+use Rattle.system_parts.specs.declared.resolve.SettlePoint.TheVariants.{Table}
+use Rattle.system_parts.specs.KeyRead.{Reading, ReadTurn, Asks, Answers, found_cell, is_late, is_passed, after_passed, turn_at, read_over}
+use Rattle.system_parts.specs.Instance.{InstanceEntry}
 use Rattle.machine.specs.State.{Client, State}
 use Rattle.machine.specs.Events.Fetch.{marks_every, found_of}
 use Rattle.isolation_laws.specs.Words.{Marked}

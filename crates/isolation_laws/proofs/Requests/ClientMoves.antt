@@ -1,19 +1,19 @@
--- For cause_laws and served_lines too.
+-- For cause_laws and request_completion too.
 -- One frame for how an outcome moves clients: each was there, it opens, places and reads nothing that it did not before, keeps what its
 -- transaction read and what it remembers, and is gone only where it was. Outcomes that move one otherwise have lemmas of their own.
 use Rattle.std.proofs.Common.{[], ◌≡◌, ℕ, Bool, true, false, List, ◌∷◌, ◌⊎◌, inl, inr, refl, sym, ◌∙◌, ap, subst, Option, Some, None}
 use Rattle.std.specs.Prelude.{slice_set, slice_index_or}
-use Rattle.client_parts.specs.declared.asks.Ask.{Ask}
-use Rattle.client_parts.specs.declared.resolve.Outcome.TheVariants as outcome
-use Rattle.client_parts.specs.declared.session.State.{State as SessionState}
-use Rattle.client_parts.specs.declared.session.State.TheVariants as phase
-use Rattle.client_parts.specs.SessionSteps.{SessionEntry, aborted_by, asked_state}
-use Rattle.client_parts.specs.Resolve.{Settling, SettleTurn, Goes, Decides, settle_ask, settle_turn}
-use Rattle.client_parts.specs.KeyRead.{Reading}
-use Rattle.oracle_parts.specs.declared.instance.Request.{Request}
-use Rattle.oracle_parts.specs.declared.instance.Request.TheVariants.{Begin, Commit}
-use Rattle.oracle_parts.specs.declared.instance.Settled.{Settled}
-use Rattle.oracle_parts.specs.declared.instance.Settled.TheVariants as how
+use Rattle.system_parts.specs.declared.asks.Ask.{Ask}
+use Rattle.system_parts.specs.declared.resolve.Outcome.TheVariants as outcome
+use Rattle.system_parts.specs.declared.session.State.{State as SessionState}
+use Rattle.system_parts.specs.declared.session.State.TheVariants as phase
+use Rattle.system_parts.specs.SessionSteps.{SessionEntry, aborted_by, asked_state}
+use Rattle.system_parts.specs.Resolve.{Settling, SettleTurn, Goes, Decides, settle_ask, settle_turn}
+use Rattle.system_parts.specs.KeyRead.{Reading}
+use Rattle.system_parts.specs.declared.instance.Request.{Request}
+use Rattle.system_parts.specs.declared.instance.Request.TheVariants.{Begin, Commit}
+use Rattle.system_parts.specs.declared.instance.Settled.{Settled}
+use Rattle.system_parts.specs.declared.instance.Settled.TheVariants as how
 use Rattle.machine.specs.State.{Client, State, Reads}
 use Rattle.machine.specs.Clients.{client_freed, client_aborted, client_opened, unless_gone, after_refusal, client_committed, client_asked}
 use Rattle.machine.specs.Events.Crash.{after_loss, crashed_clients}
@@ -22,7 +22,7 @@ use Rattle.isolation_laws.specs.Words.{ClientAt, epoch_or_none, OpenAt}
 use Rattle.isolation_laws.specs.Pending.{is_placing}
 use Rattle.machine.proofs.Lookups.{client_set}
 use Rattle.machine.specs.Outcome.OutcomesOfStamps.{answered_client}
-use Rattle.oracle_parts.specs.declared.instance.Held.{Held}
+use Rattle.system_parts.specs.declared.instance.Held.{Held}
 use Rattle.machine.specs.StoreSteps.{told_by}
 use Rattle.machine.specs.Events.Write.{client_wrote}
 use Rattle.machine.specs.Outcome.OutcomesOfWork.{CompletedOne}

@@ -1,4 +1,4 @@
--- For served_lines too.
+-- For request_completion too.
 -- Sessions with their transactions, and their write lists, where one client changes or more items stand.
 use Rattle.std.proofs.Common.{◌≡◌, ◌≢◌, ℕ, Bool, true, false, IsTrue, List, [], ◌∷◌, ◌++◌, Some, ◌⊎◌, inl, inr, refl, sym, ◌∙◌, ap, subst}
 use Rattle.std.specs.Prelude.{slice_set}
@@ -7,12 +7,12 @@ use Rattle.history_book.specs.Members.{◌∈◌}
 use Rattle.history_book.specs.declared.item.Item.{Item}
 use Rattle.history_book.specs.declared.item.Item.TheVariants.{Begin, Write}
 use Rattle.history_book.proofs.MemberLemmas.{in_front}
-use Rattle.client_parts.specs.declared.asks.Ask.{Ask}
-use Rattle.client_parts.specs.declared.resolve.Outcome.TheVariants as outcome
-use Rattle.client_parts.specs.declared.session.State.{State as SessionState}
-use Rattle.client_parts.specs.declared.session.State.TheVariants as phase
-use Rattle.client_parts.specs.SessionSteps.{SessionEntry, key_added, has_transaction, aborted_by}
-use Rattle.client_parts.specs.Resolve.{Settling, SettleTurn, Goes, Decides}
+use Rattle.system_parts.specs.declared.asks.Ask.{Ask}
+use Rattle.system_parts.specs.declared.resolve.Outcome.TheVariants as outcome
+use Rattle.system_parts.specs.declared.session.State.{State as SessionState}
+use Rattle.system_parts.specs.declared.session.State.TheVariants as phase
+use Rattle.system_parts.specs.SessionSteps.{SessionEntry, key_added, has_transaction, aborted_by}
+use Rattle.system_parts.specs.Resolve.{Settling, SettleTurn, Goes, Decides}
 use Rattle.machine.specs.State.{Client}
 use Rattle.machine.specs.Clients.{client_freed, client_aborted, client_committed, client_opened, client_handed}
 use Rattle.machine.specs.Events.Step.{client_settled, after_asks}

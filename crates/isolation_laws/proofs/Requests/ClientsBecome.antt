@@ -1,13 +1,13 @@
 -- What becomes of the client of a request that is lost, refused or answered.
 use Rattle.std.proofs.Common.{◌≡◌, ℕ, true, IsTrue, List, ◌⊎◌, inl, inr, refl, sym, ap, subst}
 use Rattle.history_book.specs.declared.item.Item.{Item}
-use Rattle.client_parts.specs.declared.session.State.{State as SessionState}
-use Rattle.client_parts.specs.declared.session.State.TheVariants as phase
-use Rattle.client_parts.specs.SessionSteps.{has_transaction}
-use Rattle.oracle_parts.specs.declared.instance.Request.{Request}
-use Rattle.oracle_parts.specs.declared.instance.Request.TheVariants.{Begin, Commit}
-use Rattle.oracle_parts.specs.declared.instance.Settled.{Settled}
-use Rattle.oracle_parts.specs.declared.instance.Settled.TheVariants as how
+use Rattle.system_parts.specs.declared.session.State.{State as SessionState}
+use Rattle.system_parts.specs.declared.session.State.TheVariants as phase
+use Rattle.system_parts.specs.SessionSteps.{has_transaction}
+use Rattle.system_parts.specs.declared.instance.Request.{Request}
+use Rattle.system_parts.specs.declared.instance.Request.TheVariants.{Begin, Commit}
+use Rattle.system_parts.specs.declared.instance.Settled.{Settled}
+use Rattle.system_parts.specs.declared.instance.Settled.TheVariants as how
 use Rattle.machine.specs.State.{Client}
 use Rattle.machine.specs.Clients.{client_freed, client_aborted, client_committed, client_opened, client_handed, unless_gone, unless_gone_by, after_refusal}
 use Rattle.machine.specs.Events.Crash.{after_loss}

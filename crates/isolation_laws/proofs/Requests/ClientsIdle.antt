@@ -2,9 +2,9 @@
 -- was.
 use Rattle.std.proofs.Common.{◌≡◌, ℕ, true, false, List, [], ◌∷◌, Option, Some, None, ◌⊎◌, inl, inr, sym, ◌∙◌, ap, subst}
 use Rattle.std.specs.Prelude.{slice_set}
-use Rattle.client_parts.specs.declared.asks.Ask.{Ask}
-use Rattle.client_parts.specs.Resolve.{Settling}
-use Rattle.client_parts.specs.KeyRead.{Reading}
+use Rattle.system_parts.specs.declared.asks.Ask.{Ask}
+use Rattle.system_parts.specs.Resolve.{Settling}
+use Rattle.system_parts.specs.KeyRead.{Reading}
 use Rattle.machine.specs.State.{Nothing, Reads, Settles, Completes, Client}
 use Rattle.machine.specs.Clients.{is_reading, is_reading_by, undo_of, finish_of, client_aborted, client_committed, unless_gone}
 use Rattle.isolation_laws.specs.Words.{ClientAt}

@@ -1,13 +1,13 @@
--- For cause_laws and served_lines too.
+-- For cause_laws and request_completion too.
 -- What clients become when they have no transaction open and none to place, or as before.
 use Rattle.std.proofs.Common.{[], ◌≡◌, ℕ, Bool, true, false, List, ◌∷◌, ◌⊎◌, inl, inr, refl, sym, ◌∙◌, ap, subst}
 use Rattle.std.specs.Prelude.{slice_set}
-use Rattle.client_parts.specs.declared.session.State.{State as SessionState}
-use Rattle.client_parts.specs.declared.session.State.TheVariants as phase
-use Rattle.client_parts.specs.SessionSteps.{SessionEntry, aborted_by}
-use Rattle.client_parts.specs.KeyRead.{ReadTurn, Asks, Answers}
-use Rattle.oracle_parts.specs.declared.instance.Settled.{Settled}
-use Rattle.oracle_parts.specs.declared.instance.Settled.TheVariants as how
+use Rattle.system_parts.specs.declared.session.State.{State as SessionState}
+use Rattle.system_parts.specs.declared.session.State.TheVariants as phase
+use Rattle.system_parts.specs.SessionSteps.{SessionEntry, aborted_by}
+use Rattle.system_parts.specs.KeyRead.{ReadTurn, Asks, Answers}
+use Rattle.system_parts.specs.declared.instance.Settled.{Settled}
+use Rattle.system_parts.specs.declared.instance.Settled.TheVariants as how
 use Rattle.machine.specs.State.{Client}
 use Rattle.machine.specs.Clients.{client_aborted, unless_gone, unless_gone_by}
 use Rattle.machine.specs.Events.Fetch.{client_read}

@@ -4,12 +4,12 @@ use Rattle.history_book.specs.Isolation.{Committed, before_ask, has_ask}
 use Rattle.history_book.specs.declared.item.Item.{Item}
 use Rattle.history_book.specs.declared.item.Item.TheVariants.{Placed}
 use Rattle.history_book.proofs.HistoryLemmas.{before_ask-in}
-use Rattle.oracle_parts.specs.declared.instance.Progress.{Progress}
-use Rattle.oracle_parts.specs.declared.instance.Progress.TheVariants as progress
-use Rattle.oracle_parts.specs.declared.instance.Request.TheVariants.{Begin, Commit}
-use Rattle.oracle_parts.specs.Instance.{InstanceEntry}
-use Rattle.oracle_parts.specs.InstanceSteps.{moved, drawn_as}
-use Rattle.client_parts.specs.declared.session.State.TheVariants as phase
+use Rattle.system_parts.specs.declared.instance.Progress.{Progress}
+use Rattle.system_parts.specs.declared.instance.Progress.TheVariants as progress
+use Rattle.system_parts.specs.declared.instance.Request.TheVariants.{Begin, Commit}
+use Rattle.system_parts.specs.Instance.{InstanceEntry}
+use Rattle.system_parts.specs.InstanceSteps.{moved, drawn_as}
+use Rattle.system_parts.specs.declared.session.State.TheVariants as phase
 use Rattle.machine.specs.State.{State}
 use Rattle.isolation_laws.specs.Words.{InstanceAt, HeldBy}
 use Rattle.isolation_laws.specs.Begins.{AreFreshBegins}

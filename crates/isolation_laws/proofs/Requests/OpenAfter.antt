@@ -1,10 +1,10 @@
--- For served_lines too.
+-- For request_completion too.
 -- What the outcomes that no frame has make of the transactions that are open or are placed: one more is open where a begin is
 -- answered, and else there are fewer.
 use Rattle.std.proofs.Common.{[], ◌≡◌, ℕ, zero, suc, List, ◌∷◌, Option, Some, None, ◌⊎◌, inl, inr, refl, sym, ◌∙◌, ap}
 use Rattle.std.specs.Prelude.{slice_index_or}
 use Rattle.std.proofs.lemmas.Option.{same_Some}
-use Rattle.oracle_parts.specs.declared.instance.Held.{Held}
+use Rattle.system_parts.specs.declared.instance.Held.{Held}
 use Rattle.machine.specs.State.{Client, State}
 use Rattle.machine.specs.Clients.{client_begun, unless_gone}
 use Rattle.machine.specs.Events.Crash.{after_loss, crashed_clients}

@@ -3,10 +3,10 @@ use Rattle.std.proofs.Common.{◌≢◌, ℕ, List, Option, inl, inr, refl, sym,
 use Rattle.std.specs.Prelude.{slice_set}
 use Rattle.history_book.specs.Isolation.{Stamped}
 use Rattle.history_book.specs.declared.item.Item.{Item}
-use Rattle.oracle_parts.specs.declared.instance.Progress.{Progress}
-use Rattle.oracle_parts.specs.declared.instance.Request.{Request}
-use Rattle.oracle_parts.specs.declared.instance.Request.TheVariants.{Commit}
-use Rattle.oracle_parts.specs.Instance.{InstanceEntry}
+use Rattle.system_parts.specs.declared.instance.Progress.{Progress}
+use Rattle.system_parts.specs.declared.instance.Request.{Request}
+use Rattle.system_parts.specs.declared.instance.Request.TheVariants.{Commit}
+use Rattle.system_parts.specs.Instance.{InstanceEntry}
 use Rattle.machine.specs.State.{Client}
 use Rattle.isolation_laws.specs.Words.{InstanceAt, HeldBy, Begun}
 use Rattle.isolation_laws.specs.Pending.{InFlight, HeldPending, is_placing, PlacingAt, Pending}

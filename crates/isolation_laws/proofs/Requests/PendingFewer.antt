@@ -2,14 +2,14 @@
 use Rattle.isolation_laws.proofs.Requests.ClientMoves.{at_work_after}
 use Rattle.machine.specs.Outcome.Outcomes.{OfAskedBegin}
 use Rattle.std.proofs.Common.{◌≡◌, ◌≢◌, ℕ, ◌+◌, Bool, true, false, List, Option, Some, ◌⊎◌, inl, inr, refl, subst}
-use Rattle.oracle_parts.specs.declared.instance.Settled.{Settled}
+use Rattle.system_parts.specs.declared.instance.Settled.{Settled}
 use Rattle.std.specs.Prelude.{slice_set}
-use Rattle.oracle_parts.specs.declared.instance.Progress.TheVariants as progress
-use Rattle.oracle_parts.specs.declared.instance.Request.TheVariants.{Begin, Commit}
-use Rattle.oracle_parts.specs.Instance.{InstanceEntry, with_request}
-use Rattle.oracle_parts.specs.InstanceSteps.{without_request, moved, just_asked, instance_widened, instance_renewed}
+use Rattle.system_parts.specs.declared.instance.Progress.TheVariants as progress
+use Rattle.system_parts.specs.declared.instance.Request.TheVariants.{Begin, Commit}
+use Rattle.system_parts.specs.Instance.{InstanceEntry, with_request}
+use Rattle.system_parts.specs.InstanceSteps.{without_request, moved, just_asked, instance_widened, instance_renewed}
 use Rattle.machine.specs.State.{State, Client}
-use Rattle.store_parts.specs.Record.{granted, renewed_until}
+use Rattle.system_parts.specs.Record.{granted, renewed_until}
 use Rattle.machine.specs.Events.Take.{rules_of, instance_of}
 use Rattle.isolation_laws.specs.Words.{InstanceAt, HeldBy}
 use Rattle.isolation_laws.specs.Pending.{InFlight, HeldPending, PlacingAt, Pending, ComesBelow, IsPending}

@@ -3,8 +3,8 @@ use Rattle.std.proofs.Common.{List, Option, sym, ◌∙◌, ap}
 use Rattle.stamp_base.specs.SetupNumbers.{SetupNumbers}
 use Rattle.history_book.specs.declared.item.Item.{Item}
 use Rattle.history_book.specs.declared.item.Item.TheVariants.{Begin}
-use Rattle.oracle_parts.specs.declared.instance.Progress.TheVariants as progress
-use Rattle.oracle_parts.specs.Instance.{InstanceEntry}
+use Rattle.system_parts.specs.declared.instance.Progress.TheVariants as progress
+use Rattle.system_parts.specs.Instance.{InstanceEntry}
 use Rattle.machine.specs.State.{Client, State}
 use Rattle.isolation_laws.specs.Pending.{InFlight, is_placing}
 use Rattle.isolation_laws.specs.Requests.{HaveBegun, AreRequests, AreStarting, ArePending, AreSettled, AreOpen, AreKeys, AreForm, RequestFacts}

@@ -7,13 +7,13 @@ use Rattle.std.proofs.lemmas.Option.{same_Some, none-some}
 use Rattle.history_book.specs.declared.cause.Cause.TheVariants.{OldEpoch}
 use Rattle.history_book.specs.declared.item.Item.{Item}
 use Rattle.history_book.specs.declared.item.Item.TheVariants.{Begin}
-use Rattle.client_parts.specs.declared.session.State.TheVariants as phase
-use Rattle.client_parts.specs.SessionSteps.{asked_state}
-use Rattle.oracle_parts.specs.declared.instance.Progress.TheVariants as progress
-use Rattle.oracle_parts.specs.declared.instance.Request.{Request}
-use Rattle.oracle_parts.specs.declared.instance.Request.TheVariants.{Commit}
-use Rattle.oracle_parts.specs.Instance.{InstanceEntry, session_of}
-use Rattle.oracle_parts.specs.InstanceSteps.{moved, epoch_refusal}
+use Rattle.system_parts.specs.declared.session.State.TheVariants as phase
+use Rattle.system_parts.specs.SessionSteps.{asked_state}
+use Rattle.system_parts.specs.declared.instance.Progress.TheVariants as progress
+use Rattle.system_parts.specs.declared.instance.Request.{Request}
+use Rattle.system_parts.specs.declared.instance.Request.TheVariants.{Commit}
+use Rattle.system_parts.specs.Instance.{InstanceEntry, session_of}
+use Rattle.system_parts.specs.InstanceSteps.{moved, epoch_refusal}
 use Rattle.machine.specs.State.{Client, State}
 use Rattle.machine.specs.Clients.{client_asked}
 use Rattle.isolation_laws.specs.Words.{HeldBy, ClientAt, epoch_or_none, OpenAt, Begun, HasDrawn, written_keys}

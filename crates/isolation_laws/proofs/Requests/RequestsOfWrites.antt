@@ -1,4 +1,4 @@
--- For served_lines too.
+-- For request_completion too.
 -- Sessions and requests where a value is written.
 use Rattle.std.proofs.Common.{[], ◌≡◌, ℕ, IsTrue, List, ◌∷◌, ◌++◌, Some, ◌⊎◌, inl, inr, refl, sym, ◌∙◌, ap, subst}
 use Rattle.std.proofs.lemmas.Bool.{cases_eq}
@@ -6,9 +6,9 @@ use Rattle.std.proofs.lemmas.Option.{same_Some}
 use Rattle.history_book.specs.declared.item.Item.{Item}
 use Rattle.history_book.specs.declared.item.Item.TheVariants.{Begin, Draw, Write}
 use Rattle.history_book.proofs.MemberLemmas.{in_old}
-use Rattle.client_parts.specs.declared.session.State.{State as SessionState}
-use Rattle.client_parts.specs.declared.session.State.TheVariants as phase
-use Rattle.client_parts.specs.SessionSteps.{has_transaction, key_added}
+use Rattle.system_parts.specs.declared.session.State.{State as SessionState}
+use Rattle.system_parts.specs.declared.session.State.TheVariants as phase
+use Rattle.system_parts.specs.SessionSteps.{has_transaction, key_added}
 use Rattle.machine.specs.State.{Client, State}
 use Rattle.machine.specs.Events.Write.{client_wrote}
 use Rattle.isolation_laws.specs.Words.{ClientAt, epoch_or_none, OpenAt, Begun, HasDrawn, written_keys}

@@ -7,11 +7,11 @@ use Rattle.history_book.specs.Isolation.{Committed}
 use Rattle.history_book.specs.declared.item.Item.{Item}
 use Rattle.history_book.specs.declared.item.Item.TheVariants.{Begin, Draw, Placed}
 use Rattle.history_book.proofs.MemberLemmas.{in_front, in_last, in_push, in_old}
-use Rattle.oracle_parts.specs.declared.instance.Progress.TheVariants as progress
-use Rattle.oracle_parts.specs.declared.instance.Request.TheVariants.{Commit}
-use Rattle.oracle_parts.specs.declared.instance.Settled.{Settled}
-use Rattle.oracle_parts.specs.Instance.{InstanceEntry, held_of}
-use Rattle.oracle_parts.specs.InstanceSteps.{moved}
+use Rattle.system_parts.specs.declared.instance.Progress.TheVariants as progress
+use Rattle.system_parts.specs.declared.instance.Request.TheVariants.{Commit}
+use Rattle.system_parts.specs.declared.instance.Settled.{Settled}
+use Rattle.system_parts.specs.Instance.{InstanceEntry, held_of}
+use Rattle.system_parts.specs.InstanceSteps.{moved}
 use Rattle.machine.specs.State.{Client, State}
 use Rattle.isolation_laws.specs.Words.{InstanceAt, HeldBy, Begun, HasDrawn, written_keys}
 use Rattle.isolation_laws.specs.Pending.{InFlight, Pending}

@@ -9,7 +9,7 @@ use Rattle.history_book.specs.declared.item.StoreStep.TheVariants.{Keys}
 use Rattle.history_book.specs.declared.item.Item.{Item}
 use Rattle.history_book.specs.declared.item.Item.TheVariants.{AskBegin, Begin, Draw, Write, Read, Placed, Step}
 use Rattle.history_book.proofs.MemberLemmas.{in_front, in_old}
-use Rattle.client_parts.specs.KeyRead.{ReadTurn, Asks, Answers}
+use Rattle.system_parts.specs.KeyRead.{ReadTurn, Asks, Answers}
 use Rattle.machine.specs.Events.Fetch.{found_of, read_items}
 use Rattle.isolation_laws.specs.Words.{Begun, HasDrawn, written_keys}
 use Rattle.machine.specs.Quiet.{Quiet, AllQuiet}

@@ -8,7 +8,7 @@ use Rattle.history_book.specs.Isolation.{Wrote, last_write, written_by}
 use Rattle.history_book.specs.declared.item.Item.{Item}
 use Rattle.history_book.specs.declared.item.Item.TheVariants.{Write}
 use Rattle.history_book.proofs.MemberLemmas.{in_front, in_last, in_push}
-use Rattle.client_parts.specs.SessionSteps.{has_key, key_added}
+use Rattle.system_parts.specs.SessionSteps.{has_key, key_added}
 use Rattle.isolation_laws.specs.Words.{keys_with, keys_from, written_keys}
 use Rattle.isolation_laws.proofs.Requests.ClientsAfter.{keys_with_own}
 use Rattle.isolation_laws.proofs.Stores.Calm.{written_here}

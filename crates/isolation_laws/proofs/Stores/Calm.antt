@@ -9,9 +9,9 @@ use Rattle.history_book.specs.declared.item.Item.{Item}
 use Rattle.history_book.specs.declared.item.Item.TheVariants.{Write, Read, Placed, Step}
 use Rattle.history_book.proofs.MemberLemmas.{in_old}
 use Rattle.history_book.proofs.HistoryLemmas.{last_write-push}
-use Rattle.client_parts.specs.KeyRead.{ReadTurn, Asks, Answers}
-use Rattle.oracle_parts.specs.declared.instance.Request.{Request}
-use Rattle.oracle_parts.specs.declared.instance.Request.TheVariants.{Begin as BeginRequest, Commit}
+use Rattle.system_parts.specs.KeyRead.{ReadTurn, Asks, Answers}
+use Rattle.system_parts.specs.declared.instance.Request.{Request}
+use Rattle.system_parts.specs.declared.instance.Request.TheVariants.{Begin as BeginRequest, Commit}
 use Rattle.machine.specs.Events.Decide.{draw_item}
 use Rattle.machine.specs.Events.Fetch.{found_of, read_items}
 use Rattle.machine.specs.Quiet.{Quiet, AllQuiet}

@@ -3,9 +3,9 @@ use Rattle.machine.specs.Outcome.Outcomes.{OfOwnPlaced, Outcome, OfPlaced, OfAns
 use Rattle.std.proofs.Common.{◌∷◌, ◌≡◌, ℕ, List, ◌++◌, Option, Some, None, inl, inr, refl, ◌∙◌, ap}
 use Rattle.history_book.specs.Isolation.{last_write}
 use Rattle.history_book.specs.declared.item.Item.{Item}
-use Rattle.store_parts.specs.declared.rows.Cell.{Cell}
-use Rattle.store_parts.specs.Rows.{looked}
-use Rattle.oracle_parts.specs.Instance.{InstanceEntry}
+use Rattle.system_parts.specs.declared.rows.Cell.{Cell}
+use Rattle.system_parts.specs.Rows.{looked}
+use Rattle.system_parts.specs.Instance.{InstanceEntry}
 use Rattle.machine.specs.State.{Client, State}
 use Rattle.machine.specs.Quiet.{AllQuiet}
 use Rattle.isolation_laws.specs.Cells.{CellFacts}

@@ -6,13 +6,13 @@ use Rattle.stamp_base.specs.declared.stores.Mark.TheVariants.{Committed as Commi
 use Rattle.history_book.specs.Isolation.{Committed, last_write}
 use Rattle.history_book.specs.declared.item.Item.{Item}
 use Rattle.history_book.specs.declared.item.Item.TheVariants.{Begin, Placed}
-use Rattle.store_parts.specs.declared.rows.Cell.{Cell}
-use Rattle.store_parts.specs.Rows.{Row, looked, AreOrdered, bare_cell, put_row, without_bare}
-use Rattle.store_parts.specs.Pairs.{Pairs, mark_of, put_pair}
-use Rattle.store_parts.proofs.RowLaws.{looked-put_other, looked-put_same, looked-without, looked-without_other, ordered-put, ordered-without}
-use Rattle.store_parts.proofs.RowVersions.{without_bare_absent, without_bare_shadowed, without_bare_gone}
-use Rattle.store_parts.proofs.PairLaws.{entry_or, mark_of-put_pair, mark_of-put_pair_other, entry_stays-put_pair}
-use Rattle.oracle_parts.specs.Instance.{InstanceEntry}
+use Rattle.system_parts.specs.declared.rows.Cell.{Cell}
+use Rattle.system_parts.specs.Rows.{Row, looked, AreOrdered, bare_cell, put_row, without_bare}
+use Rattle.system_parts.specs.Pairs.{Pairs, mark_of, put_pair}
+use Rattle.system_parts.proofs.RowLaws.{looked-put_other, looked-put_same, looked-without, looked-without_other, ordered-put, ordered-without}
+use Rattle.system_parts.proofs.RowVersions.{without_bare_absent, without_bare_shadowed, without_bare_gone}
+use Rattle.system_parts.proofs.PairLaws.{entry_or, mark_of-put_pair, mark_of-put_pair_other, entry_stays-put_pair}
+use Rattle.system_parts.specs.Instance.{InstanceEntry}
 use Rattle.machine.specs.State.{Client}
 use Rattle.isolation_laws.specs.Words.{Begun, HasRecord, cell_with}
 use Rattle.isolation_laws.specs.Pending.{Live}

@@ -7,12 +7,12 @@ use Rattle.stamp_base.specs.declared.stores.Mark.TheVariants.{Committed as Commi
 use Rattle.history_book.specs.Isolation.{Committed, Stamped, last_write}
 use Rattle.history_book.specs.declared.item.Item.{Item}
 use Rattle.history_book.specs.declared.item.Item.TheVariants.{Begin, Placed}
-use Rattle.store_parts.specs.declared.rows.Cell.{Cell}
-use Rattle.store_parts.specs.Rows.{Row, looked, with_shadow}
-use Rattle.store_parts.specs.Pairs.{Pairs, mark_of, put_pair, without_committed}
-use Rattle.store_parts.proofs.RowLaws.{shadowed, looked-shadow_other, looked-shadow_same, ordered-shadow}
-use Rattle.store_parts.proofs.PairLaws.{entry_or, mark_of-put_pair, mark_of-put_pair_other, entry_stays-put_pair, mark_of-without_committed_other, invalid_stays-without_committed, was_there-without_committed}
-use Rattle.oracle_parts.specs.Instance.{InstanceEntry}
+use Rattle.system_parts.specs.declared.rows.Cell.{Cell}
+use Rattle.system_parts.specs.Rows.{Row, looked, with_shadow}
+use Rattle.system_parts.specs.Pairs.{Pairs, mark_of, put_pair, without_committed}
+use Rattle.system_parts.proofs.RowLaws.{shadowed, looked-shadow_other, looked-shadow_same, ordered-shadow}
+use Rattle.system_parts.proofs.PairLaws.{entry_or, mark_of-put_pair, mark_of-put_pair_other, entry_stays-put_pair, mark_of-without_committed_other, invalid_stays-without_committed, was_there-without_committed}
+use Rattle.system_parts.specs.Instance.{InstanceEntry}
 use Rattle.machine.specs.State.{Client}
 use Rattle.isolation_laws.specs.Words.{Marked, HasRecord, cell_with}
 use Rattle.isolation_laws.specs.Pending.{Live}

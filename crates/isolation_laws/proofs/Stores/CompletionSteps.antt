@@ -4,13 +4,13 @@ use Rattle.std.proofs.lemmas.Option.{same_Some, none-some}
 use Rattle.history_book.specs.Members.{◌∈◌}
 use Rattle.history_book.specs.Isolation.{Committed, Wrote, last_write}
 use Rattle.history_book.specs.declared.item.Item.{Item}
-use Rattle.store_parts.specs.declared.rows.Cell.{Cell}
-use Rattle.store_parts.specs.Rows.{Row, looked, with_shadow}
-use Rattle.store_parts.proofs.RowLaws.{looked-shadow_same}
-use Rattle.client_parts.specs.declared.asks.Ask.{Ask}
-use Rattle.client_parts.specs.declared.asks.Ask.TheVariants as ask
-use Rattle.client_parts.specs.Completion.{finish_asks, undo_asks, first_ask}
-use Rattle.client_parts.specs.Sweep.{SweepPoint, Table, Marking, Listing, Left, Undecided, Sweeping, sweep_ask, sweep_ask_at}
+use Rattle.system_parts.specs.declared.rows.Cell.{Cell}
+use Rattle.system_parts.specs.Rows.{Row, looked, with_shadow}
+use Rattle.system_parts.proofs.RowLaws.{looked-shadow_same}
+use Rattle.system_parts.specs.declared.asks.Ask.{Ask}
+use Rattle.system_parts.specs.declared.asks.Ask.TheVariants as ask
+use Rattle.system_parts.specs.Completion.{finish_asks, undo_asks, first_ask}
+use Rattle.system_parts.specs.Sweep.{SweepPoint, Table, Marking, Listing, Left, Undecided, Sweeping, sweep_ask, sweep_ask_at}
 use Rattle.machine.specs.State.{State}
 use Rattle.machine.specs.StoreSteps.{rows_after}
 use Rattle.isolation_laws.specs.Words.{Marked, cell_with}

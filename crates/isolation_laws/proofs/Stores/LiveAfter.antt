@@ -2,7 +2,7 @@
 use Rattle.std.proofs.Common.{refl, ◌≡◌, ℕ, List, Option, Some, ◌⊎◌, inl, inr, sym, ◌∙◌, ap}
 use Rattle.isolation_laws.proofs.Requests.ClientMoves.{at_work_after}
 use Rattle.machine.specs.Outcome.Outcomes.{OfAskedCommit}
-use Rattle.oracle_parts.specs.Instance.{InstanceEntry}
+use Rattle.system_parts.specs.Instance.{InstanceEntry}
 use Rattle.machine.specs.State.{Client, State}
 use Rattle.isolation_laws.specs.Words.{epoch_or_none}
 use Rattle.isolation_laws.specs.Pending.{Waits, Taken, Live}

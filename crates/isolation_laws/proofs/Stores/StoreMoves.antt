@@ -5,13 +5,13 @@ use Rattle.std.proofs.lemmas.Option.{same_Some, none-some}
 use Rattle.stamp_base.specs.declared.stores.Mark.TheVariants.{Invalid as InvalidMark}
 use Rattle.history_book.specs.Isolation.{Committed}
 use Rattle.history_book.specs.declared.item.Item.{Item}
-use Rattle.store_parts.specs.declared.rows.Cell.{Cell}
-use Rattle.store_parts.specs.Rows.{Row, looked, with_shadow, without_bare}
-use Rattle.store_parts.specs.Pairs.{Pairs}
-use Rattle.store_parts.proofs.RowLaws.{shadowed}
-use Rattle.store_parts.proofs.PairLaws.{entry_stays-put_pair, invalid_stays-without_committed}
-use Rattle.client_parts.specs.declared.asks.Ask.{Ask}
-use Rattle.client_parts.specs.declared.asks.Ask.TheVariants as ask
+use Rattle.system_parts.specs.declared.rows.Cell.{Cell}
+use Rattle.system_parts.specs.Rows.{Row, looked, with_shadow, without_bare}
+use Rattle.system_parts.specs.Pairs.{Pairs}
+use Rattle.system_parts.proofs.RowLaws.{shadowed}
+use Rattle.system_parts.proofs.PairLaws.{entry_stays-put_pair, invalid_stays-without_committed}
+use Rattle.system_parts.specs.declared.asks.Ask.{Ask}
+use Rattle.system_parts.specs.declared.asks.Ask.TheVariants as ask
 use Rattle.machine.specs.State.{State}
 use Rattle.machine.specs.StoreSteps.{rows_after, pairs_after}
 use Rattle.isolation_laws.specs.Words.{Marked}

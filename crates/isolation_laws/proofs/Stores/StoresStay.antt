@@ -1,4 +1,4 @@
--- For call_laws too.
+-- For cause_laws too.
 -- Marks stay in the commit table, and rows that have a shadow of a placed commit keep it.
 use Rattle.std.proofs.Common.{◌≡◌, ◌≢◌, ℕ, Bool, true, false, cond, if◌then◌else◌, IsTrue, List, [], ◌∷◌, Option, Some, None, ◌⊎◌, inl, inr, refl, sym, ◌∙◌, ap, subst, arith}
 use Rattle.std.specs.Ordering.{nat_cmp, eq_by_cmp}
@@ -11,17 +11,17 @@ use Rattle.stamp_base.specs.declared.stores.Mark.{Mark}
 use Rattle.stamp_base.specs.declared.stores.Mark.TheVariants.{Committed as CommittedMark, Invalid as InvalidMark}
 use Rattle.history_book.specs.Isolation.{Committed, Stamped}
 use Rattle.history_book.specs.declared.item.Item.{Item}
-use Rattle.store_parts.specs.Rows.{Row, looked, put_row, with_shadow, without_bare, shadowed}
-use Rattle.store_parts.specs.Pairs.{Pairs, mark_of, put_pair, put_over, removed_from}
-use Rattle.store_parts.proofs.RowLaws.{looked-put_other, looked-shadow_other, looked-shadow_same, looked-without_other}
-use Rattle.store_parts.proofs.RowVersions.{without_bare_shadowed}
-use Rattle.client_parts.specs.declared.asks.Ask.{Ask}
-use Rattle.client_parts.specs.declared.asks.Ask.TheVariants as ask
-use Rattle.client_parts.specs.declared.session.State.{State as SessionState}
-use Rattle.client_parts.specs.declared.session.State.TheVariants as phase
-use Rattle.client_parts.specs.SessionSteps.{has_transaction}
-use Rattle.client_parts.specs.Completion.{finish_asks, undo_asks, first_ask}
-use Rattle.client_parts.specs.Sweep.{Sweeping, SweepPoint, Table, Marking, Listing, Left, Undecided, sweep_ask, sweep_ask_at}
+use Rattle.system_parts.specs.Rows.{Row, looked, put_row, with_shadow, without_bare, shadowed}
+use Rattle.system_parts.specs.Pairs.{Pairs, mark_of, put_pair, put_over, removed_from}
+use Rattle.system_parts.proofs.RowLaws.{looked-put_other, looked-shadow_other, looked-shadow_same, looked-without_other}
+use Rattle.system_parts.proofs.RowVersions.{without_bare_shadowed}
+use Rattle.system_parts.specs.declared.asks.Ask.{Ask}
+use Rattle.system_parts.specs.declared.asks.Ask.TheVariants as ask
+use Rattle.system_parts.specs.declared.session.State.{State as SessionState}
+use Rattle.system_parts.specs.declared.session.State.TheVariants as phase
+use Rattle.system_parts.specs.SessionSteps.{has_transaction}
+use Rattle.system_parts.specs.Completion.{finish_asks, undo_asks, first_ask}
+use Rattle.system_parts.specs.Sweep.{Sweeping, SweepPoint, Table, Marking, Listing, Left, Undecided, sweep_ask, sweep_ask_at}
 use Rattle.machine.specs.State.{State}
 use Rattle.machine.specs.StoreSteps.{rows_after, pairs_after}
 use Rattle.isolation_laws.specs.Words.{Marked}

@@ -5,15 +5,15 @@ use Rattle.std.proofs.lemmas.Option.{same_Some, none-some}
 use Rattle.history_book.specs.Members.{◌∈◌}
 use Rattle.history_book.specs.Isolation.{Committed}
 use Rattle.history_book.specs.declared.item.Item.{Item}
-use Rattle.store_parts.specs.declared.rows.Cell.{Cell}
-use Rattle.store_parts.specs.Rows.{Row}
-use Rattle.client_parts.specs.declared.asks.Ask.{Ask}
-use Rattle.client_parts.specs.declared.session.State.{State as SessionState}
-use Rattle.client_parts.specs.declared.session.State.TheVariants as phase
-use Rattle.client_parts.specs.SessionSteps.{SessionEntry, aborted_by, asked_state}
-use Rattle.client_parts.specs.Completion.{finish_asks, undo_asks}
-use Rattle.client_parts.specs.Resolve.{Settling}
-use Rattle.client_parts.specs.KeyRead.{Reading, ReadTurn, Asks, Answers, after_passed, turn_at, read_over}
+use Rattle.system_parts.specs.declared.rows.Cell.{Cell}
+use Rattle.system_parts.specs.Rows.{Row}
+use Rattle.system_parts.specs.declared.asks.Ask.{Ask}
+use Rattle.system_parts.specs.declared.session.State.{State as SessionState}
+use Rattle.system_parts.specs.declared.session.State.TheVariants as phase
+use Rattle.system_parts.specs.SessionSteps.{SessionEntry, aborted_by, asked_state}
+use Rattle.system_parts.specs.Completion.{finish_asks, undo_asks}
+use Rattle.system_parts.specs.Resolve.{Settling}
+use Rattle.system_parts.specs.KeyRead.{Reading, ReadTurn, Asks, Answers, after_passed, turn_at, read_over}
 use Rattle.machine.specs.State.{Nothing, Reads, Settles, Completes, Client}
 use Rattle.machine.specs.Clients.{emptied, undo_of, finish_of, client_begun, client_asked, client_freed, client_aborted, client_handed, client_committed, client_opened, client_vanished, unless_gone, unless_gone_by}
 use Rattle.machine.specs.Events.Fetch.{client_read}

@@ -3,14 +3,14 @@ use Rattle.std.proofs.Common.{◌≡◌, ℕ, Bool, IsTrue, List, Some, inl, inr
 use Rattle.std.specs.Prelude.{slice_set}
 use Rattle.history_book.specs.Isolation.{Committed}
 use Rattle.history_book.specs.declared.item.Item.{Item}
-use Rattle.store_parts.specs.Rows.{Row}
-use Rattle.store_parts.specs.Pairs.{Pairs}
-use Rattle.store_parts.proofs.PairLaws.{entry_stays-put_pair}
+use Rattle.system_parts.specs.Rows.{Row}
+use Rattle.system_parts.specs.Pairs.{Pairs}
+use Rattle.system_parts.proofs.PairLaws.{entry_stays-put_pair}
 use Rattle.stamp_base.specs.declared.stores.Mark.TheVariants.{Invalid as InvalidMark}
-use Rattle.client_parts.specs.declared.session.State.{State as SessionState}
-use Rattle.client_parts.specs.declared.session.State.TheVariants as phase
-use Rattle.client_parts.specs.SessionSteps.{has_transaction}
-use Rattle.client_parts.specs.Resolve.{Settling}
+use Rattle.system_parts.specs.declared.session.State.{State as SessionState}
+use Rattle.system_parts.specs.declared.session.State.TheVariants as phase
+use Rattle.system_parts.specs.SessionSteps.{has_transaction}
+use Rattle.system_parts.specs.Resolve.{Settling}
 use Rattle.machine.specs.State.{Settles, Client, State}
 use Rattle.isolation_laws.specs.Words.{ClientAt, Begun, Marked}
 use Rattle.isolation_laws.specs.Pending.{Live, IsOpen}

@@ -1,11 +1,11 @@
 -- What is under way where a completion makes a step.
 use Rattle.std.proofs.Common.{◌≡◌, ℕ, if◌then◌else◌, Bool, true, false, List, [], ◌∷◌, ◌++◌, inl, inr, refl, sym, ◌∙◌, ap, subst}
 use Rattle.history_book.specs.declared.item.Item.{Item}
-use Rattle.store_parts.specs.Rows.{Row}
-use Rattle.client_parts.specs.declared.asks.Ask.{Ask}
-use Rattle.client_parts.specs.declared.session.State.TheVariants as phase
-use Rattle.client_parts.specs.Completion.{undo_asks}
-use Rattle.client_parts.specs.Resolve.{Settling}
+use Rattle.system_parts.specs.Rows.{Row}
+use Rattle.system_parts.specs.declared.asks.Ask.{Ask}
+use Rattle.system_parts.specs.declared.session.State.TheVariants as phase
+use Rattle.system_parts.specs.Completion.{undo_asks}
+use Rattle.system_parts.specs.Resolve.{Settling}
 use Rattle.machine.specs.State.{Settles, Completes, Client, State}
 use Rattle.machine.specs.StoreSteps.{rows_after, pairs_after}
 use Rattle.machine.specs.Events.Step.{after_asks}

@@ -4,11 +4,11 @@ use Rattle.std.proofs.lemmas.Option.{same_Some, none-some}
 use Rattle.history_book.specs.Members.{◌∈◌}
 use Rattle.history_book.specs.Isolation.{Committed, Wrote}
 use Rattle.history_book.specs.declared.item.Item.{Item}
-use Rattle.store_parts.specs.Rows.{Row}
-use Rattle.client_parts.specs.declared.asks.Ask.{Ask}
-use Rattle.client_parts.specs.declared.resolve.Outcome.TheVariants as outcome
-use Rattle.client_parts.specs.declared.session.State.TheVariants as phase
-use Rattle.client_parts.specs.Resolve.{Settling, SettleTurn, Goes, Decides, own_settling, settle_ask, settle_turn}
+use Rattle.system_parts.specs.Rows.{Row}
+use Rattle.system_parts.specs.declared.asks.Ask.{Ask}
+use Rattle.system_parts.specs.declared.resolve.Outcome.TheVariants as outcome
+use Rattle.system_parts.specs.declared.session.State.TheVariants as phase
+use Rattle.system_parts.specs.Resolve.{Settling, SettleTurn, Goes, Decides, own_settling, settle_ask, settle_turn}
 use Rattle.machine.specs.State.{Nothing, Settles, Completes, Client, State}
 use Rattle.machine.specs.StoreSteps.{told_by}
 use Rattle.machine.specs.Events.Step.{client_settled, own_resolve}

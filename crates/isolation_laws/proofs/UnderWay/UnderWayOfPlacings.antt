@@ -2,7 +2,7 @@
 use Rattle.std.proofs.Common.{ℕ, List, ◌++◌, inl, inr, refl, sym, ◌∙◌, subst}
 use Rattle.history_book.specs.Isolation.{Committed}
 use Rattle.history_book.specs.declared.item.Item.{Item}
-use Rattle.oracle_parts.specs.declared.instance.Settled.{Settled}
+use Rattle.system_parts.specs.declared.instance.Settled.{Settled}
 use Rattle.machine.specs.State.{State}
 use Rattle.isolation_laws.specs.UnderWay.{UnderWayFacts}
 use Rattle.isolation_laws.specs.Holds.{Holds}

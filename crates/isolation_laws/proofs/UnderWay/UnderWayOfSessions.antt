@@ -4,17 +4,17 @@ use Rattle.std.proofs.lemmas.Bool.{cases_Bool}
 use Rattle.std.proofs.lemmas.Option.{same_Some, none-some}
 use Rattle.history_book.specs.Isolation.{Committed}
 use Rattle.history_book.specs.declared.item.Item.{Item}
-use Rattle.store_parts.specs.Rows.{Row, with_shadow}
-use Rattle.client_parts.specs.declared.known.Known.{Known}
-use Rattle.client_parts.specs.declared.known.Known.TheVariants as known
-use Rattle.client_parts.specs.declared.asks.Told.{Told}
-use Rattle.client_parts.specs.declared.resolve.Outcome.TheVariants as outcome
-use Rattle.client_parts.specs.declared.session.State.TheVariants as phase
-use Rattle.client_parts.specs.Resolve.{SettleTurn, Goes, Decides, settle_turn}
-use Rattle.client_parts.specs.KeyRead.{Reading, ReadTurn, Answers, settling_of, found_by, read_by, read_ask}
-use Rattle.client_parts.specs.Cache.{Cache, put_fresh}
-use Rattle.client_parts.specs.Recalled.{outcome_known}
-use Rattle.client_parts.proofs.RecalledLemmas.{AnyCache, Recalls, over_holds, told_holds}
+use Rattle.system_parts.specs.Rows.{Row, with_shadow}
+use Rattle.system_parts.specs.declared.known.Known.{Known}
+use Rattle.system_parts.specs.declared.known.Known.TheVariants as known
+use Rattle.system_parts.specs.declared.asks.Told.{Told}
+use Rattle.system_parts.specs.declared.resolve.Outcome.TheVariants as outcome
+use Rattle.system_parts.specs.declared.session.State.TheVariants as phase
+use Rattle.system_parts.specs.Resolve.{SettleTurn, Goes, Decides, settle_turn}
+use Rattle.system_parts.specs.KeyRead.{Reading, ReadTurn, Answers, settling_of, found_by, read_by, read_ask}
+use Rattle.system_parts.specs.Cache.{Cache, put_fresh}
+use Rattle.system_parts.specs.Recalled.{outcome_known}
+use Rattle.system_parts.proofs.RecalledLemmas.{AnyCache, Recalls, over_holds, told_holds}
 use Rattle.machine.specs.State.{UnderWay, Nothing, Client, State}
 use Rattle.machine.specs.Clients.{client_freed, client_aborted, client_vanished}
 use Rattle.machine.specs.StoreSteps.{told_by}

@@ -11,15 +11,15 @@ use Rattle.history_book.specs.declared.item.StoreStep.TheVariants.{Keys as KeysS
 use Rattle.history_book.specs.declared.item.Item.{Item}
 use Rattle.history_book.specs.declared.item.Item.TheVariants.{Placed, Step}
 use Rattle.history_book.proofs.MemberLemmas.{in_last}
-use Rattle.store_parts.specs.declared.rows.Cell.{Cell}
-use Rattle.store_parts.specs.Rows.{Row, looked, keys_of_version}
-use Rattle.store_parts.specs.Pairs.{Pairs, mark_of, put_pair}
-use Rattle.store_parts.proofs.RowLaws.{is_row-cases}
-use Rattle.store_parts.proofs.PairLaws.{entry_or, mark_of-put_pair}
-use Rattle.client_parts.specs.declared.asks.Ask.{Ask}
-use Rattle.client_parts.specs.declared.asks.Ask.TheVariants as ask
-use Rattle.client_parts.specs.Completion.{first_ask}
-use Rattle.client_parts.specs.Sweep.{SweepPoint, Table, Marking, Listing, Left, Undecided, Sweeping, sweep_open, sweep_ask, sweep_ask_at, sweep_after_table, sweep_after_marking, sweep_point_after, sweep_told, sweep_point_listed, sweep_listed}
+use Rattle.system_parts.specs.declared.rows.Cell.{Cell}
+use Rattle.system_parts.specs.Rows.{Row, looked, keys_of_version}
+use Rattle.system_parts.specs.Pairs.{Pairs, mark_of, put_pair}
+use Rattle.system_parts.proofs.RowLaws.{is_row-cases}
+use Rattle.system_parts.proofs.PairLaws.{entry_or, mark_of-put_pair}
+use Rattle.system_parts.specs.declared.asks.Ask.{Ask}
+use Rattle.system_parts.specs.declared.asks.Ask.TheVariants as ask
+use Rattle.system_parts.specs.Completion.{first_ask}
+use Rattle.system_parts.specs.Sweep.{SweepPoint, Table, Marking, Listing, Left, Undecided, Sweeping, sweep_open, sweep_ask, sweep_ask_at, sweep_after_table, sweep_after_marking, sweep_point_after, sweep_told, sweep_point_listed, sweep_listed}
 use Rattle.machine.specs.State.{State}
 use Rattle.machine.specs.StoreSteps.{rows_after, pairs_after, told_entry, told_mark, told_by}
 use Rattle.machine.specs.Events.SweepStep.{still_open, sweep_left}

@@ -5,8 +5,8 @@ use Rattle.std.proofs.Common.{◌≡◌, ℕ, List, ◌++◌, Option, Some, None
 use Rattle.std.proofs.lemmas.Option.{same_Some, none-some}
 use Rattle.history_book.specs.Isolation.{Committed, last_write}
 use Rattle.history_book.specs.declared.item.Item.{Item}
-use Rattle.store_parts.specs.declared.rows.Cell.{Cell}
-use Rattle.store_parts.specs.Rows.{Row, looked, put_row}
+use Rattle.system_parts.specs.declared.rows.Cell.{Cell}
+use Rattle.system_parts.specs.Rows.{Row, looked, put_row}
 use Rattle.machine.specs.State.{Client, State}
 use Rattle.machine.specs.Clients.{client_aborted}
 use Rattle.machine.specs.Events.Write.{client_wrote}

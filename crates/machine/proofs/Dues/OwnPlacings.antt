@@ -11,7 +11,7 @@ use Rattle.history_book.specs.declared.item.StoreStep.TheVariants.{PutFound}
 use Rattle.history_book.specs.declared.item.Item.{Item}
 use Rattle.history_book.specs.declared.item.Item.TheVariants as item
 use Rattle.history_book.proofs.MemberLemmas.{AtEach-push}
-use Rattle.store_parts.specs.Pairs.{Pairs, mark_of}
+use Rattle.system_parts.specs.Pairs.{Pairs, mark_of}
 use Rattle.machine.specs.State.{Client, State}
 use Rattle.machine.specs.Events.Place.{place_by}
 use Rattle.machine.specs.Due.{Places, HowPlaced, Due, AreDue}

@@ -4,8 +4,8 @@ use Rattle.std.proofs.Common.{inl, inr, refl, sym, subst, ◌≡◌, ℕ, ◌+�
 use Rattle.history_book.specs.declared.cause.Cause.{Cause}
 use Rattle.std.specs.Prelude.{nat_lt, is_some}
 use Rattle.std.proofs.lemmas.Bool.{and_parts, ltb-true}
-use Rattle.store_parts.specs.declared.record.TakeRefused.TheVariants as take
-use Rattle.store_parts.specs.Record.{take_refused, is_early, is_spent}
+use Rattle.system_parts.specs.declared.record.TakeRefused.TheVariants as take
+use Rattle.system_parts.specs.Record.{take_refused, is_early, is_spent}
 use Rattle.machine.specs.State.{State}
 use Rattle.machine.specs.Events.Take.{rules_of}
 use Rattle.machine.specs.Outcome.OutcomesOfRecord.{Stopped}

@@ -7,22 +7,22 @@ use Rattle.std.proofs.lemmas.Option.{same_Some}
 use Rattle.history_book.specs.declared.cause.Cause.{Cause}
 use Rattle.history_book.specs.declared.cause.Cause.TheVariants as cause
 use Rattle.history_book.specs.declared.item.Actor.TheVariants.{Session}
-use Rattle.oracle_parts.specs.declared.buckets.Verdict.{Verdict}
-use Rattle.oracle_parts.specs.declared.buckets.Verdict.TheVariants.{Free}
-use Rattle.oracle_parts.specs.declared.instance.Held.{Held}
-use Rattle.oracle_parts.specs.declared.instance.Progress.{Progress}
-use Rattle.oracle_parts.specs.declared.instance.Progress.TheVariants as progress
-use Rattle.oracle_parts.specs.declared.instance.Request.{Request}
-use Rattle.oracle_parts.specs.declared.instance.Request.TheVariants.{Begin, Commit}
-use Rattle.oracle_parts.specs.Instance.{InstanceEntry, held_of, least_unsettled}
-use Rattle.oracle_parts.specs.InstanceSteps.{epoch_refusal}
+use Rattle.system_parts.specs.declared.buckets.Verdict.{Verdict}
+use Rattle.system_parts.specs.declared.buckets.Verdict.TheVariants.{Free}
+use Rattle.system_parts.specs.declared.instance.Held.{Held}
+use Rattle.system_parts.specs.declared.instance.Progress.{Progress}
+use Rattle.system_parts.specs.declared.instance.Progress.TheVariants as progress
+use Rattle.system_parts.specs.declared.instance.Request.{Request}
+use Rattle.system_parts.specs.declared.instance.Request.TheVariants.{Begin, Commit}
+use Rattle.system_parts.specs.Instance.{InstanceEntry, held_of, least_unsettled}
+use Rattle.system_parts.specs.InstanceSteps.{epoch_refusal}
 use Rattle.machine.specs.State.{Client, State}
 use Rattle.machine.specs.Events.Decide.{both_verdict, draw_item}
 use Rattle.machine.specs.FoundAt.{InstanceAt, ClientAt}
 use Rattle.machine.specs.Due.{Serves, DueOldEpoch, DueExpired, DueStop, DueNoStamp, DueVerdict, DueNotYet, DueSettled, AreDue}
 use Rattle.machine.proofs.Dues.DueItems.{plain_due, refusal_due}
-use Rattle.oracle_parts.specs.declared.instance.Settled.{Settled}
-use Rattle.oracle_parts.specs.declared.instance.Settled.TheVariants as how
+use Rattle.system_parts.specs.declared.instance.Settled.{Settled}
+use Rattle.system_parts.specs.declared.instance.Settled.TheVariants as how
 
 -- the request that is held, as it was asked and as far as it has come
 pub serves : (w : State) (node session : ℕ) (i : InstanceEntry) (held : Held) (request : Request) (p : Progress) → InstanceAt w.nodes node i → held_of i session ≡ Some held → held.request ≡ request → held.progress ≡ p → Serves w session i request p

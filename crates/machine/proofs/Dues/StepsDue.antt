@@ -9,14 +9,14 @@ use Rattle.history_book.specs.declared.cause.Cause.TheVariants as cause
 use Rattle.history_book.specs.declared.item.Actor.{Actor}
 use Rattle.history_book.specs.declared.item.Actor.TheVariants.{Janitor}
 use Rattle.history_book.specs.declared.item.Item.TheVariants as item
-use Rattle.client_parts.specs.declared.asks.Ask.{Ask}
-use Rattle.client_parts.specs.declared.asks.Ask.TheVariants as ask
-use Rattle.client_parts.specs.declared.asks.Told.{Told}
-use Rattle.client_parts.specs.declared.asks.Told.TheVariants as told
-use Rattle.client_parts.specs.declared.resolve.Outcome.TheVariants as outcome
-use Rattle.client_parts.specs.KeyRead.{ReadTurn, Asks, Answers}
-use Rattle.client_parts.specs.Resolve.{SettleTurn, Goes, Decides}
-use Rattle.client_parts.specs.Sweep.{Sweeping}
+use Rattle.system_parts.specs.declared.asks.Ask.{Ask}
+use Rattle.system_parts.specs.declared.asks.Ask.TheVariants as ask
+use Rattle.system_parts.specs.declared.asks.Told.{Told}
+use Rattle.system_parts.specs.declared.asks.Told.TheVariants as told
+use Rattle.system_parts.specs.declared.resolve.Outcome.TheVariants as outcome
+use Rattle.system_parts.specs.KeyRead.{ReadTurn, Asks, Answers}
+use Rattle.system_parts.specs.Resolve.{SettleTurn, Goes, Decides}
+use Rattle.system_parts.specs.Sweep.{Sweeping}
 use Rattle.machine.specs.State.{State}
 use Rattle.machine.specs.StoreSteps.{entry_of, mark_item, step_item, mark_kept, effect_items}
 use Rattle.machine.specs.Events.Fetch.{read_items}

@@ -16,17 +16,17 @@ use Rattle.history_book.specs.declared.item.Actor.TheVariants.{Node, Session}
 use Rattle.history_book.specs.declared.item.StoreStep.TheVariants.{PutFound, Handed}
 use Rattle.history_book.specs.declared.item.Item.{Item}
 use Rattle.history_book.specs.declared.item.Item.TheVariants as item
-use Rattle.store_parts.specs.Pairs.{Pairs, mark_of, put_over}
-use Rattle.oracle_parts.specs.declared.instance.Held.{Held}
-use Rattle.oracle_parts.specs.declared.instance.Progress.{Progress}
-use Rattle.oracle_parts.specs.declared.instance.Progress.TheVariants as progress
-use Rattle.oracle_parts.specs.declared.instance.Reply.{Reply}
-use Rattle.oracle_parts.specs.declared.instance.Request.{Request}
-use Rattle.oracle_parts.specs.declared.instance.Request.TheVariants.{Begin, Commit}
-use Rattle.oracle_parts.specs.declared.instance.Settled.{Settled}
-use Rattle.oracle_parts.specs.declared.instance.Settled.TheVariants as how
-use Rattle.oracle_parts.specs.Instance.{InstanceEntry, held_of, was_told_not_yet, stamps_by, stamps_of_held, unsettled_by, least_unsettled}
-use Rattle.oracle_parts.specs.InstanceSteps.{InstanceStep, without_request, moved, not_yet_told, settle_if_drawn, settle_held, instance_settle, answer_begin, answer_if_ready, answer_held}
+use Rattle.system_parts.specs.Pairs.{Pairs, mark_of, put_over}
+use Rattle.system_parts.specs.declared.instance.Held.{Held}
+use Rattle.system_parts.specs.declared.instance.Progress.{Progress}
+use Rattle.system_parts.specs.declared.instance.Progress.TheVariants as progress
+use Rattle.system_parts.specs.declared.instance.Reply.{Reply}
+use Rattle.system_parts.specs.declared.instance.Request.{Request}
+use Rattle.system_parts.specs.declared.instance.Request.TheVariants.{Begin, Commit}
+use Rattle.system_parts.specs.declared.instance.Settled.{Settled}
+use Rattle.system_parts.specs.declared.instance.Settled.TheVariants as how
+use Rattle.system_parts.specs.Instance.{InstanceEntry, held_of, was_told_not_yet, stamps_by, stamps_of_held, unsettled_by, least_unsettled}
+use Rattle.system_parts.specs.InstanceSteps.{InstanceStep, without_request, moved, not_yet_told, settle_if_drawn, settle_held, instance_settle, answer_begin, answer_if_ready, answer_held}
 use Rattle.machine.specs.State.{Client, State}
 use Rattle.machine.specs.Effect.{Effect, refused}
 use Rattle.machine.specs.Clients.{client_handed, unless_gone}

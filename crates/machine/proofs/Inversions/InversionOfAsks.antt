@@ -1,4 +1,4 @@
--- For isolation_laws and planned_laws too.
+-- For isolation_laws and command_semantics too.
 -- What a crash and the asks of a session come to.
 use Rattle.machine.specs.Fits.{AreOwnRequests}
 use Rattle.machine.proofs.Dues.DueItems.{plain_due}
@@ -14,14 +14,14 @@ use Rattle.history_book.specs.declared.item.Actor.TheVariants.{Session}
 use Rattle.history_book.specs.declared.item.Ending.TheVariants.{ReadOnly}
 use Rattle.history_book.specs.declared.item.Item.{Item}
 use Rattle.history_book.specs.declared.item.Item.TheVariants as item
-use Rattle.client_parts.specs.declared.session.State.{State as SessionState}
-use Rattle.client_parts.specs.declared.session.State.TheVariants as phase
-use Rattle.client_parts.specs.SessionSteps.{begin_refusal, work_refusal}
-use Rattle.oracle_parts.specs.declared.instance.Held.{Held}
-use Rattle.oracle_parts.specs.declared.instance.Request.{Request}
-use Rattle.oracle_parts.specs.declared.instance.Request.TheVariants.{Begin, Commit}
-use Rattle.oracle_parts.specs.Instance.{InstanceEntry, in_flight, session_of, with_request}
-use Rattle.oracle_parts.specs.InstanceSteps.{InstanceStep, stays, just_asked}
+use Rattle.system_parts.specs.declared.session.State.{State as SessionState}
+use Rattle.system_parts.specs.declared.session.State.TheVariants as phase
+use Rattle.system_parts.specs.SessionSteps.{begin_refusal, work_refusal}
+use Rattle.system_parts.specs.declared.instance.Held.{Held}
+use Rattle.system_parts.specs.declared.instance.Request.{Request}
+use Rattle.system_parts.specs.declared.instance.Request.TheVariants.{Begin, Commit}
+use Rattle.system_parts.specs.Instance.{InstanceEntry, in_flight, session_of, with_request}
+use Rattle.system_parts.specs.InstanceSteps.{InstanceStep, stays, just_asked}
 use Rattle.machine.specs.State.{Client, State}
 use Rattle.machine.specs.Effect.{Effect}
 use Rattle.machine.specs.Clients.{is_reading, client_freed}

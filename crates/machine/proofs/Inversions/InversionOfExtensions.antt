@@ -1,4 +1,4 @@
--- For call_laws too.
+-- For cause_laws too.
 -- What an extension comes to.
 use Rattle.machine.proofs.Dues.DueItems.{plain_due, all_due, two_free}
 use Rattle.std.proofs.Common.{[], ◌≡◌, ℕ, ◌+◌, ◌==◌, Bool, true, false, if◌then◌else◌, List, ◌∷◌, Option, Some, None, inr, refl, arith}
@@ -12,10 +12,10 @@ use Rattle.history_book.specs.declared.cause.Cause.TheVariants as cause
 use Rattle.history_book.specs.declared.item.Actor.TheVariants.{Node}
 use Rattle.history_book.specs.declared.item.Item.{Item}
 use Rattle.history_book.specs.declared.item.Item.TheVariants as item
-use Rattle.store_parts.specs.declared.record.ExtendRefused.{ExtendRefused}
-use Rattle.store_parts.specs.declared.record.ExtendRefused.TheVariants as extend
-use Rattle.store_parts.specs.Record.{unless_refused, extend_refused, is_spent, answered}
-use Rattle.oracle_parts.specs.Instance.{InstanceEntry}
+use Rattle.system_parts.specs.declared.record.ExtendRefused.{ExtendRefused}
+use Rattle.system_parts.specs.declared.record.ExtendRefused.TheVariants as extend
+use Rattle.system_parts.specs.Record.{unless_refused, extend_refused, is_spent, answered}
+use Rattle.system_parts.specs.Instance.{InstanceEntry}
 use Rattle.machine.specs.State.{State}
 use Rattle.machine.specs.Effect.{kept_items}
 use Rattle.machine.specs.Machine.{with_post}

@@ -14,8 +14,8 @@ use Rattle.history_book.specs.declared.cause.Cause.{Cause}
 use Rattle.history_book.specs.declared.item.Actor.TheVariants.{Session}
 use Rattle.history_book.specs.declared.item.StoreStep.TheVariants as step
 use Rattle.history_book.specs.declared.item.Item.TheVariants as item
-use Rattle.store_parts.specs.Rows.{fetched}
-use Rattle.client_parts.specs.SessionSteps.{work_refusal, key_refusal}
+use Rattle.system_parts.specs.Rows.{fetched}
+use Rattle.system_parts.specs.SessionSteps.{work_refusal, key_refusal}
 use Rattle.machine.specs.State.{Client, State}
 use Rattle.machine.specs.Clients.{is_reading}
 use Rattle.machine.specs.Machine.{with_client}

@@ -1,4 +1,4 @@
--- For isolation_laws and call_laws too.
+-- For isolation_laws and cause_laws too.
 -- What the events of a session alone come to, but for a fetch: an abort, a vanish, a write, a heal.
 use Rattle.machine.proofs.Dues.DueItems.{plain_due, all_due, two_free}
 use Rattle.machine.proofs.Dues.OwnRefusals.{work_own, vanish_own, write_own, heal_own}
@@ -15,10 +15,10 @@ use Rattle.history_book.specs.declared.item.Ending.TheVariants as ending
 use Rattle.history_book.specs.declared.item.StoreStep.TheVariants as step
 use Rattle.history_book.specs.declared.item.Item.{Item}
 use Rattle.history_book.specs.declared.item.Item.TheVariants as item
-use Rattle.store_parts.specs.Rows.{Row, put_row, with_shadow}
-use Rattle.client_parts.specs.declared.session.State.{State as SessionState}
-use Rattle.client_parts.specs.declared.session.State.TheVariants as phase
-use Rattle.client_parts.specs.SessionSteps.{work_refusal, key_refusal, vanish_refusal}
+use Rattle.system_parts.specs.Rows.{Row, put_row, with_shadow}
+use Rattle.system_parts.specs.declared.session.State.{State as SessionState}
+use Rattle.system_parts.specs.declared.session.State.TheVariants as phase
+use Rattle.system_parts.specs.SessionSteps.{work_refusal, key_refusal, vanish_refusal}
 use Rattle.machine.specs.State.{Client, State}
 use Rattle.machine.specs.Effect.{Effect}
 use Rattle.machine.specs.Clients.{is_reading}

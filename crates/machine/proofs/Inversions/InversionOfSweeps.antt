@@ -11,12 +11,12 @@ use Rattle.history_book.specs.declared.cause.Cause.TheVariants as cause
 use Rattle.history_book.specs.declared.item.Actor.TheVariants.{Janitor}
 use Rattle.history_book.specs.declared.item.Item.{Item}
 use Rattle.history_book.specs.declared.item.Item.TheVariants as item
-use Rattle.store_parts.specs.Rows.{keys_of_version}
-use Rattle.client_parts.specs.declared.asks.Ask.{Ask}
-use Rattle.client_parts.specs.declared.asks.Ask.TheVariants as ask
-use Rattle.client_parts.specs.declared.asks.Told.{Told}
-use Rattle.client_parts.specs.Sweep.{Sweeping, sweep_ask, sweep_told, is_undecided}
-use Rattle.oracle_parts.specs.Instance.{InstanceEntry}
+use Rattle.system_parts.specs.Rows.{keys_of_version}
+use Rattle.system_parts.specs.declared.asks.Ask.{Ask}
+use Rattle.system_parts.specs.declared.asks.Ask.TheVariants as ask
+use Rattle.system_parts.specs.declared.asks.Told.{Told}
+use Rattle.system_parts.specs.Sweep.{Sweeping, sweep_ask, sweep_told, is_undecided}
+use Rattle.system_parts.specs.Instance.{InstanceEntry}
 use Rattle.machine.specs.State.{State}
 use Rattle.machine.specs.Effect.{Effect}
 use Rattle.machine.specs.StoreSteps.{met, store_of, told_by, pairs_after, step_item}
@@ -25,10 +25,9 @@ use Rattle.machine.specs.Events.SweepOpen.{sweep_open_on}
 use Rattle.machine.specs.Events.SweepStep.{undecided_items, sweep_met, sweep_at, sweep_lists, sweep_step_on}
 use Rattle.machine.specs.Plain.{Plain, AllPlain}
 use Rattle.machine.proofs.Outcome.PlainItems.{all_quiet, all_silent, none_plain, one_plain, one_silent}
-use Rattle.machine.specs.Fits.{SweepAsks}
+use Rattle.machine.specs.Fits.{SweepAsks, NoList}
 use Rattle.machine.specs.Outcome.Outcomes.{OfSweepOpened, OfSwept, OfSweepListed, OfSweepFailed}
 use Rattle.machine.proofs.Inversions.InversionParts.{PlainDue, ComesTo, ComesBy, still_all}
-use Rattle.machine.specs.Fits.{NoList}
 use Rattle.machine.proofs.Inversions.InversionOfCalls.{step_plain, failed_plain}
 use Rattle.machine.proofs.Outcome.QuietItems.{one_quiet}
 use Rattle.machine.proofs.MarksTold.{marks_same, marks_behind, met_marks}

@@ -13,10 +13,10 @@ use Rattle.std.proofs.lemmas.Option.{same_Some}
 use Rattle.history_book.specs.declared.cause.Cause.{Cause}
 use Rattle.history_book.specs.declared.item.Item.{Item}
 use Rattle.history_book.specs.declared.item.Item.TheVariants as item
-use Rattle.client_parts.specs.declared.session.State.TheVariants as phase
-use Rattle.oracle_parts.specs.declared.instance.Held.{Held}
-use Rattle.oracle_parts.specs.Instance.{InstanceEntry, held_of, with_request}
-use Rattle.oracle_parts.specs.InstanceSteps.{instance_stopped}
+use Rattle.system_parts.specs.declared.session.State.TheVariants as phase
+use Rattle.system_parts.specs.declared.instance.Held.{Held}
+use Rattle.system_parts.specs.Instance.{InstanceEntry, held_of, with_request}
+use Rattle.system_parts.specs.InstanceSteps.{instance_stopped}
 use Rattle.machine.specs.State.{Client, State}
 use Rattle.machine.specs.Clients.{is_reading}
 use Rattle.machine.specs.Machine.{Step, with_post, with_client}

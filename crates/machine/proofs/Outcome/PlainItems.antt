@@ -1,4 +1,4 @@
--- For cause_laws, call_laws and served_lines too.
+-- For cause_laws and request_completion too.
 -- Short lists of items that say nothing of requests and instances, and of those that no fact reads either.
 use Rattle.std.proofs.Common.{Bool, true, false, List, [], ◌∷◌, Option, Some, ◌≡◌, refl, subst}
 use Rattle.std.specs.Prelude.{ℕ, if◌then◌else◌}

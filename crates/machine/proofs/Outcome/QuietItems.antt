@@ -1,4 +1,4 @@
--- For isolation_laws and call_laws too.
+-- For isolation_laws and cause_laws too.
 -- Short lists of quiet items.
 use Rattle.std.proofs.Common.{Bool, true, false, if◌then◌else◌, [], ◌∷◌, refl}
 use Rattle.std.proofs.lemmas.List.Elements.{All-nil, All-cons}

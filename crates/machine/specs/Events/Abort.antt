@@ -4,7 +4,7 @@ use Rattle.history_book.specs.declared.cause.Cause.{Cause}
 use Rattle.history_book.specs.declared.item.Actor.TheVariants.{Session}
 use Rattle.history_book.specs.declared.item.Ending.TheVariants.{Aborted}
 use Rattle.history_book.specs.declared.item.Item.TheVariants.{End}
-use Rattle.client_parts.specs.SessionSteps.{work_refusal}
+use Rattle.system_parts.specs.SessionSteps.{work_refusal}
 use Rattle.machine.specs.State.{Client}
 use Rattle.machine.specs.Effect.{Effect, done, refused}
 use Rattle.machine.specs.Clients.{is_reading, client_aborted}

@@ -6,10 +6,10 @@ use Rattle.history_book.specs.declared.cause.Cause.TheVariants as cause
 use Rattle.history_book.specs.declared.item.Actor.TheVariants.{Node, Session}
 use Rattle.history_book.specs.declared.item.StoreStep.TheVariants.{Handed}
 use Rattle.history_book.specs.declared.item.Item.TheVariants as item
-use Rattle.oracle_parts.specs.declared.instance.Reply.{Reply}
-use Rattle.oracle_parts.specs.declared.instance.Reply.TheVariants as reply
-use Rattle.oracle_parts.specs.Instance.{InstanceEntry, stamps_at, was_told_not_yet}
-use Rattle.oracle_parts.specs.InstanceSteps.{instance_answer}
+use Rattle.system_parts.specs.declared.instance.Reply.{Reply}
+use Rattle.system_parts.specs.declared.instance.Reply.TheVariants as reply
+use Rattle.system_parts.specs.Instance.{InstanceEntry, stamps_at, was_told_not_yet}
+use Rattle.system_parts.specs.InstanceSteps.{instance_answer}
 use Rattle.machine.specs.State.{Client}
 use Rattle.machine.specs.Effect.{Effect, done, refused, refused_once}
 use Rattle.machine.specs.Clients.{client_begun, client_handed, client_committed, client_aborted, client_opened, unless_gone}

@@ -5,10 +5,10 @@ use Rattle.history_book.specs.declared.cause.Cause.TheVariants as cause
 use Rattle.history_book.specs.declared.item.Actor.TheVariants.{Session}
 use Rattle.history_book.specs.declared.item.Item.{Item}
 use Rattle.history_book.specs.declared.item.Item.TheVariants.{AskBegin}
-use Rattle.client_parts.specs.SessionSteps.{begin_refusal}
-use Rattle.oracle_parts.specs.declared.instance.Request.TheVariants.{Begin}
-use Rattle.oracle_parts.specs.Instance.{InstanceEntry}
-use Rattle.oracle_parts.specs.InstanceSteps.{InstanceStep, instance_ask}
+use Rattle.system_parts.specs.SessionSteps.{begin_refusal}
+use Rattle.system_parts.specs.declared.instance.Request.TheVariants.{Begin}
+use Rattle.system_parts.specs.Instance.{InstanceEntry}
+use Rattle.system_parts.specs.InstanceSteps.{InstanceStep, instance_ask}
 use Rattle.machine.specs.State.{Client}
 use Rattle.machine.specs.Effect.{Effect, done, refused}
 use Rattle.machine.specs.Clients.{client_asked}

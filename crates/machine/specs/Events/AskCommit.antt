@@ -5,10 +5,10 @@ use Rattle.history_book.specs.declared.cause.Cause.TheVariants as cause
 use Rattle.history_book.specs.declared.item.Actor.TheVariants.{Session}
 use Rattle.history_book.specs.declared.item.Ending.TheVariants.{ReadOnly}
 use Rattle.history_book.specs.declared.item.Item.TheVariants.{AskCommit, End}
-use Rattle.client_parts.specs.SessionSteps.{work_refusal}
-use Rattle.oracle_parts.specs.declared.instance.Request.TheVariants.{Commit}
-use Rattle.oracle_parts.specs.Instance.{InstanceEntry}
-use Rattle.oracle_parts.specs.InstanceSteps.{instance_ask}
+use Rattle.system_parts.specs.SessionSteps.{work_refusal}
+use Rattle.system_parts.specs.declared.instance.Request.TheVariants.{Commit}
+use Rattle.system_parts.specs.Instance.{InstanceEntry}
+use Rattle.system_parts.specs.InstanceSteps.{instance_ask}
 use Rattle.machine.specs.State.{Client}
 use Rattle.machine.specs.Effect.{Effect, done, refused}
 use Rattle.machine.specs.Clients.{is_reading, client_freed}

@@ -6,18 +6,18 @@ use Rattle.history_book.specs.declared.cause.Cause.TheVariants as cause
 use Rattle.history_book.specs.declared.item.Actor.TheVariants.{Node, Session}
 use Rattle.history_book.specs.declared.item.Item.{Item}
 use Rattle.history_book.specs.declared.item.Item.TheVariants.{Draw}
-use Rattle.oracle_parts.specs.declared.instance.Decided.{Decided}
-use Rattle.oracle_parts.specs.declared.instance.Held.{Held}
-use Rattle.oracle_parts.specs.declared.instance.Request.{Request}
-use Rattle.oracle_parts.specs.declared.instance.Request.TheVariants.{Begin, Commit}
-use Rattle.oracle_parts.specs.declared.instance.Progress.{Progress}
-use Rattle.oracle_parts.specs.declared.instance.Progress.TheVariants.{Accepted}
-use Rattle.oracle_parts.specs.declared.buckets.Verdict.{Verdict}
-use Rattle.oracle_parts.specs.declared.buckets.Verdict.TheVariants.{Free}
-use Rattle.oracle_parts.specs.Buckets.{Bucket, verdict_both}
-use Rattle.oracle_parts.specs.Instance.{InstanceEntry, held_of}
-use Rattle.oracle_parts.specs.InstanceSteps.{InstanceStep, no_request, decide_by as decided}
-use Rattle.oracle_parts.specs.InstanceLaws.{stamp_of}
+use Rattle.system_parts.specs.declared.instance.Decided.{Decided}
+use Rattle.system_parts.specs.declared.instance.Held.{Held}
+use Rattle.system_parts.specs.declared.instance.Request.{Request}
+use Rattle.system_parts.specs.declared.instance.Request.TheVariants.{Begin, Commit}
+use Rattle.system_parts.specs.declared.instance.Progress.{Progress}
+use Rattle.system_parts.specs.declared.instance.Progress.TheVariants.{Accepted}
+use Rattle.system_parts.specs.declared.buckets.Verdict.{Verdict}
+use Rattle.system_parts.specs.declared.buckets.Verdict.TheVariants.{Free}
+use Rattle.system_parts.specs.Buckets.{Bucket, verdict_both}
+use Rattle.system_parts.specs.Instance.{InstanceEntry, held_of}
+use Rattle.system_parts.specs.InstanceSteps.{InstanceStep, no_request, decide_by as decided}
+use Rattle.system_parts.specs.InstanceLaws.{stamp_of}
 use Rattle.machine.specs.State.{Client}
 use Rattle.machine.specs.Effect.{Effect, done, refused, refused_once}
 use Rattle.machine.specs.Clients.{after_refusal}

@@ -10,11 +10,11 @@ use Rattle.history_book.specs.declared.cause.Cause.TheVariants as cause
 use Rattle.history_book.specs.declared.item.Actor.TheVariants.{Node}
 use Rattle.history_book.specs.declared.item.Item.{Item}
 use Rattle.history_book.specs.declared.item.Item.TheVariants.{Extend}
-use Rattle.store_parts.specs.declared.record.ExtendRefused.{ExtendRefused}
-use Rattle.store_parts.specs.declared.record.ExtendRefused.TheVariants.{StoreFault, Replaced, Spent}
-use Rattle.store_parts.specs.Record.{Leasing, MasterRecord, extend_refused, extended, answered}
-use Rattle.oracle_parts.specs.Instance.{InstanceEntry}
-use Rattle.oracle_parts.specs.InstanceSteps.{instance_widened, instance_stopped}
+use Rattle.system_parts.specs.declared.record.ExtendRefused.{ExtendRefused}
+use Rattle.system_parts.specs.declared.record.ExtendRefused.TheVariants.{StoreFault, Replaced, Spent}
+use Rattle.system_parts.specs.Record.{Leasing, MasterRecord, extend_refused, extended, answered}
+use Rattle.system_parts.specs.Instance.{InstanceEntry}
+use Rattle.system_parts.specs.InstanceSteps.{instance_widened, instance_stopped}
 use Rattle.machine.specs.Effect.{Effect, done, refused, faulted, kept_items}
 use Rattle.machine.specs.Events.Take.{rules_of}
 

@@ -14,12 +14,12 @@ use Rattle.history_book.specs.declared.item.Found.{Found}
 use Rattle.history_book.specs.declared.item.StoreStep.TheVariants as step
 use Rattle.history_book.specs.declared.item.Item.{Item}
 use Rattle.history_book.specs.declared.item.Item.TheVariants as item
-use Rattle.store_parts.specs.declared.rows.Cell.{Cell}
-use Rattle.store_parts.specs.Rows.{Row, fetched, front_of}
-use Rattle.client_parts.specs.SessionSteps.{work_refusal, has_key, key_added, key_refusal}
-use Rattle.client_parts.specs.KeyRead.{ReadTurn, Asks, Answers}
-use Rattle.client_parts.specs.Cache.{put_fresh}
-use Rattle.client_parts.specs.Recalled.{Remembering, recalled_over}
+use Rattle.system_parts.specs.declared.rows.Cell.{Cell}
+use Rattle.system_parts.specs.Rows.{Row, fetched, front_of}
+use Rattle.system_parts.specs.SessionSteps.{work_refusal, has_key, key_added, key_refusal}
+use Rattle.system_parts.specs.KeyRead.{ReadTurn, Asks, Answers}
+use Rattle.system_parts.specs.Cache.{put_fresh}
+use Rattle.system_parts.specs.Recalled.{Remembering, recalled_over}
 use Rattle.machine.specs.State.{Client, Nothing, Reads}
 use Rattle.machine.specs.Effect.{Effect, done, refused, faulted}
 use Rattle.machine.specs.Clients.{is_reading}

@@ -11,7 +11,7 @@ use Rattle.history_book.specs.declared.cause.Cause.TheVariants as cause
 use Rattle.history_book.specs.declared.item.Actor.TheVariants.{Session}
 use Rattle.history_book.specs.declared.item.StoreStep.TheVariants.{PutFound}
 use Rattle.history_book.specs.declared.item.Item.TheVariants as item
-use Rattle.store_parts.specs.Pairs.{Pairs, mark_of, put_pair}
+use Rattle.system_parts.specs.Pairs.{Pairs, mark_of, put_pair}
 use Rattle.machine.specs.State.{Client}
 use Rattle.machine.specs.Effect.{Effect, Refuses, Faults, done, kept_items}
 use Rattle.machine.specs.Clients.{client_aborted, client_committed, client_opened}

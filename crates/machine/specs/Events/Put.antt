@@ -12,15 +12,15 @@ use Rattle.history_book.specs.declared.cause.Cause.TheVariants as cause
 use Rattle.history_book.specs.declared.item.Actor.TheVariants.{Node}
 use Rattle.history_book.specs.declared.item.StoreStep.TheVariants.{PutFound}
 use Rattle.history_book.specs.declared.item.Item.TheVariants as item
-use Rattle.store_parts.specs.Pairs.{Pairs, mark_of, put_pair}
-use Rattle.oracle_parts.specs.declared.instance.Held.{Held}
-use Rattle.oracle_parts.specs.declared.instance.Progress.{Progress}
-use Rattle.oracle_parts.specs.declared.instance.Progress.TheVariants.{Drawn}
-use Rattle.oracle_parts.specs.declared.instance.Request.{Request}
-use Rattle.oracle_parts.specs.declared.instance.Request.TheVariants.{Commit}
-use Rattle.oracle_parts.specs.declared.instance.Settled.TheVariants as how
-use Rattle.oracle_parts.specs.Instance.{InstanceEntry, held_of}
-use Rattle.oracle_parts.specs.InstanceSteps.{instance_settle}
+use Rattle.system_parts.specs.Pairs.{Pairs, mark_of, put_pair}
+use Rattle.system_parts.specs.declared.instance.Held.{Held}
+use Rattle.system_parts.specs.declared.instance.Progress.{Progress}
+use Rattle.system_parts.specs.declared.instance.Progress.TheVariants.{Drawn}
+use Rattle.system_parts.specs.declared.instance.Request.{Request}
+use Rattle.system_parts.specs.declared.instance.Request.TheVariants.{Commit}
+use Rattle.system_parts.specs.declared.instance.Settled.TheVariants as how
+use Rattle.system_parts.specs.Instance.{InstanceEntry, held_of}
+use Rattle.system_parts.specs.InstanceSteps.{instance_settle}
 use Rattle.machine.specs.Effect.{Effect, done, refused, faulted, kept_items}
 
 -- the start and the commit of a commit that was drawn and is not settled

@@ -9,11 +9,11 @@ use Rattle.history_book.specs.declared.cause.Cause.TheVariants as cause
 use Rattle.history_book.specs.declared.item.Actor.TheVariants.{Node}
 use Rattle.history_book.specs.declared.item.Item.{Item}
 use Rattle.history_book.specs.declared.item.Item.TheVariants.{Renew}
-use Rattle.store_parts.specs.declared.record.RenewRefused.{RenewRefused}
-use Rattle.store_parts.specs.declared.record.RenewRefused.TheVariants.{StoreFault, Replaced}
-use Rattle.store_parts.specs.Record.{Leasing, MasterRecord, renew_refused, renewed_until, renewed, answered}
-use Rattle.oracle_parts.specs.Instance.{InstanceEntry}
-use Rattle.oracle_parts.specs.InstanceSteps.{instance_renewed, instance_stopped}
+use Rattle.system_parts.specs.declared.record.RenewRefused.{RenewRefused}
+use Rattle.system_parts.specs.declared.record.RenewRefused.TheVariants.{StoreFault, Replaced}
+use Rattle.system_parts.specs.Record.{Leasing, MasterRecord, renew_refused, renewed_until, renewed, answered}
+use Rattle.system_parts.specs.Instance.{InstanceEntry}
+use Rattle.system_parts.specs.InstanceSteps.{instance_renewed, instance_stopped}
 use Rattle.machine.specs.Effect.{Effect, done, refused, faulted, kept_items}
 use Rattle.machine.specs.Events.Take.{rules_of}
 

@@ -9,18 +9,18 @@ use Rattle.history_book.specs.declared.item.Actor.TheVariants.{Session}
 use Rattle.history_book.specs.declared.item.Ending.TheVariants.{Dead as DeadEnd}
 use Rattle.history_book.specs.declared.item.Item.{Item}
 use Rattle.history_book.specs.declared.item.Item.TheVariants as item
-use Rattle.store_parts.specs.Rows.{Row}
-use Rattle.store_parts.specs.Pairs.{Pairs}
-use Rattle.client_parts.specs.declared.asks.Ask.{Ask}
-use Rattle.client_parts.specs.declared.asks.Told.{Told}
-use Rattle.client_parts.specs.declared.resolve.Outcome.TheVariants as outcome
-use Rattle.client_parts.specs.declared.session.State as state
-use Rattle.client_parts.specs.SessionSteps.{SessionEntry, step_refusal, handed_commit}
-use Rattle.client_parts.specs.Resolve.{Settling, own_settling, settle_ask, SettleTurn, Goes, Decides, settle_turn}
-use Rattle.client_parts.specs.KeyRead.{Reading, read_ask}
-use Rattle.client_parts.specs.Cache.{cache_learnt, learnt_by}
-use Rattle.client_parts.specs.Recalled.{Remembering, recalled_told}
-use Rattle.client_parts.specs.Completion.{first_ask}
+use Rattle.system_parts.specs.Rows.{Row}
+use Rattle.system_parts.specs.Pairs.{Pairs}
+use Rattle.system_parts.specs.declared.asks.Ask.{Ask}
+use Rattle.system_parts.specs.declared.asks.Told.{Told}
+use Rattle.system_parts.specs.declared.resolve.Outcome.TheVariants as outcome
+use Rattle.system_parts.specs.declared.session.State as state
+use Rattle.system_parts.specs.SessionSteps.{SessionEntry, step_refusal, handed_commit}
+use Rattle.system_parts.specs.Resolve.{Settling, own_settling, settle_ask, SettleTurn, Goes, Decides, settle_turn}
+use Rattle.system_parts.specs.KeyRead.{Reading, read_ask}
+use Rattle.system_parts.specs.Cache.{cache_learnt, learnt_by}
+use Rattle.system_parts.specs.Recalled.{Remembering, recalled_told}
+use Rattle.system_parts.specs.Completion.{first_ask}
 use Rattle.machine.specs.State.{UnderWay, Nothing, Reads, Settles, Completes, Client}
 use Rattle.machine.specs.Effect.{Effect, Faults, done, refused}
 use Rattle.machine.specs.StoreSteps.{Met, met, store_of}

@@ -2,8 +2,8 @@
 use Rattle.std.specs.Prelude.{ℕ, [], Option, None, Some}
 use Rattle.history_book.specs.declared.cause.Cause.TheVariants as cause
 use Rattle.history_book.specs.declared.item.Actor.TheVariants.{Janitor}
-use Rattle.client_parts.specs.Sweep.{Sweeping, sweep_open}
-use Rattle.oracle_parts.specs.Instance.{InstanceEntry}
+use Rattle.system_parts.specs.Sweep.{Sweeping, sweep_open}
+use Rattle.system_parts.specs.Instance.{InstanceEntry}
 use Rattle.machine.specs.Effect.{Effect, done, refused}
 
 abbrev pub sweep_open_at : ℕ → ℕ → Option InstanceEntry → Effect (Option Sweeping)

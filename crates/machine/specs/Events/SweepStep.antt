@@ -9,12 +9,12 @@ use Rattle.history_book.specs.declared.item.Actor.TheVariants.{Janitor}
 use Rattle.history_book.specs.declared.item.StoreStep.TheVariants as step
 use Rattle.history_book.specs.declared.item.Item.{Item}
 use Rattle.history_book.specs.declared.item.Item.TheVariants as item
-use Rattle.store_parts.specs.Rows.{Row, keys_of_version}
-use Rattle.store_parts.specs.Pairs.{Pairs}
-use Rattle.client_parts.specs.declared.asks.Ask.{Ask}
-use Rattle.client_parts.specs.declared.asks.Ask.TheVariants as ask
-use Rattle.client_parts.specs.declared.asks.Told.{Told}
-use Rattle.client_parts.specs.Sweep.{Sweeping, sweep_ask, sweep_told, sweep_listed, is_undecided}
+use Rattle.system_parts.specs.Rows.{Row, keys_of_version}
+use Rattle.system_parts.specs.Pairs.{Pairs}
+use Rattle.system_parts.specs.declared.asks.Ask.{Ask}
+use Rattle.system_parts.specs.declared.asks.Ask.TheVariants as ask
+use Rattle.system_parts.specs.declared.asks.Told.{Told}
+use Rattle.system_parts.specs.Sweep.{Sweeping, sweep_ask, sweep_told, sweep_listed, is_undecided}
 use Rattle.machine.specs.Effect.{Effect, Stop, Refuses, Faults, done, refused, faulted}
 use Rattle.machine.specs.StoreSteps.{Met, met, store_of}
 use Rattle.machine.specs.Events.Step.{store_asked}

@@ -10,11 +10,11 @@ use Rattle.history_book.specs.declared.cause.Cause.TheVariants as cause
 use Rattle.history_book.specs.declared.item.Actor.TheVariants.{Node}
 use Rattle.history_book.specs.declared.item.Item.{Item}
 use Rattle.history_book.specs.declared.item.Item.TheVariants.{Take}
-use Rattle.store_parts.specs.declared.record.Grant.{Grant}
-use Rattle.store_parts.specs.declared.record.TakeRefused.{TakeRefused}
-use Rattle.store_parts.specs.declared.record.TakeRefused.TheVariants.{StoreFault, Early, Spent}
-use Rattle.store_parts.specs.Record.{Leasing, MasterRecord, take_refused, granted, taken, answered}
-use Rattle.oracle_parts.specs.Instance.{InstanceEntry, instance_new}
+use Rattle.system_parts.specs.declared.record.Grant.{Grant}
+use Rattle.system_parts.specs.declared.record.TakeRefused.{TakeRefused}
+use Rattle.system_parts.specs.declared.record.TakeRefused.TheVariants.{StoreFault, Early, Spent}
+use Rattle.system_parts.specs.Record.{Leasing, MasterRecord, take_refused, granted, taken, answered}
+use Rattle.system_parts.specs.Instance.{InstanceEntry, instance_new}
 use Rattle.machine.specs.Effect.{Effect, done, refused, faulted, kept_items}
 
 -- the record's rules are the setup's

@@ -11,8 +11,8 @@ use Rattle.history_book.specs.declared.cause.Cause.{Cause}
 use Rattle.history_book.specs.declared.item.Actor.TheVariants.{Session}
 use Rattle.history_book.specs.declared.item.Ending.TheVariants.{Aborted}
 use Rattle.history_book.specs.declared.item.Item.TheVariants as item
-use Rattle.store_parts.specs.Rows.{Row, put_row}
-use Rattle.client_parts.specs.SessionSteps.{work_refusal, key_refusal, session_wrote}
+use Rattle.system_parts.specs.Rows.{Row, put_row}
+use Rattle.system_parts.specs.SessionSteps.{work_refusal, key_refusal, session_wrote}
 use Rattle.machine.specs.State.{Client}
 use Rattle.machine.specs.Effect.{Effect, Faults, done, refused}
 use Rattle.machine.specs.Clients.{is_reading, client_aborted}

@@ -8,10 +8,10 @@ use Rattle.history_book.specs.declared.cause.Cause.TheVariants.{Replaced, Spent}
 use Rattle.history_book.specs.declared.item.Actor.TheVariants.{Node}
 use Rattle.history_book.specs.declared.item.Item.{Item}
 use Rattle.history_book.specs.declared.item.Item.TheVariants as item
-use Rattle.store_parts.specs.Record.{take_refused, granted, held_by, is_spent, renewed_until}
-use Rattle.oracle_parts.specs.declared.instance.Held.{Held}
-use Rattle.oracle_parts.specs.Instance.{InstanceEntry, held_of, with_request}
-use Rattle.oracle_parts.specs.InstanceSteps.{instance_widened, instance_renewed, instance_stopped}
+use Rattle.system_parts.specs.Record.{take_refused, granted, held_by, is_spent, renewed_until}
+use Rattle.system_parts.specs.declared.instance.Held.{Held}
+use Rattle.system_parts.specs.Instance.{InstanceEntry, held_of, with_request}
+use Rattle.system_parts.specs.InstanceSteps.{instance_widened, instance_renewed, instance_stopped}
 use Rattle.machine.specs.State.{State}
 use Rattle.machine.specs.Events.Take.{rules_of, instance_of, take_item}
 use Rattle.machine.specs.FoundAt.{InstanceAt}

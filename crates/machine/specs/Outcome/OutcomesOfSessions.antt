@@ -2,8 +2,8 @@
 use Rattle.std.specs.Prelude.{[], ◌≡◌, ℕ, Bool, false, if◌then◌else◌, List, ◌∷◌, None, Some, ◌⊎◌, slice_set}
 use Rattle.history_book.specs.declared.item.Item.{Item}
 use Rattle.history_book.specs.declared.item.Item.TheVariants as item
-use Rattle.store_parts.specs.Rows.{Row, put_row, with_shadow}
-use Rattle.client_parts.specs.declared.session.State.TheVariants as phase
+use Rattle.system_parts.specs.Rows.{Row, put_row, with_shadow}
+use Rattle.system_parts.specs.declared.session.State.TheVariants as phase
 use Rattle.machine.specs.State.{Client, State}
 use Rattle.machine.specs.Clients.{is_reading, client_freed, client_aborted, client_vanished}
 use Rattle.machine.specs.Events.Write.{client_wrote}

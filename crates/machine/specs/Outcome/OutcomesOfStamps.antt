@@ -8,16 +8,16 @@ use Rattle.history_book.specs.declared.item.Actor.TheVariants.{Node, Session}
 use Rattle.history_book.specs.declared.item.StoreStep.TheVariants.{PutFound, Handed}
 use Rattle.history_book.specs.declared.item.Item.{Item}
 use Rattle.history_book.specs.declared.item.Item.TheVariants as item
-use Rattle.store_parts.specs.Pairs.{mark_of, put_pair}
-use Rattle.oracle_parts.specs.declared.buckets.Verdict.TheVariants.{Free}
-use Rattle.oracle_parts.specs.declared.instance.Held.{Held}
-use Rattle.oracle_parts.specs.declared.instance.Progress.TheVariants as progress
-use Rattle.oracle_parts.specs.declared.instance.Request.TheVariants.{Begin, Commit}
-use Rattle.oracle_parts.specs.declared.instance.Settled.{Settled}
-use Rattle.oracle_parts.specs.declared.instance.Settled.TheVariants as how
-use Rattle.oracle_parts.specs.Buckets.{verdict, record_pairs}
-use Rattle.oracle_parts.specs.Instance.{InstanceEntry, held_of, least_unsettled}
-use Rattle.oracle_parts.specs.InstanceSteps.{without_request, moved, drawn_as, pairs_by, request_verdict}
+use Rattle.system_parts.specs.Pairs.{mark_of, put_pair}
+use Rattle.system_parts.specs.declared.buckets.Verdict.TheVariants.{Free}
+use Rattle.system_parts.specs.declared.instance.Held.{Held}
+use Rattle.system_parts.specs.declared.instance.Progress.TheVariants as progress
+use Rattle.system_parts.specs.declared.instance.Request.TheVariants.{Begin, Commit}
+use Rattle.system_parts.specs.declared.instance.Settled.{Settled}
+use Rattle.system_parts.specs.declared.instance.Settled.TheVariants as how
+use Rattle.system_parts.specs.Buckets.{verdict, record_pairs}
+use Rattle.system_parts.specs.Instance.{InstanceEntry, held_of, least_unsettled}
+use Rattle.system_parts.specs.InstanceSteps.{without_request, moved, drawn_as, pairs_by, request_verdict}
 use Rattle.machine.specs.State.{Client, State}
 use Rattle.machine.specs.Clients.{client_begun, client_handed, client_aborted, client_committed, client_opened, unless_gone}
 use Rattle.machine.specs.Events.Decide.{draw_item}

@@ -4,10 +4,10 @@ use Rattle.history_book.specs.declared.item.Actor.TheVariants.{Janitor}
 use Rattle.history_book.specs.declared.item.StoreStep.TheVariants.{Keys as KeysStep}
 use Rattle.history_book.specs.declared.item.Item.{Item}
 use Rattle.history_book.specs.declared.item.Item.TheVariants as item
-use Rattle.store_parts.specs.Rows.{keys_of_version}
-use Rattle.client_parts.specs.declared.asks.Ask.{Ask}
-use Rattle.client_parts.specs.declared.asks.Ask.TheVariants.{Keys as KeysAsk}
-use Rattle.client_parts.specs.Sweep.{Sweeping, sweep_open, sweep_ask, sweep_told, sweep_listed}
+use Rattle.system_parts.specs.Rows.{keys_of_version}
+use Rattle.system_parts.specs.declared.asks.Ask.{Ask}
+use Rattle.system_parts.specs.declared.asks.Ask.TheVariants.{Keys as KeysAsk}
+use Rattle.system_parts.specs.Sweep.{Sweeping, sweep_open, sweep_ask, sweep_told, sweep_listed}
 use Rattle.machine.specs.State.{State}
 use Rattle.machine.specs.StoreSteps.{rows_after, pairs_after, told_by}
 use Rattle.machine.specs.Events.SweepStep.{sweep_left}

@@ -5,14 +5,14 @@ use Rattle.history_book.specs.declared.item.Actor.TheVariants.{Session}
 use Rattle.history_book.specs.declared.item.StoreStep.TheVariants as step
 use Rattle.history_book.specs.declared.item.Item.{Item}
 use Rattle.history_book.specs.declared.item.Item.TheVariants as item
-use Rattle.store_parts.specs.Rows.{fetched}
-use Rattle.store_parts.specs.Pairs.{Pairs, put_pair}
-use Rattle.client_parts.specs.declared.asks.Ask.{Ask}
-use Rattle.client_parts.specs.declared.session.State.TheVariants as phase
-use Rattle.client_parts.specs.Resolve.{Settling, settle_ask, settle_turn}
-use Rattle.client_parts.specs.KeyRead.{Reading, ReadTurn, read_ask}
-use Rattle.client_parts.specs.Cache.{put_fresh}
-use Rattle.client_parts.specs.Recalled.{Remembering}
+use Rattle.system_parts.specs.Rows.{fetched}
+use Rattle.system_parts.specs.Pairs.{Pairs, put_pair}
+use Rattle.system_parts.specs.declared.asks.Ask.{Ask}
+use Rattle.system_parts.specs.declared.session.State.TheVariants as phase
+use Rattle.system_parts.specs.Resolve.{Settling, settle_ask, settle_turn}
+use Rattle.system_parts.specs.KeyRead.{Reading, ReadTurn, read_ask}
+use Rattle.system_parts.specs.Cache.{put_fresh}
+use Rattle.system_parts.specs.Recalled.{Remembering}
 use Rattle.machine.specs.State.{UnderWay, Nothing, Reads, Settles, Completes, Client, State}
 use Rattle.machine.specs.Clients.{is_reading, client_freed}
 use Rattle.machine.specs.StoreSteps.{rows_after, pairs_after, told_by}

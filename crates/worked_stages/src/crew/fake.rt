@@ -1,16 +1,15 @@
 // What stands for the board: the lines of two actors, one of which waits for the other and for a stage.
 ghost use Rattle.std.specs.Prelude.{◌≤◌, ◌<◌, ◌^◌, All, IsTrue};
 ghost use Rattle.thread_steps.specs.Going.{GoesOn};
-ghost use Rattle.line_shares.specs.declared.cursor.Cursor.{Cursor};
+ghost use Rattle.thread_steps.specs.declared.cursor.Cursor.{Cursor};
 
 use history_book::Actor;
-use line_shares::{ActorShare, Cursor, Cursors};
 use script_data::{Line, Target, Verb};
 use stamp_base::{Name, NodeNo, SessionNo, Stage, Term};
 use std::sync::atomic::{AtomicBool, Ordering};
 use std::sync::ledger::Ledger;
 use std::sync::{Mutex, Wait};
-use thread_steps::{ActorStep, ActorSteps, StageStep, Steps};
+use thread_steps::{ActorShare, ActorStep, ActorSteps, Cursor, Cursors, StageStep, Steps};
 
 /// The session waits for a name that the clock posts, and asks the first node, whose request stage ends the request.
 #[derive(Drop)]

@@ -2,8 +2,8 @@
 ghost use Rattle.std.specs.Prelude.{◌≡◌};
 
 use super::fake::{Fake, lines, session};
+use actor_threads::play;
 use history_book::Actor;
-use line_shares::{ActorShare, Cursors};
 use reply_pipeline::OpenGate;
 use stamp_base::{Name, NoMemory, Setup};
 use std::alloc::Global;
@@ -12,7 +12,7 @@ use std::sync::Wait;
 use std::sync::ledger::{Blank, Ledger};
 use std::test::Fail;
 use std::thread::Threads;
-use thread_crew::play;
+use thread_steps::{ActorShare, Cursors};
 
 // How many lines of the session and of the clock were done, by the shares that come back.
 fn played<L: Ledger + Send + Sync, R: Threads + Wait + Sync>(

@@ -1,6 +1,6 @@
 use Rattle.std.proofs.Common.{◌≡◌, List, sym, subst, ap, ◌∙◌}
-use Rattle.store_parts.specs.Rows.{Row, without_bare}
-use Rattle.store_parts.proofs.RowVersions.{without_bare-put_row}
+use Rattle.system_parts.specs.Rows.{Row, without_bare}
+use Rattle.system_parts.proofs.RowVersions.{without_bare-put_row}
 use Rattle.cell_store.specs.Seen.{SeenCells}
 use Rattle.cell_store.proofs.IndexKeys.{index_entered, ranged_entered, index_same, ranged_same, IsIndexOf}
 use Rattle.cell_store.proofs.Cells.enter.Goals as goal

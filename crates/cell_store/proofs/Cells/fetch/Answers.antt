@@ -1,4 +1,4 @@
-use Rattle.store_parts.proofs.RowFetches.{fetched-falls, fetched-upto}
+use Rattle.system_parts.proofs.RowFetches.{fetched-falls, fetched-upto}
 use Rattle.cell_store.proofs.Cells.fetch.Goals as goal
 
 pub returns-clause-falling : goal.returns-clause-falling

@@ -1,6 +1,6 @@
 use Rattle.std.proofs.Common.{◌≤◌}
-use Rattle.store_parts.specs.declared.rows.Cell.{Cell}
-use Rattle.store_parts.proofs.RowFetches.{fetched-falls, fetched-upto, front-falls, front-all}
+use Rattle.system_parts.specs.declared.rows.Cell.{Cell}
+use Rattle.system_parts.proofs.RowFetches.{fetched-falls, fetched-upto, front-falls, front-all}
 use Rattle.cell_store.proofs.Cells.front.Goals as goal
 
 pub returns-clause-falling : goal.returns-clause-falling

@@ -1,4 +1,4 @@
-use Rattle.store_parts.proofs.RowVersions.{keys_of_version-ascend}
+use Rattle.system_parts.proofs.RowVersions.{keys_of_version-ascend}
 use Rattle.cell_store.proofs.Cells.keys_of.Goals as goal
 
 pub returns-clause-ascending : goal.returns-clause-ascending

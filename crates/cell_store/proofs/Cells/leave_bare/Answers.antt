@@ -1,7 +1,7 @@
 use Rattle.std.proofs.Common.{◌≡◌, sym, subst, ◌∙◌, List, None, IfSome, Option}
-use Rattle.store_parts.specs.declared.rows.Cell.{Cell}
-use Rattle.store_parts.specs.Rows.{Row, IsBare}
-use Rattle.store_parts.proofs.RowVersions.{without_bare_absent, without_bare_shadowed}
+use Rattle.system_parts.specs.declared.rows.Cell.{Cell}
+use Rattle.system_parts.specs.Rows.{Row, IsBare}
+use Rattle.system_parts.proofs.RowVersions.{without_bare_absent, without_bare_shadowed}
 use Rattle.cell_store.proofs.Shadows.{shadow_is_none, shadow_is_some, unwrapped}
 use Rattle.cell_store.proofs.IndexKeys.{index_left, ranged_left, IsIndexOf}
 use Rattle.cell_store.proofs.Cells.leave_bare.Goals as goal

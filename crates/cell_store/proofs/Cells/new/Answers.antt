@@ -1,5 +1,5 @@
 use Rattle.std.proofs.Common.{List, sym, subst}
-use Rattle.store_parts.specs.Rows.{Row}
+use Rattle.system_parts.specs.Rows.{Row}
 use Rattle.cell_store.proofs.IndexKeys.{IsIndexOf, index_of_none}
 use Rattle.cell_store.proofs.Cells.new.Goals as goal
 

@@ -1,6 +1,6 @@
 use Rattle.std.proofs.Common.{◌≤◌, drop, ap, ◌∙◌}
 use Rattle.std.specs.List.{All, insert}
-use Rattle.store_parts.specs.declared.rows.Cell.{Cell}
+use Rattle.system_parts.specs.declared.rows.Cell.{Cell}
 use Rattle.cell_store.specs.KeyLists.{rows_at, AreLowerBefore}
 use Rattle.cell_store.proofs.KeyRows.{gap_from_none, rows-inserted}
 use Rattle.cell_store.proofs.key_list.enter.Goals as goal

@@ -1,5 +1,5 @@
 use Rattle.std.proofs.Common.{Some, set, sym, ap, ◌∙◌}
-use Rattle.store_parts.specs.declared.rows.Cell.{Cell}
+use Rattle.system_parts.specs.declared.rows.Cell.{Cell}
 use Rattle.cell_store.specs.KeyLists.{rows_at, IsPlace}
 use Rattle.cell_store.proofs.KeyRows.{rows-shadow_at}
 use Rattle.cell_store.proofs.RowSplits.{shadow_absent}

@@ -1,7 +1,7 @@
 use Rattle.std.proofs.Common.{◌≡◌, ◌<◌, ◌==◌, false, length, get_or, sym, ap, ◌∙◌, arith}
 use Rattle.std.proofs.lemmas.Bool.{eqb-false}
 use Rattle.std.proofs.lemmas.List.{get_or_default}
-use Rattle.store_parts.specs.declared.rows.Cell.{Cell}
+use Rattle.system_parts.specs.declared.rows.Cell.{Cell}
 use Rattle.cell_store.proofs.KeyRows.{higher_from, looked-gap}
 use Rattle.cell_store.proofs.key_list.place_of.Goals.{else-at-cells-via-then-at-cells+else-eq, else-at-cells-via-else-at-cells}
 use Rattle.cell_store.proofs.key_list.place_of.Goals as goal

@@ -1,6 +1,6 @@
 use Rattle.std.proofs.Common.{Some, sym, ap, ◌∙◌}
-use Rattle.store_parts.specs.declared.rows.Cell.{Cell}
-use Rattle.store_parts.proofs.RowVersions.{without_bare_absent, without_bare_shadowed}
+use Rattle.system_parts.specs.declared.rows.Cell.{Cell}
+use Rattle.system_parts.proofs.RowVersions.{without_bare_absent, without_bare_shadowed}
 use Rattle.cell_store.specs.KeyLists.{rows_at, IsPlace}
 use Rattle.cell_store.proofs.KeyRows.{looked-place, rows-removed_at}
 use Rattle.cell_store.proofs.Shadows.{shadow_is_none, shadow_is_some, unwrapped}

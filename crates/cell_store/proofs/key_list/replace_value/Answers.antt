@@ -1,5 +1,5 @@
 use Rattle.std.proofs.Common.{is_some, set, sym, ap, ◌∙◌}
-use Rattle.store_parts.specs.declared.rows.Cell.{Cell}
+use Rattle.system_parts.specs.declared.rows.Cell.{Cell}
 use Rattle.cell_store.specs.KeyLists.{rows_at, IsPlace}
 use Rattle.cell_store.proofs.KeyRows.{rows-put_at}
 use Rattle.cell_store.proofs.key_list.replace_value.Goals as goal

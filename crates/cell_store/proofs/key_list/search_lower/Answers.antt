@@ -1,6 +1,6 @@
 use Rattle.std.proofs.Common.{ltb, rules}
 use Rattle.std.proofs.lemmas.List.Sorted.{IsPartitionPoint-from_clause, IsPartitionedBy-ltb}
-use Rattle.store_parts.specs.declared.rows.Cell.{Cell}
+use Rattle.system_parts.specs.declared.rows.Cell.{Cell}
 use Rattle.cell_store.proofs.KeyRows.{non_decreasing, lower_parts}
 use Rattle.cell_store.proofs.key_list.search_lower.Goals as goal
 

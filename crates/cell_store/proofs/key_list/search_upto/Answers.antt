@@ -1,6 +1,6 @@
 use Rattle.std.proofs.Common.{leb, rules}
 use Rattle.std.proofs.lemmas.List.Sorted.{IsPartitionPoint-from_clause, IsPartitionedBy-leb}
-use Rattle.store_parts.specs.declared.rows.Cell.{Cell}
+use Rattle.system_parts.specs.declared.rows.Cell.{Cell}
 use Rattle.cell_store.proofs.KeyRows.{fetched-upto_part, non_decreasing, upto_parts}
 use Rattle.cell_store.proofs.key_list.search_upto.Goals as goal
 

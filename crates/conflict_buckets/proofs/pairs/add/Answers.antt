@@ -1,5 +1,5 @@
 use Rattle.std.proofs.Common.{◌+◌, List, take, slice_set, refl, ap, ◌∙◌, arith}
-use Rattle.oracle_parts.specs.declared.buckets.Recorded.{Recorded}
+use Rattle.system_parts.specs.declared.buckets.Recorded.{Recorded}
 use Rattle.std.proofs.lemmas.List.{length-take-le}
 use Rattle.conflict_buckets.proofs.Places.{put-between}
 use Rattle.conflict_buckets.proofs.pairs.add.Goals as goal

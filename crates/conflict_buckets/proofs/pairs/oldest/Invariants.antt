@@ -1,5 +1,5 @@
 use Rattle.std.proofs.Common.{◌≡◌, drop}
-use Rattle.oracle_parts.specs.Buckets as memory
+use Rattle.system_parts.specs.Buckets as memory
 use Rattle.conflict_buckets.proofs.pairs.oldest.Given as goal
 
 abbrev pub invariant-loop-pair : goal.invariant-loop-pair

@@ -1,6 +1,6 @@
 use Rattle.std.proofs.Common.{◌≡◌, ◌++◌, take, drop}
-use Rattle.oracle_parts.specs.declared.buckets.Recorded.{Recorded}
-use Rattle.oracle_parts.specs.Buckets as memory
+use Rattle.system_parts.specs.declared.buckets.Recorded.{Recorded}
+use Rattle.system_parts.specs.Buckets as memory
 use Rattle.conflict_buckets.proofs.pairs.place_among.Given as goal
 
 abbrev pub invariant-loop-i : goal.invariant-loop-i

@@ -3,7 +3,7 @@ use Rattle.std.specs.List.{copy_within}
 use Rattle.std.proofs.lemmas.Bool.{eqb-true}
 use Rattle.std.proofs.lemmas.List.{length-append, length-take-le, length-drop}
 use Rattle.std.proofs.lemmas.Option.{slice_get_read}
-use Rattle.oracle_parts.specs.declared.buckets.Recorded.{Recorded}
+use Rattle.system_parts.specs.declared.buckets.Recorded.{Recorded}
 use Rattle.conflict_buckets.proofs.PairLemmas.{without-found}
 use Rattle.conflict_buckets.proofs.Places.{moved-over}
 use Rattle.conflict_buckets.proofs.pairs.remove.Goals as goal

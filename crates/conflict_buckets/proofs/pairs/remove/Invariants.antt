@@ -1,5 +1,5 @@
 use Rattle.std.proofs.Common.{◌≡◌, ◌++◌, take, drop, length}
-use Rattle.oracle_parts.specs.Buckets as memory
+use Rattle.system_parts.specs.Buckets as memory
 use Rattle.conflict_buckets.proofs.pairs.remove.Given as goal
 
 abbrev pub invariant-loop-i : goal.invariant-loop-i

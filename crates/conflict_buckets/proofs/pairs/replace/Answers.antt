@@ -1,7 +1,7 @@
 use Rattle.std.proofs.Common.{◌≡◌, refl, sym, ap, ◌∙◌, arith, slice_get, Some, length}
 use Rattle.std.proofs.lemmas.Bool.{eqb-true}
 use Rattle.std.proofs.lemmas.Option.{slice_get_read}
-use Rattle.oracle_parts.specs.declared.buckets.Recorded.{Recorded}
+use Rattle.system_parts.specs.declared.buckets.Recorded.{Recorded}
 use Rattle.conflict_buckets.proofs.PairLemmas.{replaced-found}
 use Rattle.conflict_buckets.proofs.pairs.replace.Goals as goal
 

@@ -1,6 +1,6 @@
 use Rattle.std.proofs.Common.{◌≡◌, ◌*◌, ◌+◌, ◌-◌, sym, ap, ◌∙◌, ℕ, take, drop, slice_index_or, arith}
-use Rattle.oracle_parts.specs.Buckets as memory
-use Rattle.oracle_parts.specs.Buckets.{Bucket}
+use Rattle.system_parts.specs.Buckets as memory
+use Rattle.system_parts.specs.Buckets.{Bucket}
 use Rattle.conflict_buckets.specs.declared.bucket.Head.{Head}
 use Rattle.conflict_buckets.proofs.RunLemmas.{bucket-of}
 use Rattle.conflict_buckets.proofs.runs.key_verdict.Goals as goal

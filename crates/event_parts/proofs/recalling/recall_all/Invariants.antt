@@ -1,5 +1,5 @@
 use Rattle.std.proofs.Common.{◌≡◌}
-use Rattle.client_parts.specs.KeyRead.{is_recall}
+use Rattle.system_parts.specs.KeyRead.{is_recall}
 use Rattle.event_parts.specs.Recalling.{Shows, remembers, recalls_left}
 use Rattle.event_parts.proofs.recalling.recall_all.Given as goal
 

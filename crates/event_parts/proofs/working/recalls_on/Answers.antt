@@ -1,7 +1,7 @@
 use Rattle.std.proofs.Common.{◌≡◌, refl, ap}
-use Rattle.client_parts.specs.KeyRead.{next_of as next_after, reading_left}
-use Rattle.client_parts.specs.Cache.{cache_learnt}
-use Rattle.client_parts.specs.Recalled.{Remembering}
+use Rattle.system_parts.specs.KeyRead.{next_of as next_after, reading_left}
+use Rattle.system_parts.specs.Cache.{cache_learnt}
+use Rattle.system_parts.specs.Recalled.{Remembering}
 use Rattle.client_txn.specs.Remembering.{SessionParts}
 use Rattle.event_parts.proofs.Recalls.{step_shows, step_said}
 use Rattle.event_parts.proofs.working.recalls_on.Goals as goal

@@ -2,7 +2,7 @@ use Rattle.std.proofs.Common.{Err, ap, sym, arith}
 use Rattle.std.specs.Prelude.{IsOkAnd, IsErrAnd}
 use Rattle.port_io.specs.Ports.{Gains}
 use Rattle.session_script.specs.Script.{script_of}
-use Rattle.script_lines.specs.declared.mode.Mode.TheVariants.{Replay}
+use Rattle.session_script.specs.declared.mode.Mode.TheVariants.{Replay}
 use Rattle.omid_top.specs.Compaction.{KeepsCompaction, compact_text, compact_told}
 use Rattle.omid_top.specs.Promise.{GainsFront}
 use Rattle.omid_top.specs.Texts.{bad_line_text}

@@ -2,8 +2,8 @@ use Rattle.std.proofs.Common.{Err, ap, sym, arith}
 use Rattle.std.specs.Prelude.{IsOkAnd, IsErrAnd}
 use Rattle.port_io.specs.Ports.{Gains}
 use Rattle.session_script.specs.Script.{script_of}
-use Rattle.script_lines.specs.declared.mode.Mode.TheVariants.{Replay}
-use Rattle.line_steps.specs.Runs.{replayed}
+use Rattle.session_script.specs.declared.mode.Mode.TheVariants.{Replay}
+use Rattle.command_semantics.specs.Runs.{replayed}
 use Rattle.omid_top.specs.Promise.{KeepsPromise, GainsFront, GainsLines, history_of}
 use Rattle.omid_top.specs.Texts.{bad_line_text, replay_text, text_in}
 use Rattle.omid_top.proofs.CommandLemmas.{replay_codes, named_codes, named_is_not_done, replays_silently, of_too_long}

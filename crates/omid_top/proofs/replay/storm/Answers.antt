@@ -2,7 +2,7 @@ use Rattle.std.proofs.Common.{subst}
 use Rattle.port_io.specs.Ports.{Gains}
 use Rattle.history_text.specs.Summary.{summarized}
 use Rattle.script_data.specs.Data.{ScriptData}
-use Rattle.line_steps.specs.Runs.{replayed}
+use Rattle.command_semantics.specs.Runs.{replayed}
 use Rattle.omid_top.specs.Promise.{KeepsPromise, GainsFront}
 use Rattle.omid_top.proofs.CommandLemmas.{storms_silently}
 use Rattle.omid_top.proofs.replay.storm.Goals as goal

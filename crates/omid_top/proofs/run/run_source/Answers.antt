@@ -2,7 +2,7 @@ use Rattle.std.proofs.Common.{Err, ap, sym, arith}
 use Rattle.std.specs.Prelude.{IsOkAnd, IsErrAnd}
 use Rattle.port_io.specs.Ports.{Gains}
 use Rattle.session_script.specs.Script.{script_of}
-use Rattle.script_lines.specs.declared.mode.Mode.TheVariants.{Run}
+use Rattle.session_script.specs.declared.mode.Mode.TheVariants.{Run}
 use Rattle.omid_top.specs.Promise.{WritesRun, IsCutRun}
 use Rattle.omid_top.specs.Texts.{bad_line_text}
 use Rattle.omid_top.proofs.CommandLemmas.{replay_codes, named_codes, named_is_not_done, runs_silently, of_too_long}

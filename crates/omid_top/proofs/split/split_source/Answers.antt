@@ -2,7 +2,7 @@ use Rattle.std.proofs.Common.{Err, ap, sym, arith}
 use Rattle.std.specs.Prelude.{IsOkAnd, IsErrAnd}
 use Rattle.port_io.specs.Ports.{Gains}
 use Rattle.session_script.specs.Script.{script_of}
-use Rattle.script_lines.specs.declared.mode.Mode.TheVariants.{Split}
+use Rattle.session_script.specs.declared.mode.Mode.TheVariants.{Split}
 use Rattle.omid_top.specs.Promise.{WritesSplit, WritesTorn, IsCutSplit}
 use Rattle.omid_top.specs.Texts.{bad_line_text, spent_text}
 use Rattle.omid_top.proofs.CommandLemmas.{split_codes, named_split_codes, named_is_no_split, named_is_not_done, named_is_not, splits_silently, of_too_long}

@@ -1,5 +1,5 @@
 use Rattle.std.proofs.Common.{◌≡◌, drop}
-use Rattle.oracle_parts.specs.Instance as entry
+use Rattle.system_parts.specs.Instance as entry
 use Rattle.oracle_core.proofs.requests.least_unsettled.Given as goal
 
 abbrev pub invariant-loop-held : goal.invariant-loop-held

@@ -1,6 +1,6 @@
 use Rattle.std.specs.Prelude.{◌≡◌, fold, drop, vec_len}
 use Rattle.cause_rules.specs.Since.{told_then}
-use Rattle.line_steps.specs.Master.{taken_by}
+use Rattle.command_semantics.specs.Master.{taken_by}
 use Rattle.planned_cluster.specs.Takes.{then_taken}
 use Rattle.planned_cluster.proofs.watched.note_takes.Given as goal
 

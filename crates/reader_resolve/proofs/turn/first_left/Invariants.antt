@@ -1,5 +1,5 @@
 use Rattle.std.proofs.Common.{◌≡◌, drop}
-use Rattle.client_parts.specs.KeyRead.{after_passed}
+use Rattle.system_parts.specs.KeyRead.{after_passed}
 use Rattle.reader_resolve.proofs.turn.first_left.Given as goal
 
 abbrev pub invariant-loop-i : goal.invariant-loop-i

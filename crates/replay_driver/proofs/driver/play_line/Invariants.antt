@@ -1,6 +1,6 @@
 use Rattle.port_io.specs.contracts.planned.PlannedWeatherWeather.TheImpl.{ahead-value}
 use Rattle.session_script.specs.Script.{data_of}
-use Rattle.line_steps.specs.Left.{left}
+use Rattle.command_semantics.specs.Left.{left}
 use Rattle.replay_driver.specs.Playing.{played_to}
 use Rattle.replay_driver.proofs.Running.{IsUnderWay}
 use Rattle.replay_driver.proofs.driver.play_line.Given as goal

@@ -1,7 +1,7 @@
 use Rattle.std.proofs.Common.{ap, ◌∙◌, arith, List, refl, subst, sym}
 use Rattle.history_book.specs.declared.item.Item.{Item}
-use Rattle.line_steps.specs.Answers.{Answers}
-use Rattle.line_steps.specs.Planned.{Planned}
+use Rattle.command_semantics.specs.Answers.{Answers}
+use Rattle.command_semantics.specs.Planned.{Planned}
 use Rattle.machine.specs.State.{State}
 use Rattle.cluster_core.specs.Whole.{Whole}
 use Rattle.session_script.specs.Script.{data_of}

@@ -1,5 +1,5 @@
 use Rattle.std.proofs.Common.{Bool, ◌||◌, sym, ap, ◌∙◌, arith, length-set}
-use Rattle.line_shares.specs.Done.{Done}
+use Rattle.thread_steps.specs.Done.{Done}
 use Rattle.run_driver.specs.declared.round.Round.{Round}
 use Rattle.run_driver.proofs.StillLemmas.{none_made, still_more}
 use Rattle.run_driver.proofs.rest.make_rest.Goals as goal

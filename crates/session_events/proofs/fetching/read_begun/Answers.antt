@@ -3,8 +3,8 @@ use Rattle.history_book.specs.declared.item.Actor.TheVariants.{Session}
 use Rattle.history_book.specs.declared.item.StoreStep.TheVariants.{Fetch}
 use Rattle.history_book.specs.declared.item.Item.{Item}
 use Rattle.history_book.specs.declared.item.Item.TheVariants.{Step}
-use Rattle.client_parts.specs.KeyRead.{next_of}
-use Rattle.client_parts.specs.Recalled.{Remembering, recalled_over}
+use Rattle.system_parts.specs.KeyRead.{next_of}
+use Rattle.system_parts.specs.Recalled.{Remembering, recalled_over}
 use Rattle.machine.specs.Events.Fetch.{read_items}
 use Rattle.event_parts.proofs.Recalls.{start_comes}
 use Rattle.session_events.proofs.fetching.read_begun.Goals as goal

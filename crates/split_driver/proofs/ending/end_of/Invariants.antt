@@ -1,7 +1,7 @@
 use Rattle.std.proofs.Common.{◌≡◌, take}
 use Rattle.std.specs.Prelude.{All}
 use Rattle.split_driver.specs.declared.ending.End.TheVariants.{Whole}
-use Rattle.split_driver.specs.declared.playing.Job.{Job}
+use Rattle.split_driver.specs.declared.jobs.Job.{Job}
 use Rattle.split_driver.specs.Actors.{IsThrough, IsSpentBy}
 use Rattle.split_driver.proofs.ending.end_of.Given as goal
 

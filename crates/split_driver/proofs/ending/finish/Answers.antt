@@ -1,7 +1,7 @@
 use Rattle.std.proofs.Common.{List, subst}
 use Rattle.session_script.specs.Script.{data_of}
 use Rattle.split_driver.specs.declared.ending.End.TheVariants.{Spent}
-use Rattle.split_driver.specs.declared.playing.Job.{Job}
+use Rattle.split_driver.specs.declared.jobs.Job.{Job}
 use Rattle.split_driver.specs.Actors.{IsSpentBy}
 use Rattle.split_driver.proofs.ActorLemmas.{seats_spent}
 use Rattle.split_driver.proofs.ending.finish.Goals as goal

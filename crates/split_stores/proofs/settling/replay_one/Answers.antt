@@ -1,6 +1,6 @@
 use Rattle.std.proofs.Common.{◌∙◌, sym, subst}
 use Rattle.machine.specs.declared.event.Event as machine
-use Rattle.line_steps.specs.Runs.{played}
+use Rattle.command_semantics.specs.Runs.{played}
 use Rattle.planned_cluster.specs.Standing.{StandsAt}
 use Rattle.port_io.specs.contracts.planned.PlannedWeatherWeather.TheImpl.{ahead-value}
 use Rattle.split_stores.proofs.ReplayLemmas.{same_items, event_is, items_since}

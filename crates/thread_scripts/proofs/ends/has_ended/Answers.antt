@@ -3,7 +3,7 @@ use Rattle.std.proofs.lemmas.Iterator.{YieldsList-from_slice}
 use Rattle.std.proofs.lemmas.Iterator.Consumers.{YieldsList-from_filter, count_from_yields_List}
 use Rattle.script_data.specs.declared.line.Line.{Line}
 use Rattle.session_script.specs.Script.{data_of}
-use Rattle.line_steps.specs.Answers.{same_actor}
+use Rattle.command_semantics.specs.Answers.{same_actor}
 use Rattle.turn_rules.specs.Seats.{lines_of}
 use Rattle.thread_scripts.proofs.ListEnd.{ends_at}
 use Rattle.thread_scripts.proofs.ends.has_ended.Goals as goal

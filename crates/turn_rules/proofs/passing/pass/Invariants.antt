@@ -1,5 +1,5 @@
 use Rattle.std.specs.Prelude.{◌-◌, length}
-use Rattle.line_steps.specs.Clocks.{clocks}
+use Rattle.command_semantics.specs.Clocks.{clocks}
 use Rattle.turn_rules.proofs.PassLines.{PassesOn}
 use Rattle.turn_rules.proofs.passing.pass.Given as goal
 

@@ -1,6 +1,6 @@
 use Rattle.std.proofs.Common.{◌≡◌, sym, ap, subst, ◌∙◌}
 use Rattle.std.specs.Prelude.{map}
-use Rattle.store_parts.specs.Rows.{AreOrdered}
+use Rattle.system_parts.specs.Rows.{AreOrdered}
 use Rattle.cell_store.specs.AtRest.{row_of}
 use Rattle.cell_compaction.specs.Rest.{with_commits}
 use Rattle.cell_compaction.proofs.MemberRows.{filled_ordered}

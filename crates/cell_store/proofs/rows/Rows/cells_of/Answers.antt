@@ -1,6 +1,6 @@
 use Rattle.std.proofs.Common.{sym, ap, ◌∙◌}
 use Rattle.std.specs.Option.{option_copied}
-use Rattle.store_parts.specs.Rows.{fetched, looked}
+use Rattle.system_parts.specs.Rows.{fetched, looked}
 use Rattle.cell_store.proofs.RowSplits.{look_is_asked, fetch_is_asked}
 use Rattle.cell_store.proofs.MapRows.{asked_there, asked_none, rising_there}
 use Rattle.cell_store.proofs.rows.Rows.cells_of.Goals as goal

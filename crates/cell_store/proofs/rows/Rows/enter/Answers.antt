@@ -1,8 +1,8 @@
 use Rattle.std.proofs.Common.{◌≡◌, ℕ, [], List, None, Result, ◌⊎◌, inl, inr, OnOk, OnErr, Ok, Err, sym, subst, ap, ◌∙◌}
 use Rattle.std.specs.Option.{option_copied_mut}
 use Rattle.std.proofs.lemmas.Result.{on_ok_weaker, on_err_weaker}
-use Rattle.store_parts.specs.Rows.{Row, looked, put_row, AreOrdered}
-use Rattle.store_parts.proofs.RowLaws.{ordered-put}
+use Rattle.system_parts.specs.Rows.{Row, looked, put_row, AreOrdered}
+use Rattle.system_parts.proofs.RowLaws.{ordered-put}
 use Rattle.cell_store.specs.KeyLists.{rows_at, rows_of}
 use Rattle.cell_store.proofs.RowSplits.{look_is_asked, nothing_is_edit, put_is_edit, put-behind}
 use Rattle.cell_store.proofs.MapRows.{asked_there, rising_there, rows_of-set_value, rows_of-insert_entry}

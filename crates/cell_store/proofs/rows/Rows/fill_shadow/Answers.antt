@@ -1,7 +1,7 @@
 use Rattle.std.proofs.Common.{◌≡◌, List, sym, subst, ap, ◌∙◌}
 use Rattle.std.specs.Option.{option_copied_mut}
-use Rattle.store_parts.specs.Rows.{Row, looked, with_shadow, AreOrdered}
-use Rattle.store_parts.proofs.RowLaws.{ordered-shadow}
+use Rattle.system_parts.specs.Rows.{Row, looked, with_shadow, AreOrdered}
+use Rattle.system_parts.proofs.RowLaws.{ordered-shadow}
 use Rattle.cell_store.specs.KeyLists.{rows_of}
 use Rattle.cell_store.proofs.RowSplits.{look_is_asked, looked-none, shadow_absent, shadow_is_edit}
 use Rattle.cell_store.proofs.MapRows.{asked_none, rising_there, rows_of-set_value}

@@ -1,8 +1,8 @@
 use Rattle.std.proofs.Common.{◌≡◌, List, sym, subst, ap, ◌∙◌}
 use Rattle.std.specs.Option.{option_copied_mut}
-use Rattle.store_parts.specs.Rows.{Row, looked, without_bare, AreOrdered}
-use Rattle.store_parts.proofs.RowLaws.{ordered-without}
-use Rattle.store_parts.proofs.RowVersions.{without_bare_absent}
+use Rattle.system_parts.specs.Rows.{Row, looked, without_bare, AreOrdered}
+use Rattle.system_parts.proofs.RowLaws.{ordered-without}
+use Rattle.system_parts.proofs.RowVersions.{without_bare_absent}
 use Rattle.cell_store.specs.KeyLists.{rows_of}
 use Rattle.cell_store.proofs.RowSplits.{look_is_asked, looked-none, without_is_edit}
 use Rattle.cell_store.proofs.MapRows.{asked_none, rising_there, rows_of-set_value}

@@ -1,7 +1,7 @@
 use Rattle.std.proofs.Common.{◌≡◌, List, is_some, IsSome, sym, subst, ap, ◌∙◌}
 use Rattle.std.specs.Option.{option_copied_mut}
-use Rattle.store_parts.specs.Rows.{Row, looked, put_row, AreOrdered}
-use Rattle.store_parts.proofs.RowLaws.{ordered-put}
+use Rattle.system_parts.specs.Rows.{Row, looked, put_row, AreOrdered}
+use Rattle.system_parts.proofs.RowLaws.{ordered-put}
 use Rattle.cell_store.specs.KeyLists.{rows_of}
 use Rattle.cell_store.proofs.RowSplits.{look_is_asked, looked-none, put_is_edit}
 use Rattle.cell_store.proofs.MapRows.{asked_none, asked_there, rising_there, rows_of-set_value}

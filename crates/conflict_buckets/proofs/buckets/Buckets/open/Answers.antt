@@ -1,5 +1,5 @@
 use Rattle.std.proofs.Common.{refl, sym, subst, ap, ◌∙◌, List, arith}
-use Rattle.oracle_parts.specs.Buckets.{record_pairs}
+use Rattle.system_parts.specs.Buckets.{record_pairs}
 use Rattle.conflict_buckets.specs.declared.bucket.Head.{Head}
 use Rattle.conflict_buckets.specs.Runs.{buckets_in}
 use Rattle.conflict_buckets.specs.Sound.{AreSound}

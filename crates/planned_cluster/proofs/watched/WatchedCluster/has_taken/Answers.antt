@@ -1,5 +1,5 @@
 use Rattle.std.proofs.Common.{◌<◌, ◌∙◌, ap, arith}
-use Rattle.line_steps.specs.Master.{has_take}
+use Rattle.command_semantics.specs.Master.{has_take}
 use Rattle.cluster_core.specs.Whole.{Whole}
 use Rattle.planned_cluster.proofs.TakeFlags.{told_flag, flags_long}
 use Rattle.planned_cluster.proofs.watched.WatchedCluster.has_taken.Goals as goal

@@ -1,13 +1,13 @@
 use Rattle.std.proofs.Common.{ℕ, List, sym, ap, ◌∙◌, subst}
 use Rattle.history_book.specs.declared.item.Actor.{Actor}
-use Rattle.line_shares.specs.declared.cursor.Cursor.{Cursor}
+use Rattle.thread_steps.specs.declared.cursor.Cursor.{Cursor}
 use Rattle.thread_scripts.proofs.Behind.{can_come_up}
-use Rattle.turn_engine.specs.Steps.{place_of, Advances}
-use Rattle.line_shares.specs.Done.{caught_up}
+use Rattle.run_board.specs.Steps.{place_of, Advances}
+use Rattle.thread_steps.specs.Done.{caught_up}
 use Rattle.run_board.specs.Playing as playing
 use Rattle.run_board.specs.Playing.{Played, Counts, IsKeptPlay}
 use Rattle.run_board.proofs.Advancing.{advances}
-use Rattle.run_board.proofs.Kept.{kept_further, place_is_small, kept_up}
+use Rattle.run_board.proofs.PlayKept.{kept_further, place_is_small, kept_up}
 use Rattle.run_board.proofs.Counted.{counted_advanced}
 use Rattle.run_board.proofs.play.Play.advance.Goals as goal
 

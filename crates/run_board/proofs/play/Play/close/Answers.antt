@@ -1,6 +1,6 @@
 use Rattle.script_data.specs.Data.{ScriptData}
-use Rattle.line_steps.specs.Answers.{AnswersOnThreads}
-use Rattle.line_steps.specs.Planned.{Planned}
+use Rattle.command_semantics.specs.Answers.{AnswersOnThreads}
+use Rattle.command_semantics.specs.Planned.{Planned}
 use Rattle.run_board.specs.Playing.{IsResult}
 use Rattle.run_board.proofs.Closing.{AreOf, result_at_end, answered_at_end, planned_at_end, of_parts}
 use Rattle.run_board.proofs.play.Play.close.Goals as goal

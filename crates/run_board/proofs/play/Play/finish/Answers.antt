@@ -1,6 +1,6 @@
 use Rattle.std.proofs.Common.{refl, subst}
 use Rattle.script_data.specs.Data.{ScriptData}
-use Rattle.line_steps.specs.Answers.{AnswersOnThreads}
+use Rattle.command_semantics.specs.Answers.{AnswersOnThreads}
 use Rattle.run_board.proofs.play.Play.finish.Goals as goal
 
 pub returns-clause-answered : goal.returns-clause-answered

@@ -1,5 +1,5 @@
 use Rattle.std.proofs.Common.{◌∙◌, ap}
-use Rattle.turn_engine.specs.Steps.{state_of, has_turn}
+use Rattle.run_board.specs.Steps.{state_of, has_turn}
 use Rattle.run_board.specs.Playing.{Played}
 use Rattle.run_board.proofs.play.Play.has_turn.Goals as goal
 

@@ -1,8 +1,8 @@
 use Rattle.std.proofs.Common.{subst}
 use Rattle.turn_rules.specs.Laws.{IsPlannedSoFar}
 use Rattle.thread_scripts.specs.Actors.{AreBehind}
-use Rattle.turn_engine.specs.Run.{reached_by}
-use Rattle.turn_engine.specs.Steps.{place_of}
+use Rattle.run_board.specs.Run.{reached_by}
+use Rattle.run_board.specs.Steps.{place_of}
 use Rattle.run_board.specs.Playing.{Played, AreCounted}
 use Rattle.run_board.specs.SoFar.{AreAnsweredSoFar}
 use Rattle.run_board.proofs.SoFar.{answered_so_far, planned_so_far}

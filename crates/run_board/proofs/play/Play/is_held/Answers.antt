@@ -1,5 +1,5 @@
 use Rattle.std.proofs.Common.{◌∙◌, ap}
-use Rattle.turn_engine.specs.Steps.{IsStageHeld}
+use Rattle.run_board.specs.Steps.{IsStageHeld}
 use Rattle.run_board.specs.Playing.{Played}
 use Rattle.run_board.proofs.play.Play.is_held.Goals as goal
 

@@ -1,4 +1,4 @@
-use Rattle.run_board.proofs.Kept.{kept_further}
+use Rattle.run_board.proofs.PlayKept.{kept_further}
 use Rattle.run_board.proofs.Counted.{counted_served}
 use Rattle.run_board.proofs.play.Play.stage_step.Goals as goal
 

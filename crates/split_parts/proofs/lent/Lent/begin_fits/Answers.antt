@@ -1,6 +1,6 @@
 use Rattle.std.proofs.Common.{◌≡◌, sym, arith}
 use Rattle.std.specs.Prelude.{IsTrue}
-use Rattle.client_parts.specs.declared.session.State.TheVariants.{Free}
+use Rattle.system_parts.specs.declared.session.State.TheVariants.{Free}
 use Rattle.machine.specs.Calls.{HoldsNone}
 use Rattle.split_parts.specs.Parts.{seen}
 use Rattle.split_parts.proofs.FoundParts.{of_turned}

@@ -1,6 +1,6 @@
 use Rattle.std.proofs.Common.{sym, arith}
 use Rattle.std.specs.Prelude.{IfSome, IsTrue}
-use Rattle.store_parts.specs.Rows.{HasOnly}
+use Rattle.system_parts.specs.Rows.{HasOnly}
 use Rattle.machine.specs.State.{Client}
 use Rattle.machine.specs.Events.Heal.{offer_of}
 use Rattle.split_parts.specs.Parts.{filled, seen}

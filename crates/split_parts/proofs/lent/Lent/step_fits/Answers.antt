@@ -1,6 +1,6 @@
 use Rattle.std.proofs.Common.{◌≡◌, refl, sym, arith, None}
 use Rattle.std.specs.Prelude.{IsTrue}
-use Rattle.client_parts.specs.SessionSteps.{handed_commit}
+use Rattle.system_parts.specs.SessionSteps.{handed_commit}
 use Rattle.machine.specs.State.{Client}
 use Rattle.machine.specs.Calls.{KeepsShadowNext, MayStep}
 use Rattle.machine.specs.Events.Step.{next_of, work_of}

@@ -1,7 +1,7 @@
 use Rattle.std.proofs.Common.{◌≡◌, sym, arith}
 use Rattle.std.specs.Prelude.{IfSome, IsTrue}
-use Rattle.store_parts.specs.Rows.{IsBare}
-use Rattle.client_parts.specs.declared.session.State.TheVariants.{Open}
+use Rattle.system_parts.specs.Rows.{IsBare}
+use Rattle.system_parts.specs.declared.session.State.TheVariants.{Open}
 use Rattle.machine.specs.State.{Client}
 use Rattle.split_parts.specs.Parts.{filled, seen}
 use Rattle.split_parts.proofs.FoundParts.{of_client}

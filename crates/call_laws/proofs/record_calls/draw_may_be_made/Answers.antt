@@ -1,5 +1,0 @@
-use Rattle.call_laws.proofs.RecordCalls.{draws_fit}
-use Rattle.call_laws.proofs.record_calls.draw_may_be_made.Goals as goal
-
-pub returns : goal.returns
-returns c = draws_fit

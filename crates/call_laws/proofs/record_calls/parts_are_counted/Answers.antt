@@ -1,5 +1,0 @@
-use Rattle.call_laws.proofs.RecordCalls.{counted}
-use Rattle.call_laws.proofs.record_calls.parts_are_counted.Goals as goal
-
-pub returns : goal.returns
-returns c = counted

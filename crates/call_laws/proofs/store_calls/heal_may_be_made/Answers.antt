@@ -1,5 +1,0 @@
-use Rattle.call_laws.proofs.StoreCalls.{heals_only}
-use Rattle.call_laws.proofs.store_calls.heal_may_be_made.Goals as goal
-
-pub returns : goal.returns
-returns c = heals_only

@@ -1,5 +1,0 @@
-use Rattle.call_laws.proofs.StoreCalls.{sweeps_ask}
-use Rattle.call_laws.proofs.store_calls.sweep_may_step.Goals as goal
-
-pub returns : goal.returns
-returns c = sweeps_ask

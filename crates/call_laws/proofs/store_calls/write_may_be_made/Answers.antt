@@ -1,5 +1,0 @@
-use Rattle.call_laws.proofs.StoreCalls.{writes_bare}
-use Rattle.call_laws.proofs.store_calls.write_may_be_made.Goals as goal
-
-pub returns : goal.returns
-returns c = writes_bare

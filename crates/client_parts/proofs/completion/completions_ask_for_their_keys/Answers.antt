@@ -1,5 +1,0 @@
-use Rattle.client_parts.proofs.CompletionLemmas.{asks_for_their_keys}
-use Rattle.client_parts.proofs.completion.completions_ask_for_their_keys.Goals as goal
-
-pub returns : goal.returns
-returns c = asks_for_their_keys

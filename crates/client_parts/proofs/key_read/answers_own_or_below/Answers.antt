@@ -1,5 +1,0 @@
-use Rattle.client_parts.proofs.KeyReadLemmas.{answers_own_or_below}
-use Rattle.client_parts.proofs.key_read.answers_own_or_below.Goals as goal
-
-pub returns : goal.returns
-returns c = answers_own_or_below

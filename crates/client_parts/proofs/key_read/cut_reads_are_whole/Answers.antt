@@ -1,5 +1,0 @@
-use Rattle.client_parts.proofs.CutReadLemmas.{cut_reads_are_whole}
-use Rattle.client_parts.proofs.key_read.cut_reads_are_whole.Goals as goal
-
-pub returns : goal.returns
-returns c = cut_reads_are_whole

@@ -1,5 +1,0 @@
-use Rattle.client_parts.proofs.KeyReadLemmas.{passed_front}
-use Rattle.client_parts.proofs.key_read.passed_are_late.Goals as goal
-
-pub returns : goal.returns
-returns c = passed_front

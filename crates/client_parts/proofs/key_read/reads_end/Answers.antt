@@ -1,5 +1,0 @@
-use Rattle.client_parts.proofs.KeyReadLemmas.{reads_end}
-use Rattle.client_parts.proofs.key_read.reads_end.Goals as goal
-
-pub returns : goal.returns
-returns c = reads_end

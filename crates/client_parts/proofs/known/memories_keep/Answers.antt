@@ -1,5 +1,0 @@
-use Rattle.client_parts.proofs.CacheLemmas.{memories_keep}
-use Rattle.client_parts.proofs.known.memories_keep.Goals as goal
-
-pub returns : goal.returns
-returns c = memories_keep

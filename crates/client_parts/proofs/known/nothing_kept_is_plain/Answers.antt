@@ -1,5 +1,0 @@
-use Rattle.client_parts.proofs.RecalledReadLemmas.{nothing_kept_is_plain}
-use Rattle.client_parts.proofs.known.nothing_kept_is_plain.Goals as goal
-
-pub returns : goal.returns
-returns c = nothing_kept_is_plain

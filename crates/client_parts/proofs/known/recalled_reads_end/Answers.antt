@@ -1,5 +1,0 @@
-use Rattle.client_parts.proofs.RecalledReadLemmas.{recalled_reads_end}
-use Rattle.client_parts.proofs.known.recalled_reads_end.Goals as goal
-
-pub returns : goal.returns
-returns c = recalled_reads_end

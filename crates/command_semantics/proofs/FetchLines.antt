@@ -1,0 +1,106 @@
+-- For turn_rules too.
+-- The fetch of a read line answers it; and then the read has ended, or is under way.
+use Rattle.std.proofs.Common.{◌≡◌, ℕ, Bool, true, false, cond, nat_lt, ◌||◌, List, [], ◌∷◌, Option, Some, None, ◌⊎◌, inl, inr, refl, sym, subst, length}
+use Rattle.std.specs.Option.{option_or}
+use Rattle.stamp_base.specs.declared.limits.TheConstants.{KEY_LIMIT}
+use Rattle.port_io.specs.declared.weather.Fate.{Fate}
+use Rattle.port_io.specs.declared.weather.Fate.TheVariants.{Works, FailsUnchanged, FailsApplied}
+use Rattle.history_book.specs.declared.cause.Cause.{Cause}
+use Rattle.history_book.specs.declared.cause.Cause.TheVariants as cause
+use Rattle.history_book.specs.declared.item.Actor.TheVariants.{Session}
+use Rattle.history_book.specs.declared.item.StoreStep.TheVariants as step
+use Rattle.history_book.specs.declared.item.Item.{Item}
+use Rattle.history_book.specs.declared.item.Item.TheVariants as item
+use Rattle.stamp_base.specs.declared.stores.Store.{Store}
+use Rattle.system_parts.specs.Rows.{fetched, front_of}
+use Rattle.system_parts.specs.declared.session.State.{State as SessionState}
+use Rattle.system_parts.specs.declared.session.State.TheVariants as phase
+use Rattle.system_parts.specs.KeyRead.{ReadTurn, Asks, Answers}
+use Rattle.system_parts.specs.Cache.{put_fresh}
+use Rattle.system_parts.specs.SessionSteps.{work_refusal, has_key}
+use Rattle.machine.specs.declared.event.Event.TheVariants as event
+use Rattle.machine.specs.State.{Client, State}
+use Rattle.machine.specs.Clients.{is_reading}
+use Rattle.machine.specs.Machine.{Step, step_by, with_client, at_client, stepped}
+use Rattle.machine.specs.Events.Fetch.{fetch_recall, marks_every, keeps_read, reads_refusal, client_fetched, found_of, client_read, read_items, fetch_open, fetch_on}
+use Rattle.script_data.specs.declared.line.Verb.TheVariants as verb
+use Rattle.isolation_laws.specs.Words.{ClientAt}
+use Rattle.isolation_laws.specs.Sound.{Stands}
+use Rattle.machine.proofs.Lookups.{set_found}
+use Rattle.command_semantics.specs.Answers.{RefusesLine, IsFetch, IsRefusal, read_begun}
+use Rattle.command_semantics.proofs.Fitting.{fit_at}
+use Rattle.command_semantics.proofs.AlwaysFit.{Fit}
+use Rattle.command_semantics.proofs.WorkItems.{HasNumber, starts}
+use Rattle.command_semantics.proofs.Walks.{AllNot, LineItems}
+use Rattle.command_semantics.proofs.ReadLines.{OfRead, over_recalls, ReadsKey, read_pays}
+
+-- what answers a read line
+abbrev pub ReadAnswer : ℕ → ℕ → Item → Type 0
+ReadAnswer s key x = IsFetch s key x ⊎ IsRefusal (Session s) x ⊎ ⊥
+
+-- the items so far: the first has begun a read of the key, which is under way
+pub record ReadBegun (w : State) (s key : ℕ) (xs : List Item) : Type 0 where
+  pub first : Item
+  pub rest : List Item
+  pub is : xs ≡ first ∷ rest
+  pub answers : ReadAnswer s key first
+  pub begun : read_begun (verb.Read key) first ≡ Some key
+  pub none : AllNot (Session s) rest
+  pub reads : ReadsKey w s key
+
+-- after the fetch
+abbrev pub FetchDone : ℕ → ℕ → Step → Type 0
+FetchDone s key step = LineItems (ReadAnswer s key) (Session s) (verb.Read key) step.items ⊎ (ReadBegun step.state s key step.items × (step.stop ≡ None))
+
+refusal_line : (s key : ℕ) (why : Cause) → RefusesLine (Session s) why → LineItems (ReadAnswer s key) (Session s) (verb.Read key) (item.Refused (Session s) why ∷ [])
+unfolding AllNot
+refusal_line s key why refuses = record { first = item.Refused (Session s) why; rest = []; is = refl; answers = inr (inl (refl, refuses)); behind = tt }
+
+fault_line : (s key : ℕ) (store : Store) → LineItems (ReadAnswer s key) (Session s) (verb.Read key) (item.Fault (Session s) store ∷ [])
+unfolding AllNot
+fault_line s key store = record { first = item.Fault (Session s) store; rest = []; is = refl; answers = inr (inl refl); behind = tt }
+
+turn_done : (w : State) (s key start cells : ℕ) (was c : Client) (turn : ReadTurn) → ClientAt w.clients s was → c.entry.state ≡ phase.Open → OfRead key start turn → FetchDone s key (record { state = with_client w s (client_read c turn); items = item.Step (Session s) (step.Fetch key cells) ∷ read_items s start key turn; stop = None })
+unfolding AllNot
+turn_done w s key start cells was c (Asks r) at is_open same = inr (
+  record {
+    first = item.Step (Session s) (step.Fetch key cells);
+    rest = [];
+    is = refl;
+    answers = inl (refl, refl);
+    begun = refl;
+    none = tt;
+    reads = record { c = client_read c (Asks r); at = set_found w.clients s (client_read c (Asks r)) was at; work = record { r = r; is_open = is_open; under_way = refl }; key_is = same.0 };
+  },
+  refl,
+)
+turn_done w s key start cells was c (Answers a) at is_open same = inl (record {
+  first = item.Step (Session s) (step.Fetch key cells);
+  rest = item.Read s start key (found_of a.found) ∷ [];
+  is = refl;
+  answers = inl (refl, refl);
+  behind = read_pays s start key key a.found refl;
+})
+
+open_done : (w : State) (s key : ℕ) (fate : Fate) (c : Client) (start epoch : Option ℕ) → ClientAt w.clients s c → c.entry.state ≡ phase.Open → HasNumber phase.Open start → HasNumber phase.Open epoch → FetchDone s key (step_by (fetch_open w.setup s key fate c w.rows None start epoch) (λ (p : Client). with_client w s p))
+open_done w s key fate c None epoch at is_open has sees = absurd has
+open_done w s key fate c (Some start) None at is_open has sees = absurd sees
+open_done w s key Works c (Some start) (Some epoch) at is_open has sees = turn_done w s key start (length (fetched w.rows key start)) c (record (client_fetched w.setup c key) { cache = (fetch_recall w.setup key start epoch c (fetched w.rows key start)).1 }) (fetch_recall w.setup key start epoch c (fetched w.rows key start)).0 at is_open (over_recalls (marks_every w.setup) key start epoch (front_of start (fetched w.rows key start)) (put_fresh c.cache))
+open_done w s key FailsUnchanged c (Some start) (Some epoch) at is_open has sees = inl (fault_line s key _)
+open_done w s key FailsApplied c (Some start) (Some epoch) at is_open has sees = inl (fault_line s key _)
+
+-- a key that is to be kept has no room
+room_done : (w : State) (s key : ℕ) (fate : Fate) (c : Client) (start epoch : Option ℕ) (kept room : Bool) → ClientAt w.clients s c → c.entry.state ≡ phase.Open → HasNumber phase.Open start → HasNumber phase.Open epoch
+    → FetchDone s key (step_by (fetch_open w.setup s key fate c w.rows (cond kept (cond room None (Some cause.TooManyKeys)) None) start epoch) (λ (p : Client). with_client w s p))
+room_done w s key fate c start epoch true false at is_open has sees = inl (refusal_line s key _ tt)
+room_done w s key fate c start epoch true true at is_open has sees = open_done w s key fate c start epoch at is_open has sees
+room_done w s key fate c start epoch false room at is_open has sees = open_done w s key fate c start epoch at is_open has sees
+
+done_by : (w : State) (s key : ℕ) (fate : Fate) (c : Client) (state : SessionState) (reading : Bool) (start epoch : Option ℕ) → ClientAt w.clients s c → c.entry.state ≡ state → HasNumber state start → HasNumber state epoch → FetchDone s key (step_by (fetch_open w.setup s key fate c w.rows (option_or (work_refusal state reading) (reads_refusal w.setup c key)) start epoch) (λ (p : Client). with_client w s p))
+done_by w s key fate c phase.Open true start epoch at is has sees = inl (refusal_line s key _ tt)
+done_by w s key fate c phase.Open false start epoch at is has sees = room_done w s key fate c start epoch (keeps_read w.setup c key) (has_key c.reads key || nat_lt (length c.reads) KEY_LIMIT) at is has sees
+done_by w s key fate c _ reading start epoch at is has sees = inl (refusal_line s key _ tt)
+
+pub fetch_done : (w : State) (h : List Item) (s key : ℕ) (fate : Fate) (c : Client) → Stands w h → Fit w → ClientAt w.clients s c → FetchDone s key (stepped w (event.Fetch s key) fate)
+fetch_done w h s key fate c stands fit at =
+    subst (λ (there : Option Client). FetchDone s key (at_client w there (λ d. step_by (fetch_on w.setup s key fate d w.rows) (λ (p : Client). with_client w s p)))) (sym at) (done_by w s key fate c c.entry.state (is_reading c) c.entry.start c.entry.epoch at refl (starts w h s c stands at) (fit_at w.clients s c fit.epochs at))

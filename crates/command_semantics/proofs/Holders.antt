@@ -1,0 +1,106 @@
+-- For turn_rules and grant_laws too.
+-- The request of a session: where it is found, and where it stands after the node that holds it has changed.
+use Rattle.std.proofs.Common.{◌≡◌, ℕ, zero, suc, ◌+◌, ◌<◌, List, [], ◌∷◌, Option, Some, None, inl, inr, refl, sym, ◌∙◌, ap, subst, arith}
+use Rattle.std.specs.Prelude.{slice_get, slice_set}
+use Rattle.std.proofs.lemmas.Option.{same_Some, none-some}
+use Rattle.history_book.specs.declared.item.Item.{Item}
+use Rattle.system_parts.specs.declared.instance.Held.{Held}
+use Rattle.system_parts.specs.declared.instance.Place.{Place}
+use Rattle.system_parts.specs.Instance.{InstanceEntry, held_of, place_of_progress}
+use Rattle.machine.specs.State.{Client, State}
+use Rattle.machine.specs.Readers.{held_at, first_holder, holder_from, holder_of, place_held, place_of, is_commit, commit_held, asks_commit}
+use Rattle.isolation_laws.specs.Words.{InstanceAt}
+use Rattle.isolation_laws.specs.Sound.{Stands}
+use Rattle.machine.proofs.Lookups.{set_found, instance_changed, held_by}
+use Rattle.command_semantics.specs.Left.{of_client, client_settles, client_ends, lacks_stamps, lacks_at, place_left, request_left, drive_left_by, drive_left}
+
+-- the node has an instance that holds this request of the session
+pub record Holder (nodes : List (Option InstanceEntry)) (node s : ℕ) (held : Held) : Type 0 where
+  pub i : InstanceEntry
+  pub at : InstanceAt nodes node i
+  pub has : held_of i s ≡ Some held
+
+-- ---- where a request is found
+-- the same, of nodes that are counted from k on
+record HolderFrom (k : ℕ) (nodes : List (Option InstanceEntry)) (s : ℕ) (found : ℕ × Held) : Type 0 where
+  pub place : ℕ
+  pub node_is : found.0 ≡ k + place
+  pub holder : Holder nodes place s found.1
+
+first_found : (k s : ℕ) (post : Option InstanceEntry) (posts : List (Option InstanceEntry)) (held : Held) → held_at post s ≡ Some held → HolderFrom k (post ∷ posts) s (k, held)
+first_found k s None posts held has = absurd (none-some held has)
+first_found k s (Some i) posts held has = record { place = zero; node_is = omega arith; holder = record { i = i; at = refl; has = has } }
+
+later_found : (k s : ℕ) (post : Option InstanceEntry) (posts : List (Option InstanceEntry)) (found : ℕ × Held) → HolderFrom (k + 1) posts s found → HolderFrom k (post ∷ posts) s found
+later_found k s post posts found f = record { place = suc f.place; node_is = omega (arith, f.node_is); holder = record { i = f.holder.i; at = f.holder.at; has = f.holder.has } }
+
+found_first : (k s : ℕ) (post : Option InstanceEntry) (posts : List (Option InstanceEntry)) (found : ℕ × Held) (here : Option Held) → held_at post s ≡ here → ((holder_from (k + 1) posts s ≡ Some found) → HolderFrom (k + 1) posts s found) → first_holder k here (holder_from (k + 1) posts s) ≡ Some found → HolderFrom k (post ∷ posts) s found
+found_first k s post posts found None here later is = later_found k s post posts found (later is)
+found_first k s post posts found (Some held) here later is = subst (λ (f : ℕ × Held). HolderFrom k (post ∷ posts) s f) (same_Some (k, held) found is) (first_found k s post posts held here)
+
+found_from : (k s : ℕ) (nodes : List (Option InstanceEntry)) (found : ℕ × Held) → holder_from k nodes s ≡ Some found → HolderFrom k nodes s found
+unfolding holder_from
+found_from k s [] found is = absurd (none-some found is)
+found_from k s (post ∷ posts) found is = found_first k s post posts found (held_at post s) refl (found_from (k + 1) s posts found) is
+
+pub holder_found : (w : State) (s : ℕ) (found : ℕ × Held) → holder_of w s ≡ Some found → Holder w.nodes found.0 s found.1
+holder_found w s found is =
+    let from : HolderFrom 0 w.nodes s found = found_from 0 s w.nodes found is in
+    subst (λ (node : ℕ). Holder w.nodes node s found.1) (omega (arith, from.node_is)) from.holder
+
+-- a request that stands somewhere is held there
+pub record Served (w : State) (s : ℕ) (request : ℕ × Place) : Type 0 where
+  pub held : Held
+  pub holder : Holder w.nodes request.0 s held
+  pub place_is : place_of_progress held.progress ≡ request.1
+  pub commit_is : asks_commit w s ≡ is_commit held.request
+
+served_by : (w : State) (s : ℕ) (request : ℕ × Place) (found : Option (ℕ × Held)) → holder_of w s ≡ found → place_held found ≡ Some request → Served w s request
+served_by w s request None is at = absurd (none-some request at)
+served_by w s request (Some found) is at =
+    let same : (found.0, place_of_progress found.1.progress) ≡ request = same_Some (found.0, place_of_progress found.1.progress) request at in
+    record {
+      held = found.1;
+      holder = subst (λ (node : ℕ). Holder w.nodes node s found.1) (ap (λ (r : ℕ × Place). r.0) same) (holder_found w s found is);
+      place_is = ap (λ (r : ℕ × Place). r.1) same;
+      commit_is = ap commit_held is;
+    }
+
+pub is_served_at : (w : State) (s : ℕ) (request : ℕ × Place) → place_of w s ≡ Some request → Served w s request
+is_served_at w s request at = served_by w s request (holder_of w s) refl at
+
+-- ---- after the holder has changed
+-- the node holds the session's request alone, and has this instance now
+pub record Changed (w left : State) (h : List Item) (node s : ℕ) (now : InstanceEntry) : Type 0 where
+  pub stands : Stands w h
+  pub held : Held
+  pub holder : Holder w.nodes node s held
+  pub nodes : left.nodes ≡ slice_set w.nodes node (Some now)
+
+-- so a request that is held is held there
+pub holder_now : (w left : State) (h : List Item) (node s : ℕ) (now : InstanceEntry) (found : ℕ × Held) → Changed w left h node s now → holder_of left s ≡ Some found → (found.0 ≡ node) × (held_of now s ≡ Some found.1)
+holder_now w left h node s now found k is =
+    let there : Holder left.nodes found.0 s found.1 = holder_found left s found is in
+    let at : InstanceAt (slice_set w.nodes node (Some now)) found.0 there.i = subst (λ (nodes : List (Option InstanceEntry)). InstanceAt nodes found.0 there.i) k.nodes there.at in
+    elim (instance_changed w.nodes node found.0 now there.i at) [
+      | inl here ↦ (here.0, subst (λ (i : InstanceEntry). held_of i s ≡ Some found.1) here.1 there.has)
+      | inr other ↦ absurd (other.0 (sym (k.stands.holds.requests.requests.one node found.0 s k.holder.i there.i k.held.request found.1.request k.held.progress found.1.progress k.holder.at other.1 (held_by k.holder.i s k.held k.holder.has) (held_by there.i s found.1 there.has))))
+    ]
+
+-- what is left to drive is less than a bound, where it is for the request that the instance holds now, and for what follows it
+drives_by : (w left : State) (h : List Item) (node s : ℕ) (now : InstanceEntry) (bound : ℕ) → Changed w left h node s now → ((held : Held) → held_of now s ≡ Some held → place_left (lacks_stamps now) (place_of_progress held.progress) + of_client (slice_get left.clients s) client_ends < bound) → of_client (slice_get left.clients s) client_settles < bound → (found : Option (ℕ × Held)) → holder_of left s ≡ found → drive_left_by left (slice_get left.clients s) (place_held found) < bound
+drives_by w left h node s now bound k held_less less None is = less
+drives_by w left h node s now bound k held_less less (Some found) is =
+    let here : (found.0 ≡ node) × (held_of now s ≡ Some found.1) = holder_now w left h node s now found k is in
+    let set : slice_get left.nodes found.0 ≡ Some (Some now) = ap (λ (nodes : List (Option InstanceEntry)). slice_get nodes found.0) k.nodes ∙ ap (λ (n : ℕ). slice_get (slice_set w.nodes node (Some now)) n) here.0 ∙ set_found w.nodes node (Some now) (Some k.holder.i) k.holder.at in
+    subst (λ (post : Option (Option InstanceEntry)). place_left (lacks_at post) (place_of_progress found.1.progress) + of_client (slice_get left.clients s) client_ends < bound) (sym set) (held_less found.1 here.1)
+
+pub drives_on : (w left : State) (h : List Item) (node s : ℕ) (now : InstanceEntry) (bound : ℕ) → Changed w left h node s now → ((held : Held) → held_of now s ≡ Some held → place_left (lacks_stamps now) (place_of_progress held.progress) + of_client (slice_get left.clients s) client_ends < bound) → of_client (slice_get left.clients s) client_settles < bound → drive_left left s < bound
+drives_on w left h node s now bound k held_less less = drives_by w left h node s now bound k held_less less (holder_of left s) refl
+
+-- what is left of a request that stands somewhere
+pub driven : (w : State) (s : ℕ) (request : ℕ × Place) (c : Client) (i : InstanceEntry) → place_of w s ≡ Some request → slice_get w.clients s ≡ Some c → InstanceAt w.nodes request.0 i → drive_left w s ≡ place_left (lacks_stamps i) request.1 + client_ends c
+driven w s request c i at client_at node_at =
+    ap (λ (r : Option (ℕ × Place)). drive_left_by w (slice_get w.clients s) r) at
+    ∙ ap (λ (found : Option Client). request_left w (Some request) + of_client found client_ends) client_at
+    ∙ ap (λ (post : Option (Option InstanceEntry)). place_left (lacks_at post) request.1 + client_ends c) node_at

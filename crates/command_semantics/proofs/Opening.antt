@@ -1,0 +1,173 @@
+-- The first event of a session's line lowers what is left.
+use Rattle.std.proofs.Common.{◌≡◌, ℕ, ◌+◌, ◌*◌, ◌<◌, ◌≤◌, Bool, true, false, List, [], ◌∷◌, Option, Some, None, Result, Ok, Err, refl, ap, arith}
+use Rattle.std.specs.Prelude.{slice_get, slice_set}
+use Rattle.stamp_base.specs.SetupNumbers.{SetupNumbers}
+use Rattle.port_io.specs.declared.weather.Fate.{Fate}
+use Rattle.port_io.specs.declared.weather.Fate.TheVariants.{Works, FailsUnchanged, FailsApplied}
+use Rattle.history_book.specs.declared.cause.Cause.{Cause}
+use Rattle.history_book.specs.declared.item.Item.{Item}
+use Rattle.history_book.specs.declared.item.Item.TheVariants.{AskBegin, AskCommit}
+use Rattle.system_parts.specs.Rows.{Row, fetched, front_of}
+use Rattle.system_parts.specs.KeyRead.{Reading, ReadTurn, Asks, Answers, read_left}
+use Rattle.system_parts.specs.Cache.{put_fresh}
+use Rattle.system_parts.specs.Recalled.{Remembering}
+use Rattle.system_parts.specs.RecalledReads.{RecalledReadsEnd}
+use Rattle.system_parts.specs.SessionSteps.{begin_refusal, work_refusal}
+use Rattle.system_parts.specs.declared.instance.Place.{Place}
+use Rattle.system_parts.specs.declared.instance.Place.TheVariants as place
+use Rattle.system_parts.specs.declared.instance.Request.TheVariants.{Begin, Commit}
+use Rattle.system_parts.specs.Instance.{InstanceEntry}
+use Rattle.system_parts.specs.InstanceSteps.{InstanceStep, instance_ask}
+use Rattle.machine.specs.declared.event.Event.TheVariants as event
+use Rattle.machine.specs.State.{Client, State}
+use Rattle.machine.specs.Effect.{Effect}
+use Rattle.machine.specs.Clients.{is_reading}
+use Rattle.machine.specs.Machine.{Step, step_by, with_post, with_client, at_client, at_both, stepped}
+use Rattle.machine.specs.Events.AskBegin.{asked_by, ask_begin_by, ask_begin_on}
+use Rattle.machine.specs.Events.AskCommit.{commit_of, ask_commit_by, ask_commit_on}
+use Rattle.machine.specs.Events.Write.{client_wrote, write_refused, write_open, write_on}
+use Rattle.machine.specs.Events.Abort.{abort_by, abort_on}
+use Rattle.machine.specs.Events.Fetch.{fetch_recall, marks_every, client_fetched, fetch_refused, client_read, fetch_open, fetch_on}
+use Rattle.machine.specs.Readers.{place_of}
+use Rattle.script_data.specs.declared.line.Verb.{Verb}
+use Rattle.command_semantics.specs.declared.point.Halt.{Halt}
+use Rattle.command_semantics.specs.declared.point.Halt.TheVariants.{NoStamp, NotYet, Refused, Faulted}
+use Rattle.command_semantics.specs.declared.point.Point.{Point}
+use Rattle.command_semantics.specs.declared.point.Point.TheVariants.{Drives, Finishes, Reads}
+use Rattle.command_semantics.specs.Halts.{halt_of, unless_halted, after_write}
+use Rattle.command_semantics.specs.Left.{cells_by, of_client, client_completes, client_ends, client_reads, client_fetches, lacks_at, place_left, drive_left_by, drive_left, session_left}
+use Rattle.command_semantics.proofs.Clients.{client_now, settles_within, client_left, no_client_left, aborted_left, added_long}
+
+-- a run that stopped has nothing left
+pub halted_less : (w : State) (s : ℕ) (verb : Verb) (at : Point) (halt : Option Halt) (bound : ℕ) → session_left w s verb at < bound → session_left w s verb (unless_halted at halt) < bound
+halted_less w s verb at None bound less = less
+halted_less w s verb at (Some halt) bound less = omega (arith, less)
+
+-- ---- asks
+-- what is left to drive at most
+most_at : (lacks : Bool) (at : Place) → place_left lacks at ≤ 6
+most_at lacks place.Asked = omega arith
+most_at true place.Accepted = omega arith
+most_at false place.Accepted = omega arith
+most_at lacks place.Drawn = omega arith
+most_at lacks place.Settled = omega arith
+
+drive_most_by : (w : State) (c : Option Client) (request : Option (ℕ × Place)) → drive_left_by w c request ≤ 6 + of_client c client_ends
+drive_most_by w c None = omega (arith, settles_within c)
+drive_most_by w c (Some request) = omega (arith, most_at (lacks_at (slice_get w.nodes request.0)) request.1)
+
+-- an ask leaves the client's keys, and no completion
+asked_most : (s : ℕ) (c : Client) (item : Item) (step : InstanceStep (Unit {0})) (answer : Result (Unit {0}) Cause) → client_ends (asked_by s c item step answer).parts.0 ≤ client_ends c
+asked_most s c item step (Ok tt) = omega arith
+asked_most s c item step (Err why) = omega arith
+
+begin_most_by : (s node : ℕ) (c : Client) (post : Option InstanceEntry) (why : Option Cause) → client_ends (ask_begin_by s node c post why).parts.0 ≤ client_ends c
+begin_most_by s node c post (Some why) = omega arith
+begin_most_by s node c None None = omega arith
+begin_most_by s node c (Some i) None = asked_most s c (AskBegin s node) (instance_ask i (Begin s)) (instance_ask i (Begin s)).answer
+
+begin_most : (s node : ℕ) (c : Client) (post : Option InstanceEntry) → client_ends (ask_begin_on s node c post).parts.0 ≤ client_ends c
+begin_most s node c post = begin_most_by s node c post (begin_refusal c.entry.state)
+
+commit_most_of : (s node : ℕ) (c : Client) (start : ℕ) (keys : List ℕ) (post : Option InstanceEntry) → client_ends (commit_of s node c start keys post).parts.0 ≤ client_ends c
+commit_most_of s node c start [] post = omega arith
+commit_most_of s node c start (k ∷ ks) None = omega arith
+commit_most_of s node c start (k ∷ ks) (Some i) = asked_most s c (AskCommit s node start) (instance_ask i (Commit s start c.entry.keys)) (instance_ask i (Commit s start c.entry.keys)).answer
+
+commit_most_by : (s node : ℕ) (c : Client) (post : Option InstanceEntry) (why : Option Cause) (start : Option ℕ) → client_ends (ask_commit_by s node c post why start).parts.0 ≤ client_ends c
+commit_most_by s node c post (Some why) start = omega arith
+commit_most_by s node c post None None = omega arith
+commit_most_by s node c post None (Some start) = commit_most_of s node c start c.entry.keys post
+
+commit_most : (s node : ℕ) (c : Client) (post : Option InstanceEntry) → client_ends (ask_commit_on s node c post).parts.0 ≤ client_ends c
+commit_most s node c post = commit_most_by s node c post (work_refusal c.entry.state (is_reading c)) c.entry.start
+
+-- the step as an effect on the client and the node
+abbrev ask_step : State → ℕ → ℕ → (Client → Option InstanceEntry → Effect (Client × Option InstanceEntry)) → Option InstanceEntry → Client → Step
+ask_step w s node f post c = step_by (f c post) (λ (p : Client × Option InstanceEntry). with_client (with_post w node p.1) s p.0)
+
+ask_ends : (w : State) (s node : ℕ) (f : Client → Option InstanceEntry → Effect (Client × Option InstanceEntry)) → ((c : Client) (post : Option InstanceEntry) → client_ends (f c post).parts.0 ≤ client_ends c) → (post : Option (Option InstanceEntry)) (found : Option Client) → slice_get w.clients s ≡ found → of_client (slice_get (at_both w post found (ask_step w s node f)).state.clients s) client_ends ≤ of_client found client_ends
+ask_ends w s node f most None found is = omega (arith, ap (λ (x : Option Client). of_client x client_ends) is)
+ask_ends w s node f most (Some post) None is = omega (arith, ap (λ (x : Option Client). of_client x client_ends) is)
+ask_ends w s node f most (Some post) (Some c) is = omega (arith, client_now w.clients s c (f c post).parts.0 client_ends is, most c post)
+
+-- a request that was asked is driven
+ask_lowers : (w : State) (s node : ℕ) (verb : Verb) (f : Client → Option InstanceEntry → Effect (Client × Option InstanceEntry)) → ((c : Client) (post : Option InstanceEntry) → client_ends (f c post).parts.0 ≤ client_ends c) → let step : Step = at_both w (slice_get w.nodes node) (slice_get w.clients s) (ask_step w s node f) in session_left step.state s verb (unless_halted Drives (halt_of step.stop)) < 8 + of_client (slice_get w.clients s) client_ends
+ask_lowers w s node verb f most =
+    let step : Step = at_both w (slice_get w.nodes node) (slice_get w.clients s) (ask_step w s node f) in
+    let ends : of_client (slice_get step.state.clients s) client_ends ≤ of_client (slice_get w.clients s) client_ends = ask_ends w s node f most (slice_get w.nodes node) (slice_get w.clients s) refl in
+    let drives : drive_left step.state s ≤ 6 + of_client (slice_get step.state.clients s) client_ends = drive_most_by step.state (slice_get step.state.clients s) (place_of step.state s) in
+    halted_less step.state s verb Drives (halt_of step.stop) (8 + of_client (slice_get w.clients s) client_ends) (omega (arith, ends, drives))
+
+pub begin_lowers : (w : State) (s node : ℕ) (verb : Verb) (fate : Fate) → let step : Step = stepped w (event.AskBegin s node) fate in session_left step.state s verb (unless_halted Drives (halt_of step.stop)) < 8 + of_client (slice_get w.clients s) client_ends
+begin_lowers w s node verb fate = ask_lowers w s node verb (ask_begin_on s node) (begin_most s node)
+
+pub commit_lowers : (w : State) (s node : ℕ) (verb : Verb) (fate : Fate) → let step : Step = stepped w (event.AskCommit s node) fate in session_left step.state s verb (unless_halted Drives (halt_of step.stop)) < 8 + of_client (slice_get w.clients s) client_ends
+commit_lowers w s node verb fate = ask_lowers w s node verb (ask_commit_on s node) (commit_most s node)
+
+-- ---- events on a client
+-- a number of the client after the event is at most one of the client before it
+client_most : (w : State) (s : ℕ) (f : Client → Step) (make : Client → Client) (g m : Client → ℕ) → ((c : Client) → (f c).state.clients ≡ slice_set w.clients s (make c)) → ((c : Client) → g (make c) ≤ m c) → (found : Option Client) → slice_get w.clients s ≡ found → of_client (slice_get (at_client w (slice_get w.clients s) f).state.clients s) g ≤ of_client found m
+client_most w s f make g m sets most None is = omega (arith, no_client_left w s f g is)
+client_most w s f make g m sets most (Some c) is = omega (arith, client_left w s f make g c is (sets c), most c)
+
+-- ---- a write
+wrote_by : (s key start : ℕ) (value : List ℕ) (fate : Fate) (c : Client) (rows : List Row) → client_completes (write_open s key value fate c rows None (Some start)).parts.0 ≤ 1 + client_ends c
+wrote_by s key start value Works c rows = omega arith
+wrote_by s key start value FailsUnchanged c rows = omega (arith, aborted_left (client_wrote c key), added_long c.entry.keys key)
+wrote_by s key start value FailsApplied c rows = omega (arith, aborted_left (client_wrote c key), added_long c.entry.keys key)
+
+wrote_most : (s key : ℕ) (value : List ℕ) (fate : Fate) (c : Client) (rows : List Row) (why : Option Cause) (start : Option ℕ) → client_completes (write_open s key value fate c rows why start).parts.0 ≤ 1 + client_ends c
+wrote_most s key value fate c rows (Some why) start = omega arith
+wrote_most s key value fate c rows None None = omega arith
+wrote_most s key value fate c rows None (Some start) = wrote_by s key start value fate c rows
+
+write_less : (w : State) (s : ℕ) (verb : Verb) (halt : Option Halt) → session_left w s verb (after_write halt) ≤ of_client (slice_get w.clients s) client_completes
+write_less w s verb None = omega arith
+write_less w s verb (Some NoStamp) = omega arith
+write_less w s verb (Some NotYet) = omega arith
+write_less w s verb (Some Refused) = omega arith
+write_less w s verb (Some Faulted) = omega arith
+
+one_more : (found : Option Client) → of_client found (λ (c : Client). 1 + client_ends c) ≤ 1 + of_client found client_ends
+one_more None = omega arith
+one_more (Some c) = omega arith
+
+pub write_lowers : (w : State) (s key : ℕ) (value : List ℕ) (verb : Verb) (fate : Fate) → let step : Step = stepped w (event.Write s key value) fate in session_left step.state s verb (after_write (halt_of step.stop)) < 2 + of_client (slice_get w.clients s) client_ends
+write_lowers w s key value verb fate =
+    let step : Step = stepped w (event.Write s key value) fate in
+    let most : of_client (slice_get step.state.clients s) client_completes ≤ of_client (slice_get w.clients s) (λ (c : Client). 1 + client_ends c) = client_most w s (λ (c : Client). step_by (write_on s key value fate c w.rows) (λ (p : Client × List Row). record (with_client w s p.0) { rows = p.1 })) (λ (c : Client). (write_on s key value fate c w.rows).parts.0) client_completes (λ (c : Client). 1 + client_ends c) (λ c. refl) (λ c. wrote_most s key value fate c w.rows (write_refused c key) c.entry.start) (slice_get w.clients s) refl in
+    omega (arith, most, one_more (slice_get w.clients s), write_less step.state s verb (halt_of step.stop))
+
+-- ---- an abort
+aborted_most : (s : ℕ) (c : Client) (why : Option Cause) (start : Option ℕ) → client_completes (abort_by s c why start).parts ≤ client_ends c
+aborted_most s c (Some why) start = omega arith
+aborted_most s c None None = omega arith
+aborted_most s c None (Some start) = omega (arith, aborted_left c)
+
+pub abort_lowers : (w : State) (s : ℕ) (verb : Verb) (fate : Fate) → let step : Step = stepped w (event.Abort s) fate in session_left step.state s verb (unless_halted Finishes (halt_of step.stop)) < 1 + of_client (slice_get w.clients s) client_ends
+abort_lowers w s verb fate =
+    let step : Step = stepped w (event.Abort s) fate in
+    let most : of_client (slice_get step.state.clients s) client_completes ≤ of_client (slice_get w.clients s) client_ends = client_most w s (λ (c : Client). step_by (abort_on s c) (λ (p : Client). with_client w s p)) (λ (c : Client). (abort_on s c).parts) client_completes client_ends (λ c. refl) (λ c. aborted_most s c (work_refusal c.entry.state (is_reading c)) c.entry.start) (slice_get w.clients s) refl in
+    halted_less step.state s verb Finishes (halt_of step.stop) (1 + of_client (slice_get w.clients s) client_ends) (omega (arith, most))
+
+-- ---- a fetch
+turn_most : (c d : Client) (most : ℕ) (turn : ReadTurn) → ((r : Reading) → turn ≡ Asks r → read_left r ≤ most) → client_reads (client_read c turn) ≤ most + client_reads d
+turn_most c d most (Asks r) few = omega (arith, few r refl)
+turn_most c d most (Answers a) few = omega arith
+
+fetched_most : (ends : RecalledReadsEnd) (setup : SetupNumbers) (s key : ℕ) (fate : Fate) (c : Client) (rows : List Row) (why : Option Cause) (start epoch : Option ℕ) → client_reads (fetch_open setup s key fate c rows why start epoch).parts ≤ 3 * cells_by rows key start + client_reads c
+fetched_most ends setup s key fate c rows (Some why) start epoch = omega arith
+fetched_most ends setup s key fate c rows None None epoch = omega arith
+fetched_most ends setup s key fate c rows None (Some start) None = omega arith
+fetched_most ends setup s key Works c rows None (Some start) (Some epoch) =
+    let x : Remembering = fetch_recall setup key start epoch c (fetched rows key start) in
+    turn_most (record (client_fetched setup c key) { cache = x.1 }) c (3 * cells_by rows key (Some start)) x.0 (ends.begins (marks_every setup) key start epoch (front_of start (fetched rows key start)) (put_fresh c.cache))
+fetched_most ends setup s key FailsUnchanged c rows None (Some start) (Some epoch) = omega arith
+fetched_most ends setup s key FailsApplied c rows None (Some start) (Some epoch) = omega arith
+
+pub fetch_lowers : (ends : RecalledReadsEnd) (w : State) (s key : ℕ) (verb : Verb) (fate : Fate) → let step : Step = stepped w (event.Fetch s key) fate in session_left step.state s verb (unless_halted Reads (halt_of step.stop)) < 1 + of_client (slice_get w.clients s) (client_fetches w.rows key)
+fetch_lowers ends w s key verb fate =
+    let step : Step = stepped w (event.Fetch s key) fate in
+    let most : of_client (slice_get step.state.clients s) client_reads ≤ of_client (slice_get w.clients s) (client_fetches w.rows key) = client_most w s (λ (c : Client). step_by (fetch_on w.setup s key fate c w.rows) (λ (p : Client). with_client w s p)) (λ (c : Client). (fetch_on w.setup s key fate c w.rows).parts) client_reads (client_fetches w.rows key) (λ c. refl) (λ c. fetched_most ends w.setup s key fate c w.rows (fetch_refused w.setup c key) c.entry.start c.entry.epoch) (slice_get w.clients s) refl in
+    halted_less step.state s verb Reads (halt_of step.stop) (1 + of_client (slice_get w.clients s) (client_fetches w.rows key)) (omega (arith, most))

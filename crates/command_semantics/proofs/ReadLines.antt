@@ -1,0 +1,81 @@
+-- For turn_rules and grant_laws too.
+-- A read that a line has begun ends with its value or with a fault: its fetch, and each of its steps.
+use Rattle.std.proofs.Common.{◌≡◌, ℕ, Bool, true, false, cond, nat_lt, ◌==◌, ◌||◌, is_some, List, [], ◌∷◌, ◌++◌, Option, None, ◌⊎◌, inl, refl, subst}
+use Rattle.history_book.specs.declared.item.Actor.TheVariants.{Session}
+use Rattle.history_book.specs.declared.item.Item.{Item}
+use Rattle.history_book.specs.declared.item.Item.TheVariants as item
+use Rattle.system_parts.specs.declared.rows.Cell.{Cell}
+use Rattle.system_parts.specs.declared.asks.Told.{Told}
+use Rattle.system_parts.specs.declared.resolve.Outcome.TheVariants.{Committed, Dead}
+use Rattle.system_parts.specs.Resolve.{SettleTurn, Goes, Decides, settle_turn}
+use Rattle.system_parts.specs.KeyRead.{Reading, ReadTurn, Asks, Answers, found_cell, found_by, settling_of, after_passed, turn_at, read_over, read_by}
+use Rattle.system_parts.specs.Cache.{Cache}
+use Rattle.system_parts.specs.Recalled.{outcome_known, recalled_over, recalled_told}
+use Rattle.system_parts.proofs.RecalledLemmas.{AnyCache, Recalls, over_holds, told_holds}
+use Rattle.machine.specs.State.{Client, State}
+use Rattle.machine.specs.Machine.{Step}
+use Rattle.isolation_laws.specs.Words.{ClientAt}
+use Rattle.command_semantics.proofs.Plain.{AllPlain}
+use Rattle.command_semantics.proofs.Working.{ReadWork}
+use Rattle.command_semantics.proofs.Walks.{AllNot, plain_not, Paid, paid_before}
+
+-- ---- a read keeps its key and its start
+-- the reads of a turn are of this key and this start
+abbrev pub OfRead : ℕ → ℕ → ReadTurn → Type 0
+OfRead key start (Asks r) = (r.key ≡ key) × (r.start ≡ start)
+OfRead key start (Answers a) = Unit {0}
+
+first_read : (every : Bool) (key start epoch : ℕ) (c : Cell) (cs : List Cell) (answers : Bool) → OfRead key start (cond answers (Answers (found_cell c)) (Asks (record { key = key; start = start; epoch = epoch; every = every; cell = c; older = cs; point = Rattle.system_parts.specs.declared.resolve.SettlePoint.TheVariants.Table })))
+first_read every key start epoch c cs true = tt
+first_read every key start epoch c cs false = (refl, refl)
+
+turn_read : (every : Bool) (key start epoch : ℕ) (cells : List Cell) → OfRead key start (turn_at every key start epoch cells)
+turn_read every key start epoch [] = tt
+turn_read every key start epoch (c ∷ cs) = first_read every key start epoch c cs ((c.version == start) || is_some c.shadow)
+
+over_read : (every : Bool) (key start epoch : ℕ) (cells : List Cell) → OfRead key start (read_over every key start epoch cells)
+over_read every key start epoch cells = turn_read every key start epoch (after_passed start cells)
+
+decided_read : (r : Reading) (c : ℕ) (by_table below : Bool) → OfRead r.key r.start (cond below (Answers (found_by r.key r.cell c by_table)) (read_over r.every r.key r.start r.epoch r.older))
+decided_read r c by_table true = tt
+decided_read r c by_table false = over_read r.every r.key r.start r.epoch r.older
+
+settled_read : (r : Reading) (turn : SettleTurn) → OfRead r.key r.start (read_by r turn)
+settled_read r (Goes p) = (refl, refl)
+settled_read r (Decides Dead) = over_read r.every r.key r.start r.epoch r.older
+settled_read r (Decides (Committed c by_table)) = decided_read r c by_table (nat_lt c r.start)
+
+-- a recall keeps them too
+recalls_read : (key start : ℕ) → Recalls (OfRead key start) AnyCache
+recalls_read key start = record {
+  stays = λ cache txn any. tt;
+  goes = λ cache r k any is same.
+      let turn : ReadTurn = read_by r (Decides (outcome_known k)) in
+      subst (λ (n : ℕ). OfRead n start turn) same.0 (subst (λ (n : ℕ). OfRead r.key n turn) same.1 (settled_read r (Decides (outcome_known k))));
+}
+
+pub over_recalls : (every : Bool) (key start epoch : ℕ) (cells : List Cell) (cache : Cache) → OfRead key start (recalled_over every key start epoch cells cache).0
+over_recalls every key start epoch cells cache = (over_holds (OfRead key start) AnyCache (recalls_read key start) every key start epoch cells cache tt (over_read every key start epoch cells)).0
+
+pub told_recalls : (cache : Cache) (r : Reading) (told : Told) → OfRead r.key r.start (recalled_told cache r told).0
+told_recalls cache r told = (told_holds (OfRead r.key r.start) AnyCache (recalls_read r.key r.start) cache r told tt (settled_read r (settle_turn (settling_of r) told))).0
+
+-- ---- a read under way
+-- the session reads the key
+pub record ReadsKey (w : State) (s key : ℕ) : Type 0 where
+  pub c : Client
+  pub at : ClientAt w.clients s c
+  pub work : ReadWork c
+  pub key_is : work.r.key ≡ key
+
+-- after a step the read has ended, or goes on
+abbrev pub EndsOrReads : ℕ → ℕ → Step → Type 0
+EndsOrReads s key step = Paid (Session s) key step.items ⊎ (AllNot (Session s) step.items × ReadsKey step.state s key × (step.stop ≡ None))
+
+-- the items after those that the store's step shows
+pub ends_with : (s key : ℕ) (items : List Item) (x : Item) → AllPlain items → Paid (Session s) key (x ∷ []) → Paid (Session s) key (items ++ x ∷ [])
+ends_with s key items x plain ends = paid_before (Session s) key items (x ∷ []) (plain_not (Session s) items plain) ends
+
+pub read_pays : (s start key read : ℕ) (found : Option (ℕ × List ℕ)) → read ≡ key → Paid (Session s) key (item.Read s start read (Rattle.machine.specs.Events.Fetch.found_of found) ∷ [])
+unfolding Paid AllNot
+read_pays s start key read found is = inl ((refl, is), tt)

@@ -1,0 +1,81 @@
+-- For turn_rules too.
+-- A step of a read that a line has begun ends it with its value or with a fault, or leaves a read of the same key; and such a
+-- read has a next step.
+use Rattle.std.proofs.Common.{◌≡◌, ℕ, Bool, true, [], ◌∷◌, ◌++◌, Option, Some, None, inl, inr, refl, sym, ◌∙◌, ap, subst}
+use Rattle.stamp_base.specs.declared.stores.Store.{Store}
+use Rattle.port_io.specs.declared.weather.Fate.{Fate}
+use Rattle.port_io.specs.declared.weather.Fate.TheVariants.{Works, FailsUnchanged, FailsApplied}
+use Rattle.history_book.specs.declared.item.Actor.TheVariants.{Session}
+use Rattle.history_book.specs.declared.item.Item.TheVariants as item
+use Rattle.system_parts.specs.declared.asks.Told.{Told}
+use Rattle.system_parts.specs.declared.session.State.{State as SessionState}
+use Rattle.system_parts.specs.KeyRead.{ReadTurn, Asks, Answers, read_ask}
+use Rattle.system_parts.specs.Cache.{Cache}
+use Rattle.system_parts.specs.Recalled.{Remembering}
+use Rattle.system_parts.specs.SessionSteps.{step_refusal}
+use Rattle.machine.specs.declared.event.Event.TheVariants as event
+use Rattle.machine.specs.State.{Reads, Client, State}
+use Rattle.machine.specs.Clients.{is_reading, is_reading_by}
+use Rattle.machine.specs.StoreSteps.{items_met, mark_kept, rows_after, pairs_after, store_of, met, told_by}
+use Rattle.machine.specs.Machine.{Step, with_client, stepped}
+use Rattle.machine.specs.Events.Fetch.{client_put_fresh, found_of, client_read, read_items}
+use Rattle.machine.specs.Events.Step.{step_recall, work_by, work_of, read_step}
+use Rattle.machine.specs.Readers.{open_doing, doing_by, doing_at, doing_of}
+use Rattle.machine.proofs.Lookups.{set_found}
+use Rattle.command_semantics.specs.Next.{read_next}
+use Rattle.command_semantics.proofs.PlainEvents.{effect_plain, met_plain}
+use Rattle.command_semantics.proofs.Plain.{plain_append, no_plain}
+use Rattle.command_semantics.proofs.Working.{ReadWork}
+use Rattle.command_semantics.proofs.Stepping.{stores_step, step_is, unhanded}
+use Rattle.command_semantics.proofs.Walks.{AllNot, plain_not, Paid}
+use Rattle.command_semantics.proofs.ReadLines.{OfRead, told_recalls, ReadsKey, EndsOrReads, ends_with, read_pays}
+
+fault_pays : (s key : ℕ) (store : Store) → Paid (Session s) key (item.Fault (Session s) store ∷ [])
+unfolding Paid AllNot
+fault_pays s key store = inl (refl, tt)
+
+-- ---- the step, by what the read does next
+read_turns : (w : State) (s key : ℕ) (k : ReadsKey w s key) (cache : Cache) (told : Told) (turn : ReadTurn) → OfRead k.work.r.key k.work.r.start turn →
+    EndsOrReads s key (record {
+      state = record (with_client w s (client_read (record k.c { cache = cache }) turn)) { rows = rows_after (read_ask k.work.r) w.rows; pairs = pairs_after (read_ask k.work.r) w.pairs };
+      items = items_met (Session s) (read_ask k.work.r) told Works ++ read_items s k.work.r.start k.work.r.key turn;
+      stop = None;
+    })
+read_turns w s key k cache told (Asks next) same = inr (
+  plain_not (Session s) _ (plain_append (items_met (Session s) (read_ask k.work.r) told Works) [] (met_plain (Session s) (read_ask k.work.r) told Works) no_plain),
+  record {
+    c = client_read (record k.c { cache = cache }) (Asks next);
+    at = set_found w.clients s (client_read (record k.c { cache = cache }) (Asks next)) k.c k.at;
+    work = record { r = next; is_open = k.work.is_open; under_way = refl };
+    key_is = same.0 ∙ k.key_is;
+  },
+  refl,
+)
+read_turns w s key k cache told (Answers a) same = inl (ends_with s key (items_met (Session s) (read_ask k.work.r) told Works) (item.Read s k.work.r.start k.work.r.key (found_of a.found)) (met_plain (Session s) (read_ask k.work.r) told Works) (read_pays s k.work.r.start key k.work.r.key a.found k.key_is))
+
+read_steps : (w : State) (s key : ℕ) (k : ReadsKey w s key) (fate : Fate) → let step : Step = stores_step w s (read_step s k.c k.work.r (met (Session s) (read_ask k.work.r) fate w.rows w.pairs)) in EndsOrReads s key step
+read_steps w s key k Works =
+    let told : Told = told_by (read_ask k.work.r) w.rows w.pairs in
+    let x : Remembering = step_recall (client_put_fresh k.c) k.work.r told in
+    read_turns w s key k x.1 told x.0 (told_recalls _ k.work.r told)
+read_steps w s key k FailsUnchanged = inl (fault_pays s key (store_of (read_ask k.work.r)))
+read_steps w s key k FailsApplied =
+    let told : Told = told_by (read_ask k.work.r) w.rows w.pairs in
+    inl (ends_with s key (mark_kept (Session s) (read_ask k.work.r) told) (item.Fault (Session s) (store_of (read_ask k.work.r))) (effect_plain (Session s) (read_ask k.work.r) told) (fault_pays s key (store_of (read_ask k.work.r))))
+
+-- ---- the event
+reads_on : (c : Client) (k : ReadWork c) → is_reading c ≡ true
+reads_on c k = ap is_reading_by k.under_way
+
+pub read_goes_on : (w : State) (s key : ℕ) (k : ReadsKey w s key) (fate : Fate) → EndsOrReads s key (stepped w (event.Step s) fate)
+read_goes_on w s key k fate =
+    let go : step_refusal k.c.entry.state (is_reading k.c) ≡ None = ap (λ (state : SessionState). step_refusal state (is_reading k.c)) k.work.is_open ∙ ap (λ (reading : Bool). step_refusal Rattle.system_parts.specs.declared.session.State.TheVariants.Open reading) (reads_on k.c k.work) in
+    let work : work_of k.c ≡ Reads k.work.r = ap (λ (state : SessionState). work_by state k.c.entry k.c.under_way) k.work.is_open ∙ k.work.under_way in
+    subst (λ (step : Step). EndsOrReads s key step) (sym (step_is w s fate k.c (Reads k.work.r) k.at go (unhanded k.c Rattle.system_parts.specs.declared.session.State.TheVariants.Open k.work.is_open refl) work)) (read_steps w s key k fate)
+
+-- the run of a line does not end while the read is under way
+pub read_has_next : (w : State) (s key : ℕ) → ReadsKey w s key → read_next s (doing_of w s) ≡ Some (event.Step s)
+read_has_next w s key k =
+    ap (λ (found : Option Client). read_next s (doing_at found)) k.at
+    ∙ ap (λ (state : SessionState). read_next s (doing_by state (is_reading k.c))) k.work.is_open
+    ∙ ap (λ (reading : Bool). read_next s (open_doing reading)) (reads_on k.c k.work)

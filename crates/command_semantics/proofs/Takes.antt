@@ -1,0 +1,213 @@
+-- For turn_rules and log_refinement too.
+-- The nodes whose takes a history tells are those of the system, whatever events are made.
+use Rattle.std.proofs.Common.{◌≡◌, ℕ, zero, suc, ◌<◌, ◌==◌, Bool, true, false, ◌||◌, List, [], ◌∷◌, ◌++◌, Option, None, Some, ◌⊎◌, inl, inr, refl, sym, ◌∙◌, ap, subst, arith, length, fold}
+use Rattle.std.specs.Prelude.{slice_get, IfSome, unwrap_or}
+use Rattle.std.specs.Option.{option_or}
+use Rattle.std.proofs.lemmas.Bool.Decides.{eqb_tells}
+use Rattle.std.proofs.lemmas.List.Folds.{list_any-append}
+use Rattle.std.proofs.lemmas.Option.{none-some}
+use Rattle.stamp_base.specs.SetupNumbers.{SetupNumbers, AreInRange}
+use Rattle.port_io.specs.declared.weather.Fate.{Fate}
+use Rattle.history_book.specs.declared.item.Actor.{Actor}
+use Rattle.history_book.specs.declared.item.Item.{Item}
+use Rattle.history_book.specs.declared.item.Item.TheVariants as item
+use Rattle.cause_rules.specs.Since.{told_then, last_told}
+use Rattle.machine.proofs.LookedUp.{of_post, of_client, of_both}
+use Rattle.machine.proofs.PartsKept.{leaves_parts}
+use Rattle.machine.specs.declared.event.Event.{Event}
+use Rattle.machine.specs.declared.event.Event.TheVariants as event
+use Rattle.machine.specs.State.{State}
+use Rattle.machine.specs.Machine.{Step, with_reading, stepped}
+use Rattle.isolation_laws.specs.Sound.{Stands}
+use Rattle.command_semantics.specs.Answers.{opener, IsTake, IsRenew, IsCrash, IsVanish, IsAskBegin, IsAskCommit, IsWrite, IsFetch, IsRefusal, IsReadOnly}
+use Rattle.command_semantics.specs.Master.{taken_by, is_node, takes, has_take, HasTake, last_master}
+use Rattle.command_semantics.proofs.AlwaysFit.{Fit}
+use Rattle.command_semantics.proofs.Fitting.{fit_at}
+use Rattle.command_semantics.proofs.OpeningItems.{Begins, TakeAnswer, RenewAnswer, BeginAnswer, take_begins, renew_begins, crash_begins, ask_begin_begins, vanish_begins}
+use Rattle.command_semantics.proofs.Plain.{AllPlain}
+use Rattle.command_semantics.proofs.PlainEvents.{events_plain}
+use Rattle.command_semantics.proofs.WorkItems.{CommitAnswer, WriteAnswer, FetchAnswer, starts, ask_commit_begins, write_begins, fetch_begins}
+
+-- ---- the last take
+itself : (n : ℕ) → (n == n) ≡ true
+itself n = elim (eqb_tells n n) [
+  | inl same ↦ same.0
+  | inr other ↦ absurd (other.1 refl)
+]
+
+later : (b : Bool) → (b || true) ≡ true
+later true = refl
+later false = refl
+
+then_by : (P : ℕ → Type 0) (by last : Option ℕ) → IfSome last P → ((n : ℕ) → is_node n by ≡ true → P n) → IfSome (option_or by last) P
+then_by P None last was each = was
+then_by P (Some m) last was each = each m (itself m)
+
+-- what holds of each node that has taken the record, and of the last before, holds of the last
+last_by : (P : ℕ → Type 0) (h : List Item) (last : Option ℕ) → IfSome last P → ((n : ℕ) → HasTake h n → P n) → IfSome (fold (told_then taken_by) last h) P
+last_by P [] last was each = was
+last_by P (x ∷ xs) last was each = last_by P xs (told_then taken_by last x) (then_by P (taken_by x) last was (λ n is. each n (ap (λ (b : Bool). b || has_take xs n) is))) (λ n is. each n (ap (λ (b : Bool). takes n x || b) is ∙ later (takes n x)))
+
+of_last : (P : ℕ → Type 0) (last : Option ℕ) → IfSome last P → P 0 → P (unwrap_or last 0)
+of_last P None some none = none
+of_last P (Some n) some none = some
+
+-- the last is the first node, or has taken the record
+pub last_has_taken : (h : List Item) → (last_master h ≡ 0) ⊎ HasTake h (last_master h)
+last_has_taken h = of_last (λ n. (n ≡ 0) ⊎ HasTake h n) (last_told taken_by h) (last_by (λ n. (n ≡ 0) ⊎ HasTake h n) h None tt (λ n has. inr has)) (inl refl)
+
+-- ---- which nodes have taken the record
+-- there is a node, and each that has taken the record is of the system
+pub record TakesFit (nodes : ℕ) (h : List Item) : Type 0 where
+  pub some : 0 < nodes
+  pub there : (n : ℕ) → HasTake h n → n < nodes
+
+pub some_fits : (nodes : ℕ) (h : List Item) (n : ℕ) → TakesFit nodes h → (n ≡ 0) ⊎ HasTake h n → n < nodes
+some_fits nodes h n fit (inl first) = subst (λ (k : ℕ). k < nodes) (sym first) fit.some
+some_fits nodes h n fit (inr has) = fit.there n has
+
+pub last_fits : (nodes : ℕ) (h : List Item) → TakesFit nodes h → last_master h < nodes
+last_fits nodes h fit = some_fits nodes h (last_master h) fit (last_has_taken h)
+
+-- ---- items that tell no take
+plain_item : (x : Item) → opener x ≡ None → taken_by x ≡ None
+plain_item (item.Take node reading term epoch until ceiling) plain = absurd (none-some _ (sym plain))
+plain_item _ plain = refl
+
+none_takes : (n : ℕ) (x : Item) → taken_by x ≡ None → takes n x ≡ false
+none_takes n x none = ap (λ (by : Option ℕ). is_node n by) none
+
+plain_none : (n : ℕ) (items : List Item) → AllPlain items → has_take items n ≡ false
+unfolding AllPlain
+plain_none n [] plain = refl
+plain_none n (x ∷ xs) plain = ap (λ (b : Bool). b || has_take xs n) (none_takes n x (plain_item x plain.0)) ∙ plain_none n xs plain.1
+
+not_both : {X : Type 0} (b : Bool) → b ≡ false → b ≡ true → X
+not_both b none some = let clash : false ≡ true = sym none ∙ some in absurd (cc)
+
+-- ---- an event that opens a line tells the take of its own node alone
+or_false : (b : Bool) → (b || false) ≡ b
+or_false true = refl
+or_false false = refl
+
+first_in : (n : ℕ) (x : Item) (xs : List Item) → has_take xs n ≡ false → has_take (x ∷ xs) n ≡ true → takes n x ≡ true
+first_in n x xs none some = sym (ap (λ (b : Bool). takes n x || b) none ∙ or_false (takes n x)) ∙ some
+
+-- each node that the items tell to have taken the record is one of these
+abbrev TakesOf : (ℕ → Type 0) → List Item → Type 0
+TakesOf P items = (n : ℕ) → HasTake items n → P n
+
+begins_in : (P : ℕ → Type 0) (A : Item → Type 0) (items : List Item) → ((n : ℕ) (x : Item) → A x → takes n x ≡ true → P n) → Begins A items → TakesOf P items
+begins_in P A items each k n some = each n k.first k.answers (first_in n k.first k.rest (plain_none n k.rest k.plain) (ap (λ (xs : List Item). has_take xs n) (sym k.is) ∙ some))
+
+no_take : (P : ℕ → Type 0) (A : Item → Type 0) (items : List Item) → ((x : Item) → A x → taken_by x ≡ None) → Begins A items → TakesOf P items
+no_take P A items none k = begins_in P A items (λ n x answers takes_it. not_both (takes n x) (none_takes n x (none x answers)) takes_it) k
+
+plain_takes : (P : ℕ → Type 0) (items : List Item) → AllPlain items → TakesOf P items
+plain_takes P items plain n some = not_both (has_take items n) (plain_none n items plain) some
+
+either_none : (A B : Item → Type 0) → ((x : Item) → A x → taken_by x ≡ None) → ((x : Item) → B x → taken_by x ≡ None) → (x : Item) → A x ⊎ B x → taken_by x ≡ None
+either_none A B first second x (inl a) = first x a
+either_none A B first second x (inr b) = second x b
+
+refusal_none : (actor : Actor) (x : Item) → IsRefusal actor x → taken_by x ≡ None
+refusal_none actor (item.Refused who why) is = refl
+refusal_none actor (item.Fault who store) is = refl
+refusal_none actor _ is = absurd is
+
+renew_none : (n : ℕ) (x : Item) → IsRenew n x → taken_by x ≡ None
+renew_none n (item.Renew node reading term until) is = refl
+renew_none n _ is = absurd is
+
+crash_none : (n : ℕ) (x : Item) → IsCrash n x → taken_by x ≡ None
+crash_none n (item.Crash node term) is = refl
+crash_none n _ is = absurd is
+
+vanish_none : (s : ℕ) (x : Item) → IsVanish s x → taken_by x ≡ None
+vanish_none s (item.Vanish session) is = refl
+vanish_none s _ is = absurd is
+
+begin_none : (s n : ℕ) (x : Item) → IsAskBegin s (λ asked. asked ≡ n) x → taken_by x ≡ None
+begin_none s n (item.AskBegin session node) is = refl
+begin_none s n _ is = absurd is
+
+commit_none : (s n : ℕ) (x : Item) → IsAskCommit s (λ asked. asked ≡ n) x → taken_by x ≡ None
+commit_none s n (item.AskCommit session node start) is = refl
+commit_none s n _ is = absurd is
+
+write_none : (s key : ℕ) (value : List ℕ) (x : Item) → IsWrite s key value x → taken_by x ≡ None
+write_none s key value (item.Write session start k v) is = refl
+write_none s key value _ is = absurd is
+
+fetch_none : (s key : ℕ) (x : Item) → IsFetch s key x → taken_by x ≡ None
+fetch_none s key (item.Step actor what) is = refl
+fetch_none s key _ is = absurd is
+
+end_none : (s : ℕ) (x : Item) → IsReadOnly s x → taken_by x ≡ None
+end_none s (item.End session start how) is = refl
+end_none s _ is = absurd is
+
+-- the take of a node
+is_itself : (a b : ℕ) → (a == b) ≡ true → a ≡ b
+is_itself a b is = elim (eqb_tells a b) [
+  | inl same ↦ same.1
+  | inr other ↦ not_both (a == b) other.0 is
+]
+
+own_take : (m n : ℕ) (x : Item) → IsTake m x → takes n x ≡ true → n ≡ m
+own_take m n (item.Take node reading term epoch until ceiling) is takes_it = sym (is_itself node n takes_it) ∙ is
+own_take m n _ is takes_it = absurd is
+
+takes_own : (P : ℕ → Type 0) (m : ℕ) → P m → (n : ℕ) (x : Item) → TakeAnswer m x → takes n x ≡ true → P n
+takes_own P m here n x (inl is) takes_it = subst P (sym (own_take m n x is takes_it)) here
+takes_own P m here n x (inr is) takes_it = not_both (takes n x) (none_takes n x (refusal_none _ x is)) takes_it
+
+-- ---- looking up the parts
+within : {X : Type 0} (xs : List X) (p : ℕ) (x : X) → slice_get xs p ≡ Some x → p < length xs
+within [] p x is = absurd (none-some x is)
+within (y ∷ ys) zero x is = omega arith
+within (y ∷ ys) (suc p) x is = omega (arith, within ys p x is)
+
+none_of : (P : ℕ → Type 0) → TakesOf P []
+none_of P n some = let clash : false ≡ true = some in absurd (cc)
+
+abbrev StepTakes : (ℕ → Type 0) → Step → Type 0
+StepTakes P step = TakesOf P step.items
+
+-- ---- any event
+-- a node of the system
+abbrev InSystem : State → ℕ → Type 0
+InSystem w n = n < w.setup.nodes
+
+events_take : (w : State) (h : List Item) (e : Event) (fate : Fate) → Stands w h → Fit w → TakesOf (InSystem w) (stepped w e fate).items
+events_take w h (event.Tick to) fate stands fit = none_of (InSystem w)
+events_take w h (event.Note actor said) fate stands fit = none_of (InSystem w)
+events_take w h (event.Take node reading) fate stands fit = of_post (StepTakes (InSystem w)) (with_reading w reading) _ (slice_get w.nodes node) (none_of (InSystem w)) (λ post at. begins_in (InSystem w) (TakeAnswer node) _ (takes_own (InSystem w) node (subst (λ (k : ℕ). node < k) fit.nodes (within w.nodes node post at))) (take_begins w node reading fate post))
+events_take w h (event.Renew node reading) fate stands fit = of_post (StepTakes (InSystem w)) (with_reading w reading) _ (slice_get w.nodes node) (none_of (InSystem w)) (λ post at. no_take (InSystem w) (RenewAnswer node) _ (either_none _ _ (renew_none node) (refusal_none _)) (renew_begins w node reading fate post))
+events_take w h (event.Crash node) fate stands fit = of_post (StepTakes (InSystem w)) w _ (slice_get w.nodes node) (none_of (InSystem w)) (λ post at. no_take (InSystem w) _ _ (either_none _ _ (crash_none node) (refusal_none _)) (crash_begins w node post))
+events_take w h (event.AskBegin s node) fate stands fit = of_both (StepTakes (InSystem w)) w _ (slice_get w.nodes node) (slice_get w.clients s) (none_of (InSystem w)) (λ post c there at. no_take (InSystem w) (BeginAnswer s node) _ (either_none _ _ (begin_none s node) (refusal_none _)) (ask_begin_begins s node c post))
+events_take w h (event.AskCommit s node) fate stands fit = of_both (StepTakes (InSystem w)) w _ (slice_get w.nodes node) (slice_get w.clients s) (none_of (InSystem w)) (λ post c there at. no_take (InSystem w) (CommitAnswer s node) _ (either_none _ _ (commit_none s node) (either_none _ _ (refusal_none _) (end_none s))) (ask_commit_begins s node c post (starts w h s c stands at)))
+events_take w h (event.Write s key value) fate stands fit = of_client (StepTakes (InSystem w)) w _ (slice_get w.clients s) (none_of (InSystem w)) (λ c at. no_take (InSystem w) (WriteAnswer s key value) _ (either_none _ _ (write_none s key value) (refusal_none _)) (write_begins s key value fate c w.rows (starts w h s c stands at)))
+events_take w h (event.Fetch s key) fate stands fit = of_client (StepTakes (InSystem w)) w _ (slice_get w.clients s) (none_of (InSystem w)) (λ c at. no_take (InSystem w) (FetchAnswer s key) _ (either_none _ _ (fetch_none s key) (refusal_none _)) (fetch_begins w.setup s key fate c w.rows (starts w h s c stands at) (fit_at w.clients s c fit.epochs at)))
+events_take w h (event.Vanish s) fate stands fit = of_client (StepTakes (InSystem w)) w _ (slice_get w.clients s) (none_of (InSystem w)) (λ c at. no_take (InSystem w) _ _ (either_none _ _ (vanish_none s) (refusal_none _)) (vanish_begins s c))
+events_take w h e fate stands fit = plain_takes (InSystem w) _ (events_plain w e fate tt)
+
+or_cases : (a b : Bool) → (a || b) ≡ true → (a ≡ true) ⊎ (b ≡ true)
+or_cases true b is = inl refl
+or_cases false b is = inr is
+
+takes_of_both : (P : ℕ → Type 0) (h items : List Item) → TakesOf P h → TakesOf P items → TakesOf P (h ++ items)
+takes_of_both P h items before since n some = elim (or_cases (has_take h n) (has_take items n) (sym (list_any-append (takes n) h items) ∙ some)) [
+  | inl here ↦ before n here
+  | inr there ↦ since n there
+]
+
+pub takes_stay : (w : State) (h : List Item) (e : Event) (fate : Fate) → Stands w h → Fit w → TakesFit w.setup.nodes h → TakesFit (stepped w e fate).state.setup.nodes (h ++ (stepped w e fate).items)
+takes_stay w h e fate stands fit takes_fit = subst (λ (setup : SetupNumbers). TakesFit setup.nodes (h ++ (stepped w e fate).items)) (sym (leaves_parts w e fate).setup) (record {
+  some = takes_fit.some;
+  there = takes_of_both (λ n. n < w.setup.nodes) h (stepped w e fate).items takes_fit.there (events_take w h e fate stands fit);
+})
+
+-- before the first event
+pub takes_at_first : (setup : SetupNumbers) → AreInRange setup → TakesFit setup.nodes []
+takes_at_first setup in_range = record { some = omega (arith, in_range.nodes.0); there = none_of (λ n. n < setup.nodes) }

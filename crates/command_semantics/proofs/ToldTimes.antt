@@ -1,0 +1,123 @@
+-- The times that a history tells, and the readings in it, after the items of one more event.
+use Rattle.std.proofs.Common.{◌≡◌, ℕ, zero, suc, ◌+◌, List, [], ◌∷◌, ◌++◌, take, All, Option, Some, None, inl, inr, refl, sym, ◌∙◌, ap, subst, arith}
+use Rattle.std.specs.Prelude.{slice_get, sum}
+use Rattle.std.proofs.lemmas.List.{append-nil}
+use Rattle.std.proofs.lemmas.List.Elements.{All-cons, All-head, All-tail, All-take, All-append, All-weaker}
+use Rattle.std.proofs.lemmas.List.Sums.{sum_by-cons}
+use Rattle.std.proofs.lemmas.Option.{same_Some}
+use Rattle.stamp_base.specs.declared.stores.Store.{Store}
+use Rattle.port_io.specs.declared.weather.Fate.{Fate}
+use Rattle.history_book.specs.Members.{AtEach}
+use Rattle.history_book.specs.declared.cause.Cause.{Cause}
+use Rattle.history_book.specs.declared.cause.Cause.TheVariants as cause
+use Rattle.history_book.specs.declared.item.Actor.{Actor}
+use Rattle.history_book.specs.declared.item.Actor.TheVariants.{Node, Session}
+use Rattle.history_book.specs.declared.item.Item.{Item}
+use Rattle.history_book.specs.declared.item.Item.TheVariants as item
+use Rattle.cause_rules.specs.Since.{last_told}
+use Rattle.cause_laws.proofs.SinceWords.{last_told-same}
+use Rattle.cause_laws.proofs.LongerHistories.{each_longer}
+use Rattle.command_semantics.specs.Next.{Clocks, reading_at}
+use Rattle.command_semantics.specs.Planned.{times_told, times_from, time_by, time_or_start, shown, IsCauseTimed, IsTimed}
+use Rattle.command_semantics.proofs.ReadItems.{IsCauseRead, IsRead, Made}
+
+-- ---- items that tell no time
+-- a fault tells no time either
+abbrev pub IsTimely : Clocks → Item → Type 0
+IsTimely clocks (item.Fault actor store) = Unit {0}
+IsTimely clocks x = IsRead clocks x
+
+read_timely : (clocks : Clocks) (x : Item) → IsRead clocks x → IsTimely clocks x
+read_timely clocks (item.Fault actor store) read = tt
+read_timely clocks x read = read
+
+all_timely : (clocks : Clocks) (items : List Item) → All (IsRead clocks) items → All (IsTimely clocks) items
+all_timely clocks items read = All-weaker (IsRead clocks) (IsTimely clocks) (read_timely clocks) items read
+
+pub made_timely : (clocks : Clocks) (asked : Option Store) (fate : Fate) (items : List Item) → Made clocks asked fate items → All (IsTimely clocks) items
+made_timely clocks asked fate items (inl read) = all_timely clocks items read
+made_timely clocks asked fate items (inr k) =
+    subst (λ (xs : List Item). All (IsTimely clocks) xs) (sym k.is)
+    (All-append (IsTimely clocks) k.before (item.Fault k.actor k.store ∷ k.after) (all_timely clocks k.before k.before_read) (All-cons (IsTimely clocks) (item.Fault k.actor k.store) k.after tt (all_timely clocks k.after k.after_read)))
+
+abbrev pub TellsNoTime : Item → Type 0
+TellsNoTime x = time_by x ≡ None
+
+timely_untold : (clocks : Clocks) (x : Item) → IsTimely clocks x → TellsNoTime x
+timely_untold clocks (item.Tick to) timely = absurd timely
+timely_untold clocks x timely = refl
+
+pub all_untold : (clocks : Clocks) (items : List Item) → All (IsTimely clocks) items → All TellsNoTime items
+all_untold clocks items timely = All-weaker (IsTimely clocks) TellsNoTime (timely_untold clocks) items timely
+
+-- ---- the times
+times_append : (h items : List Item) → times_told (h ++ items) ≡ times_told h ++ times_told items
+unfolding times_told
+times_append [] items = refl
+times_append (item.Tick to ∷ h) items = ap (λ (times : List ℕ). to ∷ times) (times_append h items)
+times_append (x ∷ h) items = times_append h items
+
+untold_first : (x : Item) (items : List Item) → TellsNoTime x → times_told (x ∷ items) ≡ times_told items
+unfolding times_told
+untold_first (item.Tick to) items untold = absurd (cc)
+untold_first x items untold = refl
+
+untold_times : (items : List Item) → All TellsNoTime items → times_told items ≡ []
+unfolding times_told
+untold_times [] untold = refl
+untold_times (x ∷ items) untold = untold_first x items (All-head TellsNoTime x items untold) ∙ untold_times items (All-tail TellsNoTime x items untold)
+
+pub times_same : (h items : List Item) → All TellsNoTime items → times_told (h ++ items) ≡ times_told h
+times_same h items untold = times_append h items ∙ ap (λ (times : List ℕ). times_told h ++ times) (untold_times items untold) ∙ append-nil (times_told h)
+
+pub time_same : (h items : List Item) → All TellsNoTime items → time_or_start (last_told time_by (h ++ items)) ≡ time_or_start (last_told time_by h)
+time_same h items untold = ap time_or_start (last_told-same time_by h items untold)
+
+-- one more tick
+times_tick : (h : List Item) (to : ℕ) → times_told (h ++ item.Tick to ∷ []) ≡ times_told h ++ to ∷ []
+unfolding times_told
+times_tick h to = times_append h (item.Tick to ∷ [])
+
+times_more : (now : ℕ) (ticks : List ℕ) (by : ℕ) → times_from now (ticks ++ by ∷ []) ≡ times_from now ticks ++ (now + sum ticks + by) ∷ []
+unfolding times_from
+times_more now [] by = ap (λ (to : ℕ). to ∷ []) (omega arith)
+times_more now (tick ∷ ticks) by =
+    ap (λ (times : List ℕ). (now + tick) ∷ times) (times_more (now + tick) ticks by ∙ ap (λ (to : ℕ). times_from (now + tick) ticks ++ to ∷ []) (omega (arith, sum_by-cons (λ (x : ℕ). x) tick ticks)))
+
+pub times_ticked : (h : List Item) (ticks : List ℕ) (to by : ℕ) → times_told h ≡ times_from 0 ticks → to ≡ sum ticks + by → times_told (h ++ item.Tick to ∷ []) ≡ times_from 0 (ticks ++ by ∷ [])
+times_ticked h ticks to by so_far is =
+    let same : to ≡ 0 + sum ticks + by = omega (arith, is) in
+    times_tick h to ∙ ap (λ (times : List ℕ). times ++ to ∷ []) so_far ∙ ap (λ (n : ℕ). times_from 0 ticks ++ n ∷ []) same ∙ sym (times_more 0 ticks by)
+
+-- ---- the readings
+-- the clocks show what the history told last
+abbrev pub AreShown : Clocks → List Item → Type 0
+AreShown clocks h = clocks.base ≡ time_or_start (last_told time_by h)
+
+shows_reading : (clocks : Clocks) (h : List Item) (node reading : ℕ) → AreShown clocks h → reading ≡ reading_at clocks node → reading ≡ shown clocks.leads h node
+shows_reading clocks h node reading now reads = omega (arith, now, reads)
+
+cause_timed : (clocks : Clocks) (h : List Item) (actor : Actor) (why : Cause) → AreShown clocks h → IsCauseRead clocks actor why → IsCauseTimed clocks.leads h actor why
+cause_timed clocks h (Node n) (cause.Early reading until) now read = shows_reading clocks h n reading now read
+cause_timed clocks h (Session s) (cause.Expired reading until) now read = absurd read
+cause_timed clocks h _ why now read = tt
+
+item_timed : (clocks : Clocks) (h : List Item) (x : Item) → AreShown clocks h → IsTimely clocks x → IsTimed clocks.leads h x
+item_timed clocks h (item.Take node reading term epoch until ceiling) now timely = shows_reading clocks h node reading now timely
+item_timed clocks h (item.Renew node reading term until) now timely = shows_reading clocks h node reading now timely
+item_timed clocks h (item.Accept session node term reading) now timely = shows_reading clocks h node reading now timely
+item_timed clocks h (item.Refused actor why) now timely = cause_timed clocks h actor why now timely
+item_timed clocks h x now timely = tt
+
+found_timely : (clocks : Clocks) (items : List Item) (place : ℕ) (x : Item) → All (IsTimely clocks) items → slice_get items place ≡ Some x → IsTimely clocks x
+found_timely clocks [] place x all found = absurd (cc)
+found_timely clocks (y ∷ items) zero x all found = subst (λ (z : Item). IsTimely clocks z) (same_Some y x found) (All-head (IsTimely clocks) y items all)
+found_timely clocks (y ∷ items) (suc place) x all found = found_timely clocks items place x (All-tail (IsTimely clocks) y items all) found
+
+pub readings_longer : (clocks : Clocks) (h items : List Item) → AreShown clocks h → All (IsTimely clocks) items → AtEach (IsTimed clocks.leads) h → AtEach (IsTimed clocks.leads) (h ++ items)
+readings_longer clocks h items now timely so_far =
+    each_longer (IsTimed clocks.leads) h items so_far (record {
+      at = λ place x found.
+          let before : AreShown clocks (h ++ take place items) = now ∙ sym (time_same h (take place items) (All-take TellsNoTime place items (all_untold clocks items timely))) in
+          item_timed clocks (h ++ take place items) x before (found_timely clocks items place x timely found);
+    })

@@ -1,0 +1,109 @@
+-- For turn_rules too.
+-- The first item of a commit that is asked, of a write and of a fetch answers its line. A transaction that is open has a start
+-- and an epoch.
+use Rattle.std.proofs.Common.{◌≡◌, ℕ, Bool, true, false, cond, nat_lt, ◌||◌, List, [], ◌∷◌, Option, Some, None, ◌⊎◌, inl, inr, refl, sym, subst, IsTrue, length}
+use Rattle.std.specs.Option.{option_or}
+use Rattle.stamp_base.specs.SetupNumbers.{SetupNumbers}
+use Rattle.stamp_base.specs.declared.limits.TheConstants.{KEY_LIMIT}
+use Rattle.port_io.specs.declared.weather.Fate.{Fate}
+use Rattle.port_io.specs.declared.weather.Fate.TheVariants.{Works, FailsUnchanged, FailsApplied}
+use Rattle.history_book.specs.declared.cause.Cause.TheVariants as cause
+use Rattle.history_book.specs.declared.item.Actor.TheVariants.{Session}
+use Rattle.history_book.specs.declared.item.Item.{Item}
+use Rattle.history_book.specs.declared.item.Item.TheVariants as item
+use Rattle.system_parts.specs.Rows.{Row, fetched}
+use Rattle.system_parts.specs.declared.session.State.{State as SessionState}
+use Rattle.system_parts.specs.declared.session.State.TheVariants as phase
+use Rattle.system_parts.specs.KeyRead.{ReadTurn, Asks, Answers}
+use Rattle.system_parts.specs.SessionSteps.{has_transaction, work_refusal, has_key, key_refusal}
+use Rattle.system_parts.specs.declared.instance.Request.TheVariants.{Commit}
+use Rattle.system_parts.specs.Instance.{InstanceEntry}
+use Rattle.machine.specs.State.{Client, State}
+use Rattle.machine.specs.Clients.{is_reading}
+use Rattle.machine.specs.Events.AskCommit.{commit_of, ask_commit_by, ask_commit_on}
+use Rattle.machine.specs.Events.Write.{write_open, write_on}
+use Rattle.machine.specs.Events.Fetch.{fetch_recall, keeps_read, reads_refusal, read_items, fetch_open, fetch_on}
+use Rattle.isolation_laws.specs.Words.{ClientAt}
+use Rattle.isolation_laws.specs.Sound.{Stands}
+use Rattle.command_semantics.specs.Answers.{IsRefusal, IsReadOnly, IsAskCommit, IsWrite, IsFetch}
+use Rattle.command_semantics.proofs.Plain.{AllPlain, one_plain, no_plain}
+use Rattle.command_semantics.proofs.Fitting.{EpochFits}
+use Rattle.command_semantics.proofs.OpeningItems.{Begins, alone, behind, ask_begins_if}
+
+-- a session that may work has a number where an open one has
+abbrev pub HasNumber : SessionState → Option ℕ → Type 0
+HasNumber state number = EpochFits state number
+
+starts_by : (state : SessionState) (start : Option ℕ) → (IsTrue (has_transaction state) → (t : ℕ) × (start ≡ Some t)) → HasNumber state start
+starts_by phase.Open start begun = let t = begun refl in subst (λ (x : Option ℕ). HasNumber phase.Open x) (sym t.1) tt
+starts_by _ start begun = tt
+
+pub starts : (w : State) (h : List Item) (s : ℕ) (c : Client) → Stands w h → ClientAt w.clients s c → HasNumber c.entry.state c.entry.start
+starts w h s c stands at = starts_by c.entry.state c.entry.start (λ has. let begun = stands.holds.requests.have_begun.begun s c at has in (begun.0, begun.1))
+
+-- ---- a commit
+abbrev pub CommitAnswer : ℕ → ℕ → Item → Type 0
+CommitAnswer s node x = IsAskCommit s (λ asked. asked ≡ node) x ⊎ IsRefusal (Session s) x ⊎ IsReadOnly s x
+
+commit_begins_of : (s node : ℕ) (c : Client) (start : ℕ) (keys : List ℕ) (post : Option InstanceEntry) → Begins (CommitAnswer s node) (commit_of s node c start keys post).items
+commit_begins_of s node c start [] post = alone _ _ (inr (inr refl))
+commit_begins_of s node c start (k ∷ ks) None = alone _ _ (inr (inl (refl, tt)))
+commit_begins_of s node c start (k ∷ ks) (Some i) = ask_begins_if s c (item.AskCommit s node start) (CommitAnswer s node) i (Commit s start c.entry.keys) _ (inl (refl, refl)) (λ n. inr (inl (refl, tt)))
+
+commit_begins_by : (s node : ℕ) (c : Client) (post : Option InstanceEntry) (state : SessionState) (reading : Bool) (start : Option ℕ) → HasNumber state start → Begins (CommitAnswer s node) (ask_commit_by s node c post (work_refusal state reading) start).items
+commit_begins_by s node c post phase.Open true start has = alone _ _ (inr (inl (refl, tt)))
+commit_begins_by s node c post phase.Open false None has = absurd has
+commit_begins_by s node c post phase.Open false (Some start) has = commit_begins_of s node c start c.entry.keys post
+commit_begins_by s node c post _ reading start has = alone _ _ (inr (inl (refl, tt)))
+
+pub ask_commit_begins : (s node : ℕ) (c : Client) (post : Option InstanceEntry) → HasNumber c.entry.state c.entry.start → Begins (CommitAnswer s node) (ask_commit_on s node c post).items
+ask_commit_begins s node c post has = commit_begins_by s node c post c.entry.state (is_reading c) c.entry.start has
+
+-- ---- a write
+abbrev pub WriteAnswer : ℕ → ℕ → List ℕ → Item → Type 0
+WriteAnswer s key value x = IsWrite s key value x ⊎ IsRefusal (Session s) x
+
+write_begins_if : (s key : ℕ) (value : List ℕ) (fate : Fate) (c : Client) (rows : List Row) (start : Option ℕ) (room : Bool) → HasNumber phase.Open start → Begins (WriteAnswer s key value) (write_open s key value fate c rows (cond room None (Some cause.TooManyKeys)) start).items
+write_begins_if s key value fate c rows start false has = alone _ _ (inr (refl, tt))
+write_begins_if s key value fate c rows None true has = absurd has
+write_begins_if s key value Works c rows (Some start) true has = alone _ _ (inl (refl, refl, refl))
+write_begins_if s key value FailsUnchanged c rows (Some start) true has = behind _ _ _ (inr refl) (one_plain _ refl)
+write_begins_if s key value FailsApplied c rows (Some start) true has = behind _ _ _ (inr refl) (one_plain _ refl)
+
+write_begins_by : (s key : ℕ) (value : List ℕ) (fate : Fate) (c : Client) (rows : List Row) (state : SessionState) (reading : Bool) (start : Option ℕ) → HasNumber state start → Begins (WriteAnswer s key value) (write_open s key value fate c rows (option_or (work_refusal state reading) (key_refusal c.entry.keys key)) start).items
+write_begins_by s key value fate c rows phase.Open true start has = alone _ _ (inr (refl, tt))
+write_begins_by s key value fate c rows phase.Open false start has = write_begins_if s key value fate c rows start (has_key c.entry.keys key || nat_lt (length c.entry.keys) KEY_LIMIT) has
+write_begins_by s key value fate c rows _ reading start has = alone _ _ (inr (refl, tt))
+
+pub write_begins : (s key : ℕ) (value : List ℕ) (fate : Fate) (c : Client) (rows : List Row) → HasNumber c.entry.state c.entry.start → Begins (WriteAnswer s key value) (write_on s key value fate c rows).items
+write_begins s key value fate c rows has = write_begins_by s key value fate c rows c.entry.state (is_reading c) c.entry.start has
+
+-- ---- a fetch
+abbrev pub FetchAnswer : ℕ → ℕ → Item → Type 0
+FetchAnswer s key x = IsFetch s key x ⊎ IsRefusal (Session s) x
+
+turn_plain : (s start key : ℕ) (turn : ReadTurn) → AllPlain (read_items s start key turn)
+turn_plain s start key (Asks r) = no_plain
+turn_plain s start key (Answers a) = one_plain _ refl
+
+fetch_begins_open : (setup : SetupNumbers) (s key : ℕ) (fate : Fate) (c : Client) (rows : List Row) (start epoch : Option ℕ) → HasNumber phase.Open start → HasNumber phase.Open epoch → Begins (FetchAnswer s key) (fetch_open setup s key fate c rows None start epoch).items
+fetch_begins_open setup s key fate c rows None epoch has sees = absurd has
+fetch_begins_open setup s key fate c rows (Some start) None has sees = absurd sees
+fetch_begins_open setup s key Works c rows (Some start) (Some epoch) has sees = behind _ _ _ (inl (refl, refl)) (turn_plain s start key (fetch_recall setup key start epoch c (fetched rows key start)).0)
+fetch_begins_open setup s key FailsUnchanged c rows (Some start) (Some epoch) has sees = alone _ _ (inr refl)
+fetch_begins_open setup s key FailsApplied c rows (Some start) (Some epoch) has sees = alone _ _ (inr refl)
+
+-- a key that is to be kept has no room
+fetch_begins_if : (setup : SetupNumbers) (s key : ℕ) (fate : Fate) (c : Client) (rows : List Row) (start epoch : Option ℕ) (kept room : Bool) → HasNumber phase.Open start → HasNumber phase.Open epoch
+    → Begins (FetchAnswer s key) (fetch_open setup s key fate c rows (cond kept (cond room None (Some cause.TooManyKeys)) None) start epoch).items
+fetch_begins_if setup s key fate c rows start epoch true false has sees = alone _ _ (inr (refl, tt))
+fetch_begins_if setup s key fate c rows start epoch true true has sees = fetch_begins_open setup s key fate c rows start epoch has sees
+fetch_begins_if setup s key fate c rows start epoch false room has sees = fetch_begins_open setup s key fate c rows start epoch has sees
+
+fetch_begins_by : (setup : SetupNumbers) (s key : ℕ) (fate : Fate) (c : Client) (rows : List Row) (state : SessionState) (reading : Bool) (start epoch : Option ℕ) → HasNumber state start → HasNumber state epoch → Begins (FetchAnswer s key) (fetch_open setup s key fate c rows (option_or (work_refusal state reading) (reads_refusal setup c key)) start epoch).items
+fetch_begins_by setup s key fate c rows phase.Open true start epoch has sees = alone _ _ (inr (refl, tt))
+fetch_begins_by setup s key fate c rows phase.Open false start epoch has sees = fetch_begins_if setup s key fate c rows start epoch (keeps_read setup c key) (has_key c.reads key || nat_lt (length c.reads) KEY_LIMIT) has sees
+fetch_begins_by setup s key fate c rows _ reading start epoch has sees = alone _ _ (inr (refl, tt))
+
+pub fetch_begins : (setup : SetupNumbers) (s key : ℕ) (fate : Fate) (c : Client) (rows : List Row) → HasNumber c.entry.state c.entry.start → HasNumber c.entry.state c.entry.epoch → Begins (FetchAnswer s key) (fetch_on setup s key fate c rows).items
+fetch_begins setup s key fate c rows has sees = fetch_begins_by setup s key fate c rows c.entry.state (is_reading c) c.entry.start c.entry.epoch has sees

@@ -1,0 +1,13 @@
+pub mod SoFar
+pub mod PlannedLaws
+pub mod Orders
+pub mod Clocks
+pub mod Halts
+pub mod Views
+pub mod Master
+pub mod Next
+pub mod Left
+pub mod Runs
+pub mod Answers
+pub mod Planned
+pub mod Laws

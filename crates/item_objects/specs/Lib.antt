@@ -1,4 +1,0 @@
-pub mod Expected
-pub mod Members
-pub mod Object
-pub mod Words

@@ -1,2 +1,0 @@
-pub mod CaughtUp
-mod Few

@@ -1,5 +1,0 @@
-use Rattle.line_steps.proofs.ScriptWalks.{lines_are_answered}
-use Rattle.line_steps.proofs.laws.lines_are_answered.Goals as goal
-
-pub returns : goal.returns
-returns c = lines_are_answered c.events_lower_what_is_left.ensures

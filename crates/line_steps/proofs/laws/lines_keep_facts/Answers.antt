@@ -1,5 +1,0 @@
-use Rattle.line_steps.proofs.Ending.{lines_keep_facts}
-use Rattle.line_steps.proofs.laws.lines_keep_facts.Goals as goal
-
-pub returns : goal.returns
-returns c = lines_keep_facts c.events_lower_what_is_left.ensures

@@ -1,5 +1,0 @@
-use Rattle.line_steps.proofs.Ending.{scripts_are_reached}
-use Rattle.line_steps.proofs.laws.scripts_are_reached.Goals as goal
-
-pub returns : goal.returns
-returns c = scripts_are_reached c.events_lower_what_is_left.ensures

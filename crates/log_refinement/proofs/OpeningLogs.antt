@@ -1,0 +1,169 @@
+-- The log of an actor, which follows all lines of the actor, follows those that have an opening item.
+use Rattle.std.proofs.Common.{◌≡◌, ◌⊎◌, Bool, true, false, cond, ◌&&◌, List, [], ◌∷◌, Option, Some, None, inl, inr, refl, sym, ◌∙◌, ap, subst}
+use Rattle.std.specs.Prelude.{filter, is_some, All}
+use Rattle.std.specs.List.{AllZip}
+use Rattle.std.proofs.lemmas.List.Elements.{All-head, All-tail}
+use Rattle.std.proofs.lemmas.Option.{none-some}
+use Rattle.history_book.specs.declared.item.Actor.{Actor}
+use Rattle.history_book.specs.declared.item.Actor.TheVariants.{Clock, Node, Session, Janitor}
+use Rattle.script_data.specs.declared.line.Line.{Line}
+use Rattle.script_data.specs.declared.line.Target.TheVariants as target
+use Rattle.script_data.specs.declared.line.Verb.{Verb}
+use Rattle.script_data.specs.declared.line.Verb.TheVariants as verb
+use Rattle.script_data.specs.Data.{ScriptData}
+use Rattle.command_semantics.specs.Answers.{same_actor, has_opening, is_of}
+use Rattle.command_semantics.proofs.ScriptWalks.{actor_same}
+use Rattle.split_parts.specs.declared.event.Event.{Event}
+use Rattle.split_parts.specs.declared.event.Event.TheVariants as event
+use Rattle.split_stores.specs.declared.seat.Entry.{Entry}
+use Rattle.split_stores.specs.Logs.{Logged}
+use Rattle.log_refinement.specs.Follows.{opener, first_event, plain_event, IsLater, Follows, is_own, AllFollow}
+use Rattle.log_refinement.specs.Laws.{NamesNoMaster, NameNoMaster}
+use Rattle.log_refinement.specs.Owed.{Standing, first_standing, gone_on, opened, is_paid}
+
+-- ---- the walk over lines that have an opening item
+-- the entries open these lines one after the other, and those between append no item that opens one
+unfoldable pub FollowsOpened : Actor → Standing → List Line → List Entry → Type 0
+FollowsOpened actor st lines [] = (lines ≡ []) × (is_paid st ≡ true)
+FollowsOpened actor st [] (e ∷ es) = (opener e.event ≡ None) × FollowsOpened actor (gone_on actor st e) [] es
+FollowsOpened actor st (line ∷ lines) (e ∷ es) =
+    ((opener e.event ≡ None) × FollowsOpened actor (gone_on actor st e) (line ∷ lines) es)
+    ⊎ ((is_paid st ≡ true) × (first_event actor line.verb ≡ Some e.event) × FollowsOpened actor (opened actor line.verb st e.kept.items) lines es)
+
+abbrev pub OpenedLines : List Line → Actor → List Entry → Type 0
+OpenedLines lines actor entries = FollowsOpened actor first_standing (filter (is_of actor) lines) entries
+
+abbrev pub AllOpened : ScriptData → List Actor → List Logged → Type 0
+AllOpened script actors logs = AllZip (λ actor log. OpenedLines script.lines actor log.entries) actors logs
+
+-- ---- forms
+later_none : (actor : Actor) (e : Event) → IsLater actor e → opener e ≡ None
+later_none (Session s) (event.Extend node) later = refl
+later_none (Session s) (event.Accept node session) later = refl
+later_none (Session s) (event.Decide node session) later = refl
+later_none (Session s) (event.Put node session) later = refl
+later_none (Session s) (event.Answer node session) later = refl
+later_none (Session s) (event.Step session) later = refl
+later_none Janitor event.SweepStep later = refl
+later_none actor e later = absurd later
+
+-- a form has an opening item where its first event is known by it
+opens_first : (actor : Actor) (v : Verb) → NamesNoMaster v → has_opening actor v ≡ is_some (first_event actor v)
+opens_first (Session s) (verb.Begin (target.Node node)) names = refl
+opens_first (Session s) (verb.Begin target.Master) names = absurd names
+opens_first (Session s) (verb.Commit (target.Node node)) names = refl
+opens_first (Session s) (verb.Commit target.Master) names = absurd names
+opens_first (Session s) (verb.Submit (target.Node node)) names = refl
+opens_first (Session s) (verb.Submit target.Master) names = absurd names
+opens_first Clock (verb.Tick by) names = refl
+opens_first (Node n) verb.Take names = refl
+opens_first Janitor (verb.Post name) names = refl
+opens_first actor v names = refl
+
+-- the first event of any other form opens no line by an item
+abbrev IsPlain : Actor → Verb → Option Event → Type 0
+IsPlain actor v None = Unit {0}
+IsPlain actor v (Some e) = (first_event actor v ≡ None) × (opener e ≡ None)
+
+plain_is : (actor : Actor) (v : Verb) → IsPlain actor v (plain_event actor v)
+plain_is (Session s) verb.Abort = (refl, refl)
+plain_is (Session s) verb.Heal = (refl, refl)
+plain_is (Session s) verb.Step = (refl, refl)
+plain_is (Session s) verb.Finish = (refl, refl)
+plain_is (Node n) verb.Extend = (refl, refl)
+plain_is (Node n) (verb.Accept session) = (refl, refl)
+plain_is (Node n) (verb.Decide session) = (refl, refl)
+plain_is (Node n) (verb.Put session) = (refl, refl)
+plain_is (Node n) (verb.Answer session) = (refl, refl)
+plain_is Janitor (verb.Sweep node txn) = (refl, refl)
+plain_is Janitor (verb.OpenSweep node txn) = (refl, refl)
+plain_is Janitor verb.Step = (refl, refl)
+plain_is Janitor verb.Finish = (refl, refl)
+plain_is actor v = tt
+
+pub plain_by : (actor : Actor) (v : Verb) (e : Event) → plain_event actor v ≡ Some e → (first_event actor v ≡ None) × (opener e ≡ None)
+plain_by actor v e is = subst (IsPlain actor v) is (plain_is actor v)
+
+-- a form has one first event
+one_of : (actor : Actor) (v : Verb) (e : Event) (plain : Option Event) → IsPlain actor v plain → first_event actor v ≡ Some e → plain ≡ None
+one_of actor v e None is first = refl
+one_of actor v e (Some other) is first = absurd (none-some e (sym is.0 ∙ first))
+
+pub first_alone : (actor : Actor) (v : Verb) (e : Event) → first_event actor v ≡ Some e → plain_event actor v ≡ None
+first_alone actor v e first = one_of actor v e (plain_event actor v) (plain_is actor v) first
+
+-- ---- one line more
+with_item : (actor : Actor) (P : List Line → Type 0) (line : Line) (lines : List Line) → NamesNoMaster line.verb → (e : Event) → first_event actor line.verb ≡ Some e → P (line ∷ filter (λ l. has_opening actor l.verb) lines) → P (filter (λ l. has_opening actor l.verb) (line ∷ lines))
+with_item actor P line lines names e first so =
+    let rest : List Line = filter (λ l. has_opening actor l.verb) lines in
+    let has : has_opening actor line.verb ≡ true = opens_first actor line.verb names ∙ ap is_some first in
+    subst (λ (b : Bool). P (cond b (line ∷ rest) rest)) (sym has) so
+
+without_item : (actor : Actor) (P : List Line → Type 0) (line : Line) (lines : List Line) → NamesNoMaster line.verb → first_event actor line.verb ≡ None → P (filter (λ l. has_opening actor l.verb) lines) → P (filter (λ l. has_opening actor l.verb) (line ∷ lines))
+without_item actor P line lines names none so =
+    let rest : List Line = filter (λ l. has_opening actor l.verb) lines in
+    let lacks : has_opening actor line.verb ≡ false = opens_first actor line.verb names ∙ ap is_some none in
+    subst (λ (b : Bool). P (cond b (line ∷ rest) rest)) (sym lacks) so
+
+-- ---- the walk
+opened_past : (actor : Actor) (st : Standing) (lines : List Line) (e : Entry) (es : List Entry) → opener e.event ≡ None → FollowsOpened actor (gone_on actor st e) lines es → FollowsOpened actor st lines (e ∷ es)
+unfolding FollowsOpened
+opened_past actor st [] e es none walks = (none, walks)
+opened_past actor st (line ∷ lines) e es none walks = inl (none, walks)
+
+-- the lines name no master
+unfoldable Named : List Line → Type 0
+Named [] = Unit {0}
+Named (line ∷ lines) = NamesNoMaster line.verb × Named lines
+
+follows_opened : (actor : Actor) (st : Standing) (lines : List Line) (es : List Entry) → Named lines → Follows actor st lines es → FollowsOpened actor st (filter (λ l. has_opening actor l.verb) lines) es
+unfolding Follows FollowsOpened Named
+follows_opened actor st [] [] named follows = (refl, follows)
+follows_opened actor st (line ∷ lines) [] named follows = without_item actor (λ (ls : List Line). FollowsOpened actor st ls []) line lines named.0 follows.0.0 (follows_opened actor st lines [] named.1 follows.1)
+follows_opened actor st [] (e ∷ es) named follows = (later_none actor e.event follows.0, follows_opened actor (gone_on actor st e) [] es tt follows.1)
+follows_opened actor st (line ∷ lines) (e ∷ es) named (inl on) =
+    opened_past actor st (filter (λ l. has_opening actor l.verb) (line ∷ lines)) e es (later_none actor e.event on.0) (follows_opened actor (gone_on actor st e) (line ∷ lines) es named on.1)
+follows_opened actor st (line ∷ lines) (e ∷ es) named (inr (inl k)) =
+    with_item actor (λ (ls : List Line). FollowsOpened actor st ls (e ∷ es)) line lines named.0 e.event k.1 (inr (k.0, k.1, follows_opened actor (opened actor line.verb st e.kept.items) lines es named.1 k.2))
+follows_opened actor st (line ∷ lines) (e ∷ es) named (inr (inr (inl k))) =
+    let plain = plain_by actor line.verb e.event k.1 in
+    let rest : List Line = filter (λ l. has_opening actor l.verb) lines in
+    without_item actor (λ (ls : List Line). FollowsOpened actor st ls (e ∷ es)) line lines named.0 plain.0 (opened_past actor st rest e es plain.1 (follows_opened actor (gone_on actor st e) lines es named.1 k.2))
+follows_opened actor st (line ∷ lines) (e ∷ es) named (inr (inr (inr k))) =
+    without_item actor (λ (ls : List Line). FollowsOpened actor st ls (e ∷ es)) line lines named.0 k.0.0 (follows_opened actor st lines (e ∷ es) named.1 k.1)
+
+-- ---- the lines of an actor
+named_by : (actor : Actor) (line : Line) (lines : List Line) → NamesNoMaster line.verb → Named (filter (is_own actor) lines) → (own : Bool) → Named (cond own (line ∷ filter (is_own actor) lines) (filter (is_own actor) lines))
+unfolding Named
+named_by actor line lines names rest true = (names, rest)
+named_by actor line lines names rest false = rest
+
+own_named : (actor : Actor) (lines : List Line) → NameNoMaster lines → Named (filter (is_own actor) lines)
+unfolding Named
+own_named actor [] names = tt
+own_named actor (line ∷ lines) names =
+    let Names : Line → Type 0 = λ l. NamesNoMaster l.verb in
+    named_by actor line lines (All-head Names line lines names) (own_named actor lines (All-tail Names line lines names)) (is_own actor line)
+
+-- those of them that have an opening item
+own_by : (actor : Actor) (line : Line) (lines : List Line) (own : Bool) → is_own actor line ≡ own → filter (is_of actor) lines ≡ filter (λ l. has_opening actor l.verb) (filter (is_own actor) lines) → filter (is_of actor) (line ∷ lines) ≡ filter (λ l. has_opening actor l.verb) (cond own (line ∷ filter (is_own actor) lines) (filter (is_own actor) lines))
+own_by actor line lines false is rest = ap (λ (b : Bool). cond (b && has_opening line.actor line.verb) (line ∷ filter (is_of actor) lines) (filter (is_of actor) lines)) is ∙ rest
+own_by actor line lines true is rest =
+    let item : is_of actor line ≡ has_opening actor line.verb = ap (λ (b : Bool). b && has_opening line.actor line.verb) is ∙ ap (λ (a : Actor). has_opening a line.verb) (actor_same line.actor actor is) in
+    ap (λ (b : Bool). cond b (line ∷ filter (is_of actor) lines) (filter (is_of actor) lines)) item
+    ∙ ap (λ (ls : List Line). cond (has_opening actor line.verb) (line ∷ ls) ls) rest
+
+own_opened : (actor : Actor) (lines : List Line) → filter (is_of actor) lines ≡ filter (λ l. has_opening actor l.verb) (filter (is_own actor) lines)
+own_opened actor [] = refl
+own_opened actor (line ∷ lines) = own_by actor line lines (is_own actor line) refl (own_opened actor lines)
+
+opened_lines : (lines : List Line) (actor : Actor) (es : List Entry) → NameNoMaster lines → Follows actor first_standing (filter (is_own actor) lines) es → OpenedLines lines actor es
+opened_lines lines actor es names follows =
+    subst (λ (ls : List Line). FollowsOpened actor first_standing ls es) (sym (own_opened actor lines)) (follows_opened actor first_standing (filter (is_own actor) lines) es (own_named actor lines names) follows)
+
+-- ---- the logs of all
+pub all_opened : (script : ScriptData) (actors : List Actor) (logs : List Logged) → NameNoMaster script.lines → AllFollow script actors logs → AllOpened script actors logs
+all_opened script [] [] names follow = tt
+all_opened script [] (log ∷ logs) names follow = absurd follow
+all_opened script (actor ∷ actors) [] names follow = absurd follow
+all_opened script (actor ∷ actors) (log ∷ logs) names follow = (opened_lines script.lines actor log.entries names follow.0, all_opened script actors logs names follow.1)

@@ -1,0 +1,381 @@
+-- The walk of a history along an actor's lines, over the items of one entry: what a line has begun, and what is owed of it.
+use Rattle.std.proofs.Common.{◌≡◌, ℕ, ◌==◌, ◌<◌, Bool, true, false, if◌then◌else◌, List, [], ◌∷◌, ◌++◌, Option, Some, None, ◌⊎◌, inl, inr, refl, sym, ◌∙◌, ap, subst, append_assoc, arith, length}
+use Rattle.std.proofs.lemmas.Option.{none-some}
+use Rattle.stamp_base.specs.SetupNumbers.{SetupNumbers}
+use Rattle.std.proofs.lemmas.Bool.{and_parts, cases_Bool, eqb-true}
+use Rattle.std.proofs.lemmas.List.{append-nil}
+use Rattle.port_io.specs.declared.weather.Fate.{Fate}
+use Rattle.history_book.specs.Members.{◌∈◌}
+use Rattle.history_book.specs.declared.item.Actor.{Actor}
+use Rattle.history_book.specs.declared.item.Actor.TheVariants.{Clock, Node, Session, Janitor}
+use Rattle.history_book.specs.declared.item.StoreStep.TheVariants as step
+use Rattle.history_book.specs.declared.item.Item.{Item}
+use Rattle.history_book.specs.declared.item.Item.TheVariants as item
+use Rattle.machine.specs.declared.event.Event.TheVariants as made
+use Rattle.machine.specs.State.{State}
+use Rattle.cause_rules.specs.Asks.{Ask}
+use Rattle.script_data.specs.declared.line.Line.{Line}
+use Rattle.script_data.specs.declared.line.Target.{Target}
+use Rattle.script_data.specs.declared.line.Target.TheVariants as target
+use Rattle.script_data.specs.declared.line.Verb.{Verb}
+use Rattle.script_data.specs.declared.line.Verb.TheVariants as verb
+use Rattle.command_semantics.specs.Answers.{IsAnswer, asks_last}
+use Rattle.command_semantics.specs.Laws.{ActorFits, TargetFits, VerbFits}
+use Rattle.command_semantics.proofs.AlwaysFit.{found}
+use Rattle.command_semantics.proofs.Walks.{AllNot}
+use Rattle.split_parts.specs.declared.event.Event.{Event}
+use Rattle.split_parts.specs.declared.event.Event.TheVariants as event
+use Rattle.split_stores.specs.Merged.{timed_at}
+use Rattle.log_refinement.specs.declared.owed.Owed.{Owed}
+use Rattle.log_refinement.specs.declared.owed.Owed.TheVariants.{Nothing as OwesNothing, Read, Answer, Removal, Erasure, Quiet}
+use Rattle.log_refinement.specs.Owed.{ends_read, Standing, with_item, with_items, is_paid, repeats, after_repeat, is_step, opened, standing_with}
+use Rattle.log_refinement.specs.Follows.{first_event}
+use Rattle.log_refinement.specs.Laws.{NamesNode}
+use Rattle.log_refinement.specs.Served.{Begun, Nothing, Reads, Asks, begun_by, begun_after, HasEnded, AnsweredServed}
+use Rattle.log_refinement.proofs.AskFacts.{MachineLaws, if_either}
+use Rattle.log_refinement.proofs.AskPlaces.{Known, KnownBehind, client_there, AskStands, Between, between, begin_first, CommitAsked, commit_first, stands_later, stands_own, stands_silent, own_says, ask_ended}
+use Rattle.log_refinement.proofs.BeginAsks.{begin_ask}
+use Rattle.log_refinement.proofs.CommitTrails.{commit_ask}
+use Rattle.log_refinement.proofs.KeptKeys.{KeysKept}
+use Rattle.log_refinement.proofs.Moves.{Move, items_of, state_after, history_after}
+use Rattle.log_refinement.proofs.WalkedItems.{still_owed, paid_read}
+
+-- ---- what was begun, after items
+unfoldable pub begun_over : Actor → Begun → List Item → Begun
+begun_over actor begun [] = begun
+begun_over actor begun (x ∷ xs) = begun_over actor (begun_after actor begun x) xs
+
+pub shift : (actor : Actor) (h : List Item) (begun : Begun) (lines : List Line) (x : Item) (xs later : List Item) → AnsweredServed actor (h ++ x ∷ xs) begun lines later → AnsweredServed actor ((h ++ x ∷ []) ++ xs) begun lines later
+shift actor h begun lines x xs later walks = subst (λ (before : List Item). AnsweredServed actor before begun lines later) (sym (append_assoc h (x ∷ []) xs)) walks
+
+-- items that open no line of the actor
+pub walks_over : (actor : Actor) (h : List Item) (begun : Begun) (lines : List Line) (xs later : List Item) → AllNot actor xs → AnsweredServed actor (h ++ xs) (begun_over actor begun xs) lines later → AnsweredServed actor h begun lines (xs ++ later)
+unfolding AllNot AnsweredServed begun_over
+walks_over actor h begun lines [] later none walks = subst (λ (before : List Item). AnsweredServed actor before begun lines later) (append-nil h) walks
+walks_over actor h begun [] (x ∷ xs) later none walks = (none.0, walks_over actor (h ++ x ∷ []) (begun_after actor begun x) [] xs later none.1 (shift actor h (begun_over actor (begun_after actor begun x) xs) [] x xs later walks))
+walks_over actor h begun (line ∷ lines) (x ∷ xs) later none walks = inr (none.0, walks_over actor (h ++ x ∷ []) (begun_after actor begun x) (line ∷ lines) xs later none.1 (shift actor h (begun_over actor (begun_after actor begun x) xs) (line ∷ lines) x xs later walks))
+
+pub nothing_over : (actor : Actor) (xs : List Item) → begun_over actor Nothing xs ≡ Nothing
+unfolding begun_over
+nothing_over actor [] = refl
+nothing_over actor (x ∷ xs) = nothing_over actor xs
+
+asks_over : (actor : Actor) (s : ℕ) (ask : Ask) (since xs : List Item) → begun_over actor (Asks s ask since) xs ≡ Asks s ask (since ++ xs)
+unfolding begun_over
+asks_over actor s ask since [] = ap (λ (zs : List Item). Asks s ask zs) (sym (append-nil since))
+asks_over actor s ask since (x ∷ xs) = asks_over actor s ask (since ++ x ∷ []) xs ∙ ap (λ (zs : List Item). Asks s ask zs) (append_assoc since (x ∷ []) xs)
+
+-- a read is over, or goes on
+reads_over : (actor : Actor) (key : ℕ) (xs : List Item) → (begun_over actor (Reads key) xs ≡ Nothing) ⊎ (begun_over actor (Reads key) xs ≡ Reads key)
+unfolding begun_over
+reads_over actor key [] = inr refl
+reads_over actor key (x ∷ xs) = elim (cases_Bool (ends_read actor key x)) [
+  | inl ends ↦ inl (ap (λ (b : Bool). begun_over actor (if b then Nothing else Reads key) xs) ends ∙ nothing_over actor xs)
+  | inr on ↦ elim (reads_over actor key xs) [
+    | inl over ↦ inl (ap (λ (b : Bool). begun_over actor (if b then Nothing else Reads key) xs) on ∙ over)
+    | inr still ↦ inr (ap (λ (b : Bool). begun_over actor (if b then Nothing else Reads key) xs) on ∙ still)
+  ]
+]
+
+reads_own : (actor : Actor) (steps : Bool) (key : ℕ) (st : Standing) (xs : List Item) → st.owed ≡ Read key → (begun_over actor (Reads key) xs ≡ Nothing) ⊎ ((begun_over actor (Reads key) xs ≡ Reads key) × ((with_items actor steps st xs).owed ≡ Read key))
+unfolding begun_over with_items
+reads_own actor steps key st [] is = inr (refl, is)
+reads_own actor steps key st (x ∷ xs) is = elim (cases_Bool (ends_read actor key x)) [
+  | inl ends ↦ inl (ap (λ (b : Bool). begun_over actor (if b then Nothing else Reads key) xs) ends ∙ nothing_over actor xs)
+  | inr on ↦ elim (reads_own actor steps key (with_item actor steps st x) xs (still_owed actor steps key st.owed x is on)) [
+    | inl over ↦ inl (ap (λ (b : Bool). begun_over actor (if b then Nothing else Reads key) xs) on ∙ over)
+    | inr still ↦ inr (ap (λ (b : Bool). begun_over actor (if b then Nothing else Reads key) xs) on ∙ still.0, still.1)
+  ]
+]
+
+-- ---- what was begun, and what is owed of it
+pub record OfAsk (actor : Actor) (s : ℕ) (ask : Ask) (w : State) (h since : List Item) (st : Standing) : Type 0 where
+  pub own : actor ≡ Session s
+  pub session : s < 16
+  pub node : ask.node < w.setup.nodes
+  pub stands : AskStands s ask.node ask.start w h since st
+
+abbrev pub ComesTo : Actor → State → List Item → Standing → Begun → Type 0
+ComesTo actor w h st Nothing = Unit {0}
+ComesTo actor w h st (Reads key) = st.owed ≡ Read key
+ComesTo actor w h st (Asks s ask since) = OfAsk actor s ask w h since st
+
+own_none : (actor : Actor) (s : ℕ) (items : List Item) → actor ≡ Session s → AllNot actor items → AllNot (Session s) items
+own_none actor s items own none = subst (λ (a : Actor). AllNot a items) own none
+
+-- what is known before and behind a move; the numbers of the setup stay
+pub record Moved (v : Move) : Type 0 where
+  pub k : Known v.state v.history
+  pub l : KnownBehind v
+  pub setup : (state_after v).setup.nodes ≡ v.state.setup.nodes
+
+-- an event of another log
+asks_past : MachineLaws → (actor : Actor) (s : ℕ) (ask : Ask) (v : Move) (since : List Item) (st : Standing) → Moved v → AllNot actor (items_of v) → OfAsk actor s ask v.state v.history since st → OfAsk actor s ask (state_after v) (history_after v) (since ++ items_of v) st
+asks_past laws actor s ask v since st moved none of = record {
+  own = of.own;
+  session = of.session;
+  node = subst (λ (n : ℕ). ask.node < n) (sym moved.setup) of.node;
+  stands = stands_later laws s ask.node ask.start v since st (between s v of.session moved.k moved.l (own_none actor s (items_of v) of.own none)) of.stands;
+}
+
+-- what has come behind a move of what was begun
+abbrev ComesBehind : Actor → Move → Standing → Begun → Type 0
+ComesBehind actor v st begun = ComesTo actor (state_after v) (history_after v) st begun
+
+pub comes_past : MachineLaws → (actor : Actor) (v : Move) (st : Standing) (begun : Begun) → Moved v → AllNot actor (items_of v) → ComesTo actor v.state v.history st begun → ComesBehind actor v st (begun_over actor begun (items_of v))
+comes_past laws actor v st Nothing moved none comes = subst (λ (b : Begun). ComesBehind actor v st b) (sym (nothing_over actor (items_of v))) tt
+comes_past laws actor v st (Reads key) moved none comes = elim (reads_over actor key (items_of v)) [
+  | inl over ↦ subst (λ (b : Begun). ComesBehind actor v st b) (sym over) tt
+  | inr still ↦ subst (λ (b : Begun). ComesBehind actor v st b) (sym still) comes
+]
+comes_past laws actor v st (Asks s ask since) moved none comes = subst (λ (b : Begun). ComesBehind actor v st b) (sym (asks_over actor s ask since (items_of v))) (asks_past laws actor s ask v since st moved none comes)
+
+-- ---- an event of its own that opens no line
+-- the standing behind it
+abbrev pub gone_by : Actor → Standing → Event → List Item → Standing
+gone_by actor st e items = record (with_items actor (is_step e) st items) { owed = after_repeat actor e items (with_items actor (is_step e) st items).owed }
+
+step_is : (base : ℕ) (leads : List ℕ) (e : Event) → is_step e ≡ true → (r : ℕ) × (timed_at base leads e ≡ made.Step r)
+step_is base leads (event.Step session) is = (session, refl)
+step_is base leads _ is = absurd (cc)
+
+-- an answer that repeats is of the ask, and says nothing
+pub record Repeats (s n : ℕ) (e : Event) (items : List Item) : Type 0 where
+  pub is : e ≡ event.Answer n s
+  pub none : items ≡ []
+
+repeats_is : (s n : ℕ) (e : Event) (items : List Item) → repeats (Session s) n e items ≡ true → Repeats s n e items
+repeats_is s n (event.Answer node session) [] is =
+    let both = and_parts (session == s) (node == n) is in
+    record { is = ap (λ (m : ℕ). event.Answer m session) (eqb-true node n both.1) ∙ ap (λ (q : ℕ). event.Answer n q) (eqb-true session s both.0); none = refl }
+repeats_is s n _ _ is = absurd (cc)
+
+answer_node : (s n : ℕ) (start : Option ℕ) (w : State) (h since : List Item) (asked : ℕ) (st : Standing) → AskStands s n start w h since (record st { owed = Answer asked }) → asked ≡ n
+answer_node s n None w h since asked st stands = stands.comes
+answer_node s n (Some t) w h since asked st stands = stands.comes
+
+repeat_by : (s n : ℕ) (start : Option ℕ) (w : State) (h since : List Item) (e : Event) (items : List Item) (owed : Owed) (st : Standing) → (Repeats s n e items → AskStands s n start w h since (record st { owed = OwesNothing })) → AskStands s n start w h since (record st { owed = owed }) →
+    AskStands s n start w h since (record st { owed = after_repeat (Session s) e items owed })
+repeat_by s n start w h since e items (Answer asked) st silent stands =
+    let asked_is : asked ≡ n = answer_node s n start w h since asked st stands in
+    if_either (λ o. AskStands s n start w h since (record st { owed = o })) (repeats (Session s) asked e items) OwesNothing (Answer asked)
+    (λ is. silent (subst (λ (m : ℕ). Repeats s m e items) asked_is (repeats_is s asked e items is))) (λ other. stands)
+repeat_by s n start w h since e items OwesNothing st silent stands = stands
+repeat_by s n start w h since e items (Read key) st silent stands = stands
+repeat_by s n start w h since e items (Removal txn) st silent stands = stands
+repeat_by s n start w h since e items Erasure st silent stands = stands
+repeat_by s n start w h since e items Quiet st silent stands = stands
+
+no_items : (s : ℕ) (steps : Bool) (st : Standing) (items : List Item) → items ≡ [] → with_items (Session s) steps st items ≡ st
+unfolding with_items
+no_items s steps st items none = ap (λ (xs : List Item). with_items (Session s) steps st xs) none
+
+-- an event of the log, made in the time of a place of a history
+pub record TimedMove : Type 0 where
+  pub state : State
+  pub history : List Item
+  pub base : ℕ
+  pub leads : List ℕ
+  pub event : Event
+  pub fate : Fate
+
+abbrev pub made_of : TimedMove → Move
+made_of g = record { state = g.state; history = g.history; event = timed_at g.base g.leads g.event; fate = g.fate }
+
+own_stands : MachineLaws → (s n : ℕ) (start : Option ℕ) (g : TimedMove) (since : List Item) (st : Standing) → n < g.state.setup.nodes → Between s (made_of g) → AskStands s n start g.state g.history since st →
+    AskStands s n start (state_after (made_of g)) (history_after (made_of g)) (since ++ items_of (made_of g)) (gone_by (Session s) st g.event (items_of (made_of g)))
+own_stands laws s n start g since st less b stands =
+    let v : Move = made_of g in
+    let items : List Item = items_of v in
+    let steps : Bool = is_step g.event in
+    let one : Standing = with_items (Session s) steps st items in
+    let post = found g.state.nodes n (let many : length g.state.nodes ≡ g.state.setup.nodes = b.k.fit.nodes in omega (arith, many, less)) in
+    let behind : AskStands s n start (state_after v) (history_after v) (since ++ items) one = stands_own laws s n start v since steps st b (λ is x m. let r = step_is g.base g.leads g.event is in own_says s r.0 v b r.1 x m) stands in
+    repeat_by s n start (state_after v) (history_after v) (since ++ items) g.event items one.owed one
+    (λ k. subst (λ (z : Standing). AskStands s n start (state_after v) (history_after v) (since ++ items) (record z { owed = OwesNothing })) (sym (no_items s steps st items k.none))
+    (stands_silent laws s n start v since st b (record { post = post.0; here = post.1; answer = ap (λ (x : Event). timed_at g.base g.leads x) k.is; none = k.none }) stands))
+    behind
+
+-- ---- an event of its own
+read_stays : (actor : Actor) (e : Event) (items : List Item) (owed : Owed) (key : ℕ) → owed ≡ Read key → after_repeat actor e items owed ≡ Read key
+read_stays actor e items owed key is = ap (λ (o : Owed). after_repeat actor e items o) is
+
+asks_on : MachineLaws → (actor : Actor) (s : ℕ) (ask : Ask) (g : TimedMove) (since : List Item) (st : Standing) → Moved (made_of g) → AllNot actor (items_of (made_of g)) → OfAsk actor s ask g.state g.history since st →
+    OfAsk actor s ask (state_after (made_of g)) (history_after (made_of g)) (since ++ items_of (made_of g)) (gone_by actor st g.event (items_of (made_of g)))
+asks_on laws actor s ask g since st moved none of =
+    let v : Move = made_of g in
+    let items : List Item = items_of v in
+    record {
+      own = of.own;
+      session = of.session;
+      node = subst (λ (n : ℕ). ask.node < n) (sym moved.setup) of.node;
+      stands = subst (λ (a : Actor). AskStands s ask.node ask.start (state_after v) (history_after v) (since ++ items) (gone_by a st g.event items)) (sym of.own)
+          (own_stands laws s ask.node ask.start g since st of.node (between s v of.session moved.k moved.l (own_none actor s items of.own none)) of.stands);
+    }
+
+pub comes_on : MachineLaws → (actor : Actor) (g : TimedMove) (st : Standing) (begun : Begun) → Moved (made_of g) → AllNot actor (items_of (made_of g)) → ComesTo actor g.state g.history st begun →
+    ComesBehind actor (made_of g) (gone_by actor st g.event (items_of (made_of g))) (begun_over actor begun (items_of (made_of g)))
+comes_on laws actor g st Nothing moved none comes =
+    let items : List Item = items_of (made_of g) in
+    subst (λ (b : Begun). ComesBehind actor (made_of g) (gone_by actor st g.event items) b) (sym (nothing_over actor items)) tt
+comes_on laws actor g st (Reads key) moved none comes =
+    let v : Move = made_of g in
+    let items : List Item = items_of v in
+    elim (reads_own actor (is_step g.event) key st items comes) [
+      | inl over ↦ subst (λ (b : Begun). ComesBehind actor v (gone_by actor st g.event items) b) (sym over) tt
+      | inr still ↦ subst (λ (b : Begun). ComesBehind actor v (gone_by actor st g.event items) b) (sym still.0) (read_stays actor g.event items (with_items actor (is_step g.event) st items).owed key still.1)
+    ]
+comes_on laws actor g st (Asks s ask since) moved none comes =
+    let items : List Item = items_of (made_of g) in
+    subst (λ (b : Begun). ComesBehind actor (made_of g) (gone_by actor st g.event items) b) (sym (asks_over actor s ask since items)) (asks_on laws actor s ask g since st moved none comes)
+
+-- ---- once nothing is owed
+pub has_ended : (actor : Actor) (w : State) (h : List Item) (st : Standing) (begun : Begun) → ComesTo actor w h st begun → is_paid st ≡ true → HasEnded h begun
+has_ended actor w h st Nothing comes paid = tt
+has_ended actor w h st (Reads key) comes paid = paid_read st.owed st.unerased key comes paid
+has_ended actor w h st (Asks s ask since) comes paid = ask_ended s ask.node ask.start w h since st comes.stands paid
+
+-- ---- an event that opens a line
+begin_answer : (h : List Item) (actor : Actor) (to : Target) (session node : ℕ) → IsAnswer (asks_last h) actor (verb.Begin to) (item.AskBegin session node) → (actor ≡ Session session) × asks_last h to node
+begin_answer h (Session s) to session node (inl k) = (ap (λ (q : ℕ). Session q) (sym k.0), k.1)
+begin_answer h (Session s) to session node (inr (inl refusal)) = absurd refusal
+begin_answer h (Session s) to session node (inr (inr instead)) = absurd instead
+begin_answer h (Node n) to session node (inl k) = absurd k
+begin_answer h (Node n) to session node (inr (inl refusal)) = absurd refusal
+begin_answer h (Node n) to session node (inr (inr instead)) = absurd instead
+begin_answer h Clock to session node (inl k) = absurd k
+begin_answer h Clock to session node (inr (inl refusal)) = absurd refusal
+begin_answer h Clock to session node (inr (inr instead)) = absurd instead
+begin_answer h Janitor to session node (inl k) = absurd k
+begin_answer h Janitor to session node (inr (inl refusal)) = absurd refusal
+begin_answer h Janitor to session node (inr (inr instead)) = absurd instead
+
+commit_answer : (h : List Item) (actor : Actor) (to : Target) (session node start : ℕ) → IsAnswer (asks_last h) actor (verb.Commit to) (item.AskCommit session node start) → (actor ≡ Session session) × asks_last h to node
+commit_answer h (Session s) to session node start (inl k) = (ap (λ (q : ℕ). Session q) (sym k.0), k.1)
+commit_answer h (Session s) to session node start (inr (inl refusal)) = absurd refusal
+commit_answer h (Session s) to session node start (inr (inr instead)) = absurd instead
+commit_answer h (Node n) to session node start (inl k) = absurd k
+commit_answer h (Node n) to session node start (inr (inl refusal)) = absurd refusal
+commit_answer h (Node n) to session node start (inr (inr instead)) = absurd instead
+commit_answer h Clock to session node start (inl k) = absurd k
+commit_answer h Clock to session node start (inr (inl refusal)) = absurd refusal
+commit_answer h Clock to session node start (inr (inr instead)) = absurd instead
+commit_answer h Janitor to session node start (inl k) = absurd k
+commit_answer h Janitor to session node start (inr (inl refusal)) = absurd refusal
+commit_answer h Janitor to session node start (inr (inr instead)) = absurd instead
+
+-- the node is in range; a line that names the master has no first event
+node_fits : (h : List Item) (setup : SetupNumbers) (to : Target) (node : ℕ) → NamesNode to → asks_last h to node → TargetFits setup to → node < setup.nodes
+node_fits h setup (target.Node named) node names is fits = subst (λ (n : ℕ). n < setup.nodes) (sym is) fits
+node_fits h setup target.Master node names is fits = absurd names
+
+none_there : (e : Event) → None ≡ Some e → ⊥
+none_there e is = none-some e is
+
+begin_names : (actor : Actor) (to : Target) (e : Event) → first_event actor (verb.Begin to) ≡ Some e → NamesNode to
+begin_names (Session s) (target.Node node) e is = tt
+begin_names (Session s) target.Master e is = none_there e is
+begin_names (Node n) to e is = absurd (none_there e is)
+begin_names Clock to e is = absurd (none_there e is)
+begin_names Janitor to e is = absurd (none_there e is)
+
+commit_names : (actor : Actor) (to : Target) (e : Event) → first_event actor (verb.Commit to) ≡ Some e → NamesNode to
+commit_names (Session s) (target.Node node) e is = tt
+commit_names (Session s) target.Master e is = none_there e is
+commit_names (Node n) to e is = absurd (none_there e is)
+commit_names Clock to e is = absurd (none_there e is)
+commit_names Janitor to e is = absurd (none_there e is)
+
+-- what the line has begun, and what is owed of it, by its items
+abbrev Opened : Actor → Verb → State → List Item → Standing → Item → List Item → List Item → Type 0
+Opened actor line w h st first rest items = ComesTo actor w (h ++ items) (opened actor line st items) (begun_over actor (begun_by line first) rest)
+
+nothing_opened : (actor : Actor) (line : Verb) (w : State) (h : List Item) (st : Standing) (first : Item) (rest items : List Item) → begun_by line first ≡ Nothing → Opened actor line w h st first rest items
+nothing_opened actor line w h st first rest items none = subst (λ (b : Begun). ComesTo actor w (h ++ items) (opened actor line st items) b) (sym (ap (λ (b : Begun). begun_over actor b rest) none ∙ nothing_over actor rest)) tt
+
+read_opened : (actor : Actor) (key : ℕ) (w : State) (h : List Item) (st : Standing) (first : Item) (rest items : List Item) → items ≡ first ∷ rest → Opened actor (verb.Read key) w h st first rest items
+read_opened actor key w h st (item.Step who (step.Fetch fetched cells)) rest items is =
+    let first : Item = item.Step who (step.Fetch fetched cells) in
+    let now : Standing = standing_with actor false st first (Read key) in
+    subst (λ (xs : List Item). Opened actor (verb.Read key) w h st first rest xs) (sym is) (elim (reads_own actor false key now rest refl) [
+      | inl over ↦ subst (λ (b : Begun). ComesTo actor w (h ++ first ∷ rest) (with_items actor false now rest) b) (sym over) tt
+      | inr still ↦ subst (λ (b : Begun). ComesTo actor w (h ++ first ∷ rest) (with_items actor false now rest) b) (sym still.0) still.1
+    ])
+read_opened actor key w h st (item.Step who what) rest items is = nothing_opened actor (verb.Read key) w h st (item.Step who what) rest items refl
+read_opened actor key w h st first rest items is = nothing_opened actor (verb.Read key) w h st first rest items refl
+
+-- an ask that stands alone is what its line has begun
+one_alone : (x y : Item) (rest : List Item) → y ∷ rest ≡ x ∷ [] → rest ≡ []
+one_alone x y rest is = cc
+
+-- the first event of a line, with the item that answers the line and those behind it
+pub record OpensLine (actor : Actor) (line : Verb) (st : Standing) (first : Item) (rest : List Item) (own : Event) (v : Move) : Type 0 where
+  pub moved : Moved v
+  pub fits : ActorFits v.state.setup actor
+  pub asks : VerbFits v.state.setup line
+  pub begins : first_event actor line ≡ Some own
+  pub kept : KeysKept actor v.state st.written
+  pub answers : IsAnswer (asks_last v.history) actor line first
+  pub is : items_of v ≡ first ∷ rest
+
+-- what the line has begun behind it
+abbrev OpenedBehind : Actor → Verb → Standing → Item → List Item → Move → Type 0
+OpenedBehind actor line st first rest v = Opened actor line (state_after v) v.history st first rest (items_of v)
+
+begin_opened : MachineLaws → (actor : Actor) (to : Target) (st : Standing) (session node : ℕ) (rest : List Item) (own : Event) (v : Move) → OpensLine actor (verb.Begin to) st (item.AskBegin session node) rest own v → OpenedBehind actor (verb.Begin to) st (item.AskBegin session node) rest v
+unfolding ◌∈◌ with_items begun_over
+begin_opened laws actor to st session node rest own v o =
+    let w : State = v.state in
+    let h : List Item = v.history in
+    let x : Item = item.AskBegin session node in
+    let answer : (actor ≡ Session session) × asks_last h to node = begin_answer h actor to session node o.answers in
+    let less : session < 16 = subst (λ (a : Actor). ActorFits w.setup a) answer.0 o.fits in
+    let c = client_there w h session o.moved.k less in
+    let d = client_there (state_after v) (history_after v) session o.moved.l less in
+    let told : x ∈ items_of v = subst (λ (xs : List Item). x ∈ xs) (sym o.is) (inl refl) in
+    let takes = (laws.asks w h v.event v.fate session c.0 d.0 o.moved.k.tells c.1 d.1).begins node told in
+    let none : rest ≡ [] = one_alone x x rest (sym o.is ∙ takes.2) in
+    let of : OfAsk actor session (begin_ask node) (state_after v) (h ++ x ∷ []) [] (standing_with actor false st x (Answer node)) = record {
+      own = answer.0;
+      session = less;
+      node = subst (λ (n : ℕ). node < n) (sym o.moved.setup) (node_fits h w.setup to node (begin_names actor to own o.begins) answer.1 o.asks);
+      stands = begin_first session node h;
+    } in
+    subst (λ (xs : List Item). OpenedBehind actor (verb.Begin to) st x xs v) (sym none) (subst (λ (xs : List Item). Opened actor (verb.Begin to) (state_after v) h st x [] xs) (sym takes.2) of)
+
+commit_opened : MachineLaws → (actor : Actor) (to : Target) (st : Standing) (session node start : ℕ) (rest : List Item) (own : Event) (v : Move) → OpensLine actor (verb.Commit to) st (item.AskCommit session node start) rest own v → OpenedBehind actor (verb.Commit to) st (item.AskCommit session node start) rest v
+unfolding ◌∈◌ with_items begun_over
+commit_opened laws actor to st session node start rest own v o =
+    let w : State = v.state in
+    let h : List Item = v.history in
+    let x : Item = item.AskCommit session node start in
+    let answer : (actor ≡ Session session) × asks_last h to node = commit_answer h actor to session node start o.answers in
+    let less : session < 16 = subst (λ (a : Actor). ActorFits w.setup a) answer.0 o.fits in
+    let c = client_there w h session o.moved.k less in
+    let d = client_there (state_after v) (history_after v) session o.moved.l less in
+    let told : x ∈ items_of v = subst (λ (xs : List Item). x ∈ xs) (sym o.is) (inl refl) in
+    let takes = (laws.asks w h v.event v.fate session c.0 d.0 o.moved.k.tells c.1 d.1).commits node start told in
+    let none : rest ≡ [] = one_alone x x rest (sym o.is ∙ takes.4) in
+    let now : Known (state_after v) (h ++ x ∷ []) = subst (λ (xs : List Item). Known (state_after v) (h ++ xs)) takes.4 o.moved.l in
+    let asked : CommitAsked session node start w (state_after v) h c.0 d.0 = record { k = o.moved.k; l = now; at = c.1; there = d.1; was = takes.0; now = takes.1; old = takes.2; new = takes.3 } in
+    let of : OfAsk actor session (commit_ask node start) (state_after v) (h ++ x ∷ []) [] (standing_with actor false st x (Answer node)) = record {
+      own = answer.0;
+      session = less;
+      node = subst (λ (n : ℕ). node < n) (sym o.moved.setup) (node_fits h w.setup to node (commit_names actor to own o.begins) answer.1 o.asks);
+      stands = commit_first session node start w (state_after v) h c.0 d.0 (standing_with actor false st x (Answer node)) asked (subst (λ (a : Actor). KeysKept a w st.written) answer.0 o.kept) refl;
+    } in
+    subst (λ (xs : List Item). OpenedBehind actor (verb.Commit to) st x xs v) (sym none) (subst (λ (xs : List Item). Opened actor (verb.Commit to) (state_after v) h st x [] xs) (sym takes.4) of)
+
+begin_line : MachineLaws → (actor : Actor) (to : Target) (st : Standing) (first : Item) (rest : List Item) (own : Event) (v : Move) → OpensLine actor (verb.Begin to) st first rest own v → OpenedBehind actor (verb.Begin to) st first rest v
+begin_line laws actor to st (item.AskBegin session node) rest own v o = begin_opened laws actor to st session node rest own v o
+begin_line laws actor to st first rest own v o = nothing_opened actor (verb.Begin to) (state_after v) v.history st first rest (items_of v) refl
+
+commit_line : MachineLaws → (actor : Actor) (to : Target) (st : Standing) (first : Item) (rest : List Item) (own : Event) (v : Move) → OpensLine actor (verb.Commit to) st first rest own v → OpenedBehind actor (verb.Commit to) st first rest v
+commit_line laws actor to st (item.AskCommit session node start) rest own v o = commit_opened laws actor to st session node start rest own v o
+commit_line laws actor to st first rest own v o = nothing_opened actor (verb.Commit to) (state_after v) v.history st first rest (items_of v) refl
+
+pub comes_open : MachineLaws → (actor : Actor) (line : Verb) (st : Standing) (first : Item) (rest : List Item) (own : Event) (v : Move) → OpensLine actor line st first rest own v → OpenedBehind actor line st first rest v
+comes_open laws actor (verb.Read key) st first rest own v o = read_opened actor key (state_after v) v.history st first rest (items_of v) o.is
+comes_open laws actor (verb.Begin to) st first rest own v o = begin_line laws actor to st first rest own v o
+comes_open laws actor (verb.Commit to) st first rest own v o = commit_line laws actor to st first rest own v o
+comes_open laws actor line st first rest own v o = nothing_opened actor line (state_after v) v.history st first rest (items_of v) refl

@@ -1,0 +1,84 @@
+-- The history that logs settle into, which follow the lines of a script, answers the script and is as it plans.
+use Rattle.std.proofs.Common.{◌≡◌, List, [], None, refl, sym, ap, subst, arith}
+use Rattle.std.specs.Prelude.{filter, sum, IsTrue}
+use Rattle.history_book.specs.Members.{◌∈◌}
+use Rattle.history_book.specs.declared.item.Actor.{Actor}
+use Rattle.history_book.specs.declared.item.Actor.TheVariants.{Clock, Session}
+use Rattle.history_book.specs.declared.item.Item.{Item}
+use Rattle.system_parts.specs.declared.session.State.{State as SessionState}
+use Rattle.system_parts.specs.SessionSteps.{has_transaction}
+use Rattle.cause_laws.proofs.AlwaysExplained.{tells_at_first}
+use Rattle.script_data.specs.Data.{ScriptData}
+use Rattle.command_semantics.specs.Answers.{is_of, asks_last, Answered}
+use Rattle.command_semantics.specs.Planned.{ticks_in}
+use Rattle.command_semantics.specs.Runs.{opening_played}
+use Rattle.command_semantics.proofs.AlwaysFit.{fit_at_first}
+use Rattle.command_semantics.proofs.Ending.{opening_reached}
+use Rattle.command_semantics.proofs.Takes.{takes_at_first}
+use Rattle.command_semantics.specs.Orders.{EventsStayTold}
+use Rattle.cluster_core.specs.Whole.{Whole}
+use Rattle.thread_scripts.specs.Actors.{actors_of}
+use Rattle.split_stores.specs.Logs.{Logged}
+use Rattle.split_stores.specs.Merged.{kept_items, IsSettledAt, Settled}
+use Rattle.split_stores.specs.Merging.{logs_of}
+use Rattle.split_stores.specs.Orders.{rises_in, without_lines, SettledByPlans, SettledIsPlanned}
+use Rattle.log_refinement.specs.Laws.{AllRise, IsCarried, SettledLogsAnswer, SettledLogsArePlanned, SettledLogsServe}
+use Rattle.log_refinement.specs.Owed.{first_standing}
+use Rattle.log_refinement.specs.Served.{Nothing, AnsweredServed}
+use Rattle.log_refinement.proofs.AskFacts.{MachineLaws}
+use Rattle.log_refinement.proofs.ActorLogs.{WovenLog, woven_log}
+use Rattle.log_refinement.proofs.ClockTicks.{rises_as_lines, ticks_most}
+use Rattle.log_refinement.proofs.KeptKeys.{KeysKept}
+use Rattle.log_refinement.proofs.MadeEntries.{IsGood, AllMade, all_made}
+use Rattle.log_refinement.proofs.OpeningLogs.{AllOpened, all_opened}
+use Rattle.log_refinement.proofs.OtherLogs.{own_lines}
+use Rattle.log_refinement.proofs.ServedEntries.{entries_serve}
+use Rattle.log_refinement.proofs.WalkedEntries.{entries_answer}
+
+-- before the first entry
+good_first : (script : ScriptData) → IsCarried script → IsGood script (opening_played script)
+good_first script carried = record {
+  told = record { reached = opening_reached script carried.setup; tells = tells_at_first script.setup carried.setup };
+  fit = fit_at_first script.setup;
+  takes = takes_at_first script.setup carried.setup;
+}
+
+rises_settled : (script : ScriptData) (logs : List Logged) (whole : Whole) → IsCarried script → AllOpened script (actors_of script) logs → AllRise logs → (settled : Settled (without_lines script) (logs_of logs) whole) → rises_in settled.merged ≡ ticks_in script.lines
+rises_settled script logs whole carried follow rise settled =
+    let k : WovenLog script Clock settled.merged = woven_log script Clock logs settled.merged carried.lines follow rise settled.in_order in
+    rises_as_lines script.setup k.entries settled.merged first_standing script.lines k.woven (own_lines script.setup Clock script.lines carried.lines) k.follows
+
+all_settled : EventsStayTold → SettledByPlans → (script : ScriptData) (logs : List Logged) (whole : Whole) → IsCarried script → AllOpened script (actors_of script) logs → AllRise logs → (settled : Settled (without_lines script) (logs_of logs) whole) → AllMade script settled.merged (opening_played script)
+all_settled law by_plans script logs whole carried follow rise settled =
+    let at : IsSettledAt script settled.merged whole = by_plans script (logs_of logs) whole settled in
+    let same : sum (rises_in settled.merged) ≡ sum (ticks_in script.lines) = ap sum (rises_settled script logs whole carried follow rise settled) in
+    all_made law script settled.merged (opening_played script) carried.playable.leads (omega (arith, same, ticks_most script.lines, carried.playable.ticks)) (good_first script carried) at.replayed
+
+pub settled_logs_answer : EventsStayTold → SettledByPlans → SettledLogsAnswer
+settled_logs_answer law by_plans script logs whole carried follow_all rise settled actor =
+    let follow : AllOpened script (actors_of script) logs = all_opened script (actors_of script) logs carried.masters follow_all in
+    let k : WovenLog script actor settled.merged = woven_log script actor logs settled.merged carried.lines follow rise settled.in_order in
+    let made : AllMade script settled.merged (opening_played script) = all_settled law by_plans script logs whole carried follow rise settled in
+    let answers : Answered asks_last actor [] None (filter (is_of actor) script.lines) (kept_items settled.merged) = entries_answer script actor k.entries settled.merged (opening_played script) made k.woven first_standing None (filter (is_of actor) script.lines) (own_lines script.setup actor script.lines carried.lines) k.follows tt in
+    subst (λ (h : List Item). Answered asks_last actor [] None (filter (is_of actor) script.lines) h) (sym (by_plans script (logs_of logs) whole settled).history) answers
+
+pub settled_logs_are_planned : SettledIsPlanned → SettledLogsArePlanned
+settled_logs_are_planned law script logs whole carried follow rise settled =
+    law script (logs_of logs) whole settled carried.setup carried.playable (rises_settled script logs whole carried (all_opened script (actors_of script) logs carried.masters follow) rise settled)
+
+-- before the first entry no session has a transaction open
+keys_first : (script : ScriptData) (actor : Actor) → IsCarried script → KeysKept actor (opening_played script).state []
+unfolding ◌∈◌
+keys_first script (Session s) carried = λ c at opened key m.
+    let begun = (good_first script carried).told.tells.stands.holds.requests.have_begun.begun s c at (subst (λ (state : SessionState). IsTrue (has_transaction state)) (sym opened) refl) in
+    absurd begun.2
+keys_first script _ carried = tt
+
+pub settled_logs_serve : MachineLaws → EventsStayTold → SettledByPlans → SettledLogsServe
+settled_logs_serve laws law by_plans script logs whole carried follow_all rise settled actor =
+    let follow : AllOpened script (actors_of script) logs = all_opened script (actors_of script) logs carried.masters follow_all in
+    let k : WovenLog script actor settled.merged = woven_log script actor logs settled.merged carried.lines follow rise settled.in_order in
+    let made : AllMade script settled.merged (opening_played script) = all_settled law by_plans script logs whole carried follow rise settled in
+    let serves : AnsweredServed actor [] Nothing (filter (is_of actor) script.lines) (kept_items settled.merged) =
+    entries_serve laws script actor k.entries settled.merged (opening_played script) made k.woven (laws.first script.setup) first_standing Nothing (filter (is_of actor) script.lines) (own_lines script.setup actor script.lines carried.lines) k.follows (keys_first script actor carried) tt in
+    subst (λ (h : List Item). AnsweredServed actor [] Nothing (filter (is_of actor) script.lines) h) (sym (by_plans script (logs_of logs) whole settled).history) serves

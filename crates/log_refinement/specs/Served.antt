@@ -1,0 +1,98 @@
+-- Each line of a script is answered in the history, and what it has begun is over before its actor's next line: a read, and the ask
+-- of a begin or a commit with all that it comes to.
+use Rattle.std.specs.Prelude.{◌≡◌, ◌⊎◌, ℕ, true, List, [], ◌∷◌, ◌++◌, filter, Option, None, Some, if◌then◌else◌}
+use Rattle.stamp_base.specs.declared.stores.Store.{Store}
+use Rattle.stamp_base.specs.declared.stores.Store.TheVariants.{Master}
+use Rattle.history_book.specs.Members.{◌∈◌}
+use Rattle.history_book.specs.declared.cause.Cause.{Cause}
+use Rattle.history_book.specs.declared.cause.Cause.TheVariants as cause
+use Rattle.history_book.specs.declared.item.Actor.{Actor}
+use Rattle.history_book.specs.declared.item.Actor.TheVariants.{Node, Session}
+use Rattle.history_book.specs.declared.item.StoreStep.TheVariants as step
+use Rattle.history_book.specs.declared.item.Item.{Item}
+use Rattle.history_book.specs.declared.item.Item.TheVariants as item
+use Rattle.script_data.specs.declared.line.Line.{Line}
+use Rattle.script_data.specs.declared.line.Verb.{Verb}
+use Rattle.script_data.specs.declared.line.Verb.TheVariants as verb
+use Rattle.script_data.specs.Data.{ScriptData}
+use Rattle.command_semantics.specs.Answers.{Opens, IsAnswer, asks_last, is_of}
+use Rattle.cause_rules.specs.Asks.{Ask}
+use Rattle.cause_rules.specs.OpenAsks.{open_asks_of}
+use Rattle.cause_rules.specs.Written.{written_keys}
+use Rattle.log_refinement.specs.Owed.{leaves_cells, ends_read}
+
+-- ---- what an ask has come to, by the history up to a place and by the part of it since the ask
+-- it is not open any more, or the session was told to wait
+abbrev pub IsOver : List Item → ℕ → ℕ → List Item → Type 0
+IsOver h s node since = (open_asks_of h node s ≡ 0) ⊎ ((commit : ℕ) × (item.Refused (Session s) (cause.NotYet commit) ∈ since))
+
+-- a call of the session on a store failed
+abbrev pub HasFailed : ℕ → List Item → Type 0
+HasFailed s items = (store : Store) × (item.Fault (Session s) store ∈ items)
+
+-- the session was told that the outcome of its commit is open
+abbrev pub WasOpen : ℕ → List Item → Type 0
+WasOpen s items = (start : ℕ) × (item.Refused (Session s) (cause.Open start) ∈ items)
+
+-- behind a commit, of which the session was not told before that its outcome is open, the record goes, or a call failed
+abbrev pub IsRemoved : ℕ → List Item → Type 0
+IsRemoved s since =
+    (before behind : List Item) (start commit : ℕ) → since ≡ before ++ item.Committed s start commit ∷ behind → WasOpen s before ⊎ (item.Step (Session s) (step.Remove start) ∈ behind) ⊎ HasFailed s behind
+
+-- behind a refusal that ended a commit each cell that the transaction wrote is erased, or a call failed
+abbrev pub IsErased : List Item → ℕ → Option ℕ → List Item → Type 0
+IsErased h s None since = Unit {0}
+IsErased h s (Some start) since =
+    (before behind : List Item) (why : Cause) → since ≡ before ++ item.Refused (Session s) why ∷ behind → leaves_cells why ≡ true →
+    ((key : ℕ) → key ∈ written_keys h start → item.Step (Session s) (step.Erase key start) ∈ behind) ⊎ HasFailed s behind
+
+-- all three
+pub record HasCome (h : List Item) (s : ℕ) (ask : Ask) (since : List Item) : Type 0 where
+  pub over : IsOver h s ask.node since
+  pub removed : IsRemoved s since
+  pub erased : IsErased h s ask.start since
+
+-- the session could not drive it: its node had no request of the session, or could not reach its record
+abbrev pub IsLeft : ℕ → ℕ → List Item → Type 0
+IsLeft s node since = ((who : Actor) × (item.Refused who (cause.NoRequest s) ∈ since)) ⊎ (item.Fault (Node node) Master ∈ since)
+
+-- ---- what a line has begun
+pub data Begun : Type 0 where
+  Nothing : Begun
+  -- a read of the key
+  Reads : (key : ℕ) → Begun
+  -- an ask of the session, with what stands since
+  Asks : (session : ℕ) (ask : Ask) (since : List Item) → Begun
+
+-- by the item that answers it
+abbrev pub begun_by : Verb → Item → Begun
+begun_by (verb.Read key) (item.Step actor (step.Fetch fetched cells)) = Reads key
+begun_by (verb.Begin to) (item.AskBegin session node) = Asks session (record { node = node; start = None }) []
+begun_by (verb.Commit to) (item.AskCommit session node start) = Asks session (record { node = node; start = Some start }) []
+begun_by verb x = Nothing
+
+-- after one more item
+abbrev pub begun_after : Actor → Begun → Item → Begun
+begun_after actor Nothing x = Nothing
+begun_after actor (Reads key) x = if ends_read actor key x then Nothing else Reads key
+begun_after actor (Asks session ask since) x = Asks session ask (since ++ x ∷ [])
+
+-- it is over
+abbrev pub HasEnded : List Item → Begun → Type 0
+HasEnded h Nothing = Unit {0}
+HasEnded h (Reads key) = ⊥
+HasEnded h (Asks session ask since) = IsLeft session ask.node since ⊎ HasCome h session ask since
+
+-- ---- the lines of an actor
+-- Walks the history along the actor's lines, behind the part of it before. Each item answers the next line, once what was begun is
+-- over, or opens no line of the actor. At the end no line is left, and nothing that was begun.
+unfoldable pub AnsweredServed : Actor → List Item → Begun → List Line → List Item → Type 0
+AnsweredServed actor before begun lines [] = HasEnded before begun × (lines ≡ [])
+AnsweredServed actor before begun [] (x ∷ xs) = (Opens actor x → ⊥) × AnsweredServed actor (before ++ x ∷ []) (begun_after actor begun x) [] xs
+AnsweredServed actor before begun (line ∷ lines) (x ∷ xs) =
+    (HasEnded before begun × IsAnswer (asks_last before) line.actor line.verb x × AnsweredServed actor (before ++ x ∷ []) (begun_by line.verb x) lines xs)
+    ⊎ ((Opens actor x → ⊥) × AnsweredServed actor (before ++ x ∷ []) (begun_after actor begun x) (line ∷ lines) xs)
+
+-- each line of each actor is answered, and served
+abbrev pub Served : ScriptData → List Item → Type 0
+Served script h = (actor : Actor) → AnsweredServed actor [] Nothing (filter (is_of actor) script.lines) h

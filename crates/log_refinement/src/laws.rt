@@ -1,0 +1,47 @@
+// What holds of every history that logs settle into, which follow the lines of a script.
+ghost use Rattle.log_refinement.specs.Laws.{ServedHistoriesAnswer, SettledLogsAnswer, SettledLogsArePlanned, SettledLogsServe};
+
+use command_semantics::events_stay_told;
+use request_completion::{
+    asks_are_turns, begins_are_asked, closed_asks_are_over, ends_at_first, events_keep_ends,
+    lost_asks_are_over, over_stays_over, session_turns, silent_answers_repeat,
+};
+use split_stores::{settled_by_plans, settled_is_planned};
+
+/// The history answers the script: each line of each actor once, in the order of the actor's lines.
+pub fn settled_logs_answer()
+    ensures { SettledLogsAnswer }
+{
+    events_stay_told();
+    settled_by_plans();
+}
+
+/// It has the faults, ticks and readings that the script plans.
+pub fn settled_logs_are_planned()
+    ensures { SettledLogsArePlanned }
+{
+    settled_is_planned();
+}
+
+/// It serves the script: what each begin and each commit has asked is over before its session's next line, unless its node could
+/// not be asked for it.
+pub fn settled_logs_serve()
+    ensures { SettledLogsServe }
+{
+    events_stay_told();
+    settled_by_plans();
+    ends_at_first();
+    events_keep_ends();
+    session_turns();
+    begins_are_asked();
+    asks_are_turns();
+    lost_asks_are_over();
+    silent_answers_repeat();
+    over_stays_over();
+    closed_asks_are_over();
+}
+
+/// A history that serves a script answers it, at the same places.
+pub fn served_histories_answer()
+    ensures { ServedHistoriesAnswer }
+{}

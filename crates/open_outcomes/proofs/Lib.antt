@@ -1,2 +1,0 @@
-mod FlagLemmas
-mod ChoiceLemmas

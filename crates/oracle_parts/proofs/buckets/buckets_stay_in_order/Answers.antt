@@ -1,5 +1,0 @@
-use Rattle.oracle_parts.proofs.BucketVerdicts.{length-contents, in_order}
-use Rattle.oracle_parts.proofs.buckets.buckets_stay_in_order.Goals as goal
-
-pub returns : goal.returns
-returns c = record { many = length-contents; in_order = in_order }

@@ -1,5 +1,0 @@
-use Rattle.oracle_parts.proofs.BucketLaws.{kept_commit_last}
-use Rattle.oracle_parts.proofs.buckets.kept_commits_are_the_last.Goals as goal
-
-pub returns : goal.returns
-returns c = kept_commit_last

@@ -1,5 +1,0 @@
-use Rattle.oracle_parts.proofs.BucketVerdicts.{verdict_shown}
-use Rattle.oracle_parts.proofs.buckets.verdicts_are_shown.Goals as goal
-
-pub returns : goal.returns
-returns c = verdict_shown

@@ -1,5 +1,0 @@
-use Rattle.oracle_parts.proofs.BucketLaws.{water_recorded}
-use Rattle.oracle_parts.proofs.buckets.waters_were_recorded.Goals as goal
-
-pub returns : goal.returns
-returns c = water_recorded

@@ -1,5 +1,0 @@
-use Rattle.oracle_parts.proofs.InstanceNumbers.{goes_up}
-use Rattle.oracle_parts.proofs.instance_laws.instances_go_up.Goals as goal
-
-pub returns : goal.returns
-returns c = goes_up

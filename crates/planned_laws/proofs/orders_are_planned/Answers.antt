@@ -1,5 +1,0 @@
-use Rattle.planned_laws.proofs.AnyOrder.{orders_are_planned}
-use Rattle.planned_laws.proofs.orders_are_planned.Goals as goal
-
-pub returns : goal.returns
-returns c = orders_are_planned

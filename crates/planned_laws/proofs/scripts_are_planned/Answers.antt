@@ -1,5 +1,0 @@
-use Rattle.planned_laws.proofs.PlannedLines.{scripts_are_planned}
-use Rattle.planned_laws.proofs.scripts_are_planned.Goals as goal
-
-pub returns : goal.returns
-returns c = scripts_are_planned c.events_lower_what_is_left.ensures

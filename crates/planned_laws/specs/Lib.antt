@@ -1,3 +1,0 @@
-pub mod SoFar
-pub mod Laws
-pub mod Orders

@@ -1,0 +1,168 @@
+-- One event: a step that a session has still to make is made, fails, or is left; or the session vanishes.
+use Rattle.std.proofs.Common.{◌≡◌, ℕ, Bool, List, [], ◌∷◌, ◌++◌, Option, Some, ◌⊎◌, inl, inr, refl, sym, ◌∙◌, ap, subst}
+use Rattle.std.specs.Prelude.{slice_set}
+use Rattle.std.proofs.lemmas.Bool.{cases_eq}
+use Rattle.port_io.specs.declared.weather.Fate.{Fate}
+use Rattle.history_book.specs.Members.{◌∈◌}
+use Rattle.history_book.specs.declared.item.Actor.TheVariants.{Session}
+use Rattle.history_book.specs.declared.item.Item.{Item}
+use Rattle.history_book.specs.declared.item.Item.TheVariants as item
+use Rattle.history_book.proofs.MemberLemmas.{in_front, in_back}
+use Rattle.system_parts.specs.declared.asks.Ask.{Ask}
+use Rattle.system_parts.specs.declared.asks.Told.{Told}
+use Rattle.system_parts.specs.declared.session.State.{State as SessionState}
+use Rattle.system_parts.specs.declared.session.State.TheVariants as phase
+use Rattle.system_parts.specs.SessionSteps.{SessionEntry, vanish_refusal}
+use Rattle.machine.specs.declared.event.Event.{Event}
+use Rattle.machine.specs.declared.event.Event.TheVariants as event
+use Rattle.machine.specs.State.{Completes, Client, State}
+use Rattle.machine.specs.Clients.{client_vanished}
+use Rattle.machine.specs.Machine.{Step, stepped, at_client, step_by, with_client}
+use Rattle.machine.specs.Events.Step.{after_asks}
+use Rattle.machine.specs.Events.Vanish.{vanish_by, vanish_on}
+use Rattle.machine.specs.StoreSteps.{step_item, store_of}
+use Rattle.isolation_laws.specs.Words.{ClientAt}
+use Rattle.machine.proofs.Lookups.{client_set}
+use Rattle.cause_laws.specs.Shows.{Tells}
+use Rattle.request_completion.specs.Completions.{GoesOn}
+use Rattle.request_completion.specs.Ends.{AreGoneSince, IsToAsk, HasVanished, Comes, Made, Failed, Vanished, Left}
+use Rattle.request_completion.specs.Turns.{Turn, Rests, AsksBegin, AsksCommit, Begins, LosesBegin, Writes, Frees, Undoes, Hands, Commits, Refuses, LeavesOpen, Vanishes, IsGone}
+use Rattle.request_completion.proofs.EventFacts.{still_there}
+use Rattle.request_completion.proofs.LeftByOthers.{others_leave_completions}
+use Rattle.request_completion.proofs.CompletionMoves.{steps_move_completions}
+use Rattle.request_completion.proofs.SinceKept.{gone_kept}
+use Rattle.request_completion.proofs.TurnsOfOutcomes.{session_turns}
+
+-- ---- whose event it is
+same_step : (r s : ℕ) → event.Step r ≡ event.Step s → r ≡ s
+same_step r s same = cc
+
+same_vanish : (r s : ℕ) → event.Vanish r ≡ event.Vanish s → r ≡ s
+same_vanish r s same = cc
+
+which : (e : Event) (s : ℕ) → (e ≡ event.Step s) ⊎ ((e ≡ event.Vanish s) ⊎ ((e ≡ event.Step s → ⊥) × (e ≡ event.Vanish s → ⊥)))
+which (event.Step r) s = elim (cases_eq r s) [
+  | inl same ↦ inl (ap (λ (q : ℕ). event.Step q) same)
+  | inr other ↦ inr (inr (λ is. other (same_step r s is), λ is. cc))
+]
+which (event.Vanish r) s = elim (cases_eq r s) [
+  | inl same ↦ inr (inl (ap (λ (q : ℕ). event.Vanish q) same))
+  | inr other ↦ inr (inr (λ is. cc, λ is. other (same_vanish r s is)))
+]
+which _ s = inr (inr (λ is. cc, λ is. cc))
+
+-- ---- a session that is gone stays so
+unlike : (state one other : SessionState) → state ≡ one → state ≡ other → (one ≡ other → ⊥) → ⊥
+unlike state one other is same not = not (sym is ∙ same)
+
+waits_not : (state : SessionState) → (state ≡ phase.Committing) ⊎ (state ≡ phase.Placing) → state ≡ phase.Gone → ⊥
+waits_not state (inl committing) gone = unlike state phase.Committing phase.Gone committing gone (λ is. cc)
+waits_not state (inr placing) gone = unlike state phase.Placing phase.Gone placing gone (λ is. cc)
+
+gone_stays : (h : List Item) (s : ℕ) (c d : Client) (items : List Item) → Turn h s c items d → c.entry.state ≡ phase.Gone → d.entry.state ≡ phase.Gone
+gone_stays h s c d items (Rests same none) gone = ap (λ (e : SessionEntry). e.state) same ∙ gone
+gone_stays h s c d items (AsksBegin node free asking is) gone = absurd (unlike c.entry.state phase.Free phase.Gone free gone (λ is. cc))
+gone_stays h s c d items (AsksCommit node start opened committing start_is then is) gone = absurd (unlike c.entry.state phase.Open phase.Gone opened gone (λ is. cc))
+gone_stays h s c d items (Begins asking opened keys asked none) gone = absurd (unlike c.entry.state phase.Asking phase.Gone asking gone (λ is. cc))
+gone_stays h s c d items (LosesBegin asking free asked none) gone = absurd (unlike c.entry.state phase.Asking phase.Gone asking gone (λ is. cc))
+gone_stays h s c d items (Writes start key value opened same start_is is) gone = absurd (unlike c.entry.state phase.Open phase.Gone opened gone (λ is. cc))
+gone_stays h s c d items (Frees (inl opened) free none) gone = absurd (unlike c.entry.state phase.Open phase.Gone opened gone (λ is. cc))
+gone_stays h s c d items (Frees (inr completing) free none) gone = absurd (unlike c.entry.state (phase.Completing completing.0) phase.Gone completing.1 gone (λ is. cc))
+gone_stays h s c d items (Undoes (inl opened) undone none) gone = absurd (unlike c.entry.state phase.Open phase.Gone opened gone (λ is. cc))
+gone_stays h s c d items (Undoes (inr outcome) undone none) gone = absurd (unlike c.entry.state phase.OpenOutcome phase.Gone outcome gone (λ is. cc))
+gone_stays h s c d items (Hands committing placing start none) gone = absurd (unlike c.entry.state phase.Committing phase.Gone committing gone (λ is. cc))
+gone_stays h s c d items (Commits start commit (inl waits) ends same) gone = absurd (waits_not c.entry.state waits.state gone)
+gone_stays h s c d items (Commits start commit (inr outcome) ends same) gone = absurd (unlike c.entry.state phase.OpenOutcome phase.Gone outcome.0 gone (λ is. cc))
+gone_stays h s c d items (Refuses start why waits leaves ends same) gone = absurd (waits_not c.entry.state waits.state gone)
+gone_stays h s c d items (LeavesOpen start waits told none same) gone = absurd (waits_not c.entry.state waits.state gone)
+gone_stays h s c d items (Vanishes now is) gone = now
+gone_stays h s c d items (IsGone was same) gone = ap (λ (x : Client). x.entry.state) same ∙ gone
+
+pub gone_vanished : (w : State) (h : List Item) (e : Event) (fate : Fate) (s : ℕ) (c : Client) → Tells w h → AreGoneSince w.clients h → ClientAt w.clients s c → c.entry.state ≡ phase.Gone → HasVanished (stepped w e fate).state.clients (h ++ (stepped w e fate).items) s
+gone_vanished w h e fate s c tells are at gone =
+    let there : (d : Client) × ClientAt (stepped w e fate).state.clients s d = still_there w e fate s c at in
+    let now : there.0.entry.state ≡ phase.Gone = gone_stays h s c there.0 (stepped w e fate).items (session_turns w h e fate s c there.0 tells at there.1) gone in
+    record { client = there.0; at = there.1; gone = now; told = (gone_kept w h e fate tells are).vanished s there.0 there.1 now }
+
+-- ---- its own step
+-- what is left after the first
+left_on : (clients : List Client) (s start : ℕ) (undo : Bool) (asked : Ask) (c d : Client) (asks : List Ask) → ClientAt clients s d → d ≡ after_asks c asks → c.entry.state ≡ phase.Completing undo → c.entry.start ≡ Some start → asked ∈ asks → IsToAsk clients s start undo asked
+unfolding ◌∈◌
+left_on clients s start undo asked c d [] at is completes start_is m = absurd m
+left_on clients s start undo asked c d (first ∷ rest) at is completes start_is m = record {
+  client = d;
+  at = at;
+  completes = ap (λ (x : Client). x.entry.state) is ∙ completes;
+  start_is = ap (λ (x : Client). x.entry.start) is ∙ start_is;
+  asks = first ∷ rest;
+  under_way = ap (λ (x : Client). x.under_way) is;
+  left = m;
+}
+
+step_on : (clients : List Client) (h : List Item) (s start : ℕ) (undo : Bool) (asked first : Ask) (rest : List Ask) (made : Item) (c d : Client) (items : List Item) → ((answer : Told) → step_item (Session s) asked answer ≡ made) → ClientAt clients s d → c.entry.state ≡ phase.Completing undo → c.entry.start ≡ Some start → asked ∈ (first ∷ rest) → GoesOn s c first rest items d → Comes clients h s start undo asked made items
+unfolding ◌∈◌
+step_on clients h s start undo asked first rest made c d items tells at completes start_is (inl same) (inl (answer, told, is)) =
+    Made (subst (λ (xs : List Item). made ∈ xs) (sym told) (inl (sym (tells answer) ∙ ap (λ (a : Ask). step_item (Session s) a answer) same)))
+step_on clients h s start undo asked first rest made c d items tells at completes start_is (inr deeper) (inl (answer, told, is)) = Left (left_on clients s start undo asked c d rest at is completes start_is deeper)
+step_on clients h s start undo asked first rest made c d items tells at completes start_is m (inr (fault, is)) = Failed (store_of first) fault
+
+by_asks : (w : State) (h : List Item) (fate : Fate) (s start : ℕ) (undo : Bool) (asked : Ask) (made : Item) (c : Client) (asks : List Ask) → ((answer : Told) → step_item (Session s) asked answer ≡ made) → ClientAt w.clients s c → c.entry.state ≡ phase.Completing undo → c.entry.start ≡ Some start → c.under_way ≡ Completes asks → asked ∈ asks → Comes (stepped w (event.Step s) fate).state.clients (h ++ (stepped w (event.Step s) fate).items) s start undo asked made (stepped w (event.Step s) fate).items
+unfolding ◌∈◌
+by_asks w h fate s start undo asked made c [] tells at completes start_is under_way m = absurd m
+by_asks w h fate s start undo asked made c (first ∷ rest) tells at completes start_is under_way m =
+    let there : (d : Client) × ClientAt (stepped w (event.Step s) fate).state.clients s d = still_there w (event.Step s) fate s c at in
+    step_on (stepped w (event.Step s) fate).state.clients (h ++ (stepped w (event.Step s) fate).items) s start undo asked first rest made c there.0 (stepped w (event.Step s) fate).items tells there.1 completes start_is m
+    (steps_move_completions w s fate c there.0 undo first rest at completes under_way there.1)
+
+-- ---- it vanishes
+vanish_is : (w : State) (s : ℕ) (fate : Fate) (c : Client) (undo : Bool) → ClientAt w.clients s c → c.entry.state ≡ phase.Completing undo → (stepped w (event.Vanish s) fate).state.clients ≡ slice_set w.clients s (client_vanished c)
+vanish_is w s fate c undo at completes =
+    let f : Client → Step = λ x. step_by (vanish_on s x) (λ p. with_client w s p) in
+    ap (λ (found : Option Client). (at_client w found f).state.clients) at ∙ ap (λ (state : SessionState). slice_set w.clients s (vanish_by s c (vanish_refusal state)).parts) completes
+
+vanishes : (w : State) (h : List Item) (fate : Fate) (s start : ℕ) (undo : Bool) (asked : Ask) (made : Item) (c : Client) → Tells w h → AreGoneSince w.clients h → ClientAt w.clients s c → c.entry.state ≡ phase.Completing undo → Comes (stepped w (event.Vanish s) fate).state.clients (h ++ (stepped w (event.Vanish s) fate).items) s start undo asked made (stepped w (event.Vanish s) fate).items
+vanishes w h fate s start undo asked made c tells are at completes =
+    let there : (d : Client) × ClientAt (stepped w (event.Vanish s) fate).state.clients s d = still_there w (event.Vanish s) fate s c at in
+    let set : ClientAt (slice_set w.clients s (client_vanished c)) s there.0 = subst (λ (clients : List Client). ClientAt clients s there.0) (vanish_is w s fate c undo at completes) there.1 in
+    let gone : there.0.entry.state ≡ phase.Gone = elim (client_set w.clients s s (client_vanished c) there.0 set) [ inl here ↦ ap (λ (x : Client). x.entry.state) here.1 | inr other ↦ absurd (other.0 refl) ] in
+    Vanished (record { client = there.0; at = there.1; gone = gone; told = (gone_kept w h (event.Vanish s) fate tells are).vanished s there.0 there.1 gone })
+
+-- ---- any event
+stays : (w : State) (h : List Item) (e : Event) (fate : Fate) (s start : ℕ) (undo : Bool) (asked : Ask) (k : IsToAsk w.clients s start undo asked) → Tells w h → (e ≡ event.Step s → ⊥) → (e ≡ event.Vanish s → ⊥) → IsToAsk (stepped w e fate).state.clients s start undo asked
+stays w h e fate s start undo asked k tells no_step no_vanish =
+    let there : (d : Client) × ClientAt (stepped w e fate).state.clients s d = still_there w e fate s k.client k.at in
+    let same : there.0 ≡ k.client = others_leave_completions w h e fate s k.client there.0 undo tells.stands k.at k.completes no_step no_vanish there.1 in
+    record {
+      client = k.client;
+      at = subst (λ (x : Client). ClientAt (stepped w e fate).state.clients s x) same there.1;
+      completes = k.completes;
+      start_is = k.start_is;
+      asks = k.asks;
+      under_way = k.under_way;
+      left = k.left;
+    }
+
+pub goes_on : (w : State) (h : List Item) (e : Event) (fate : Fate) (s start : ℕ) (undo : Bool) (asked : Ask) (made : Item) → Tells w h → AreGoneSince w.clients h → ((answer : Told) → step_item (Session s) asked answer ≡ made) → IsToAsk w.clients s start undo asked → Comes (stepped w e fate).state.clients (h ++ (stepped w e fate).items) s start undo asked made (stepped w e fate).items
+goes_on w h e fate s start undo asked made tells are makes k = elim (which e s) [
+  | inl step ↦
+      subst (λ (x : Event). Comes (stepped w x fate).state.clients (h ++ (stepped w x fate).items) s start undo asked made (stepped w x fate).items) (sym step)
+      (by_asks w h fate s start undo asked made k.client k.asks makes k.at k.completes k.start_is k.under_way k.left)
+  | inr (inl vanish) ↦
+      subst (λ (x : Event). Comes (stepped w x fate).state.clients (h ++ (stepped w x fate).items) s start undo asked made (stepped w x fate).items) (sym vanish)
+      (vanishes w h fate s start undo asked made k.client tells are k.at k.completes)
+  | inr (inr other) ↦ Left (stays w h e fate s start undo asked k tells other.0 other.1)
+]
+
+-- what came of it before, and what comes of it now
+behind_more : (clients : List Client) (h : List Item) (s start : ℕ) (undo : Bool) (asked : Ask) (made : Item) (rest items : List Item) → Comes clients h s start undo asked made items → Comes clients h s start undo asked made (rest ++ items)
+behind_more clients h s start undo asked made rest items (Made m) = Made (in_back made rest items m)
+behind_more clients h s start undo asked made rest items (Failed store m) = Failed store (in_back (item.Fault (Session s) store) rest items m)
+behind_more clients h s start undo asked made rest items (Vanished v) = Vanished v
+behind_more clients h s start undo asked made rest items (Left k) = Left k
+
+pub comes_on : (w : State) (h : List Item) (e : Event) (fate : Fate) (s start : ℕ) (undo : Bool) (asked : Ask) (made : Item) (rest : List Item) → Tells w h → AreGoneSince w.clients h → ((answer : Told) → step_item (Session s) asked answer ≡ made) → Comes w.clients h s start undo asked made rest → Comes (stepped w e fate).state.clients (h ++ (stepped w e fate).items) s start undo asked made (rest ++ (stepped w e fate).items)
+comes_on w h e fate s start undo asked made rest tells are makes (Made m) = Made (in_front made rest (stepped w e fate).items m)
+comes_on w h e fate s start undo asked made rest tells are makes (Failed store m) = Failed store (in_front (item.Fault (Session s) store) rest (stepped w e fate).items m)
+comes_on w h e fate s start undo asked made rest tells are makes (Vanished v) = Vanished (gone_vanished w h e fate s v.client tells are v.at v.gone)
+comes_on w h e fate s start undo asked made rest tells are makes (Left k) =
+    behind_more (stepped w e fate).state.clients (h ++ (stepped w e fate).items) s start undo asked made rest (stepped w e fate).items (goes_on w h e fate s start undo asked made tells are makes k)

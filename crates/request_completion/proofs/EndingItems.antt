@@ -1,0 +1,152 @@
+-- Which items tell a session how its commit ends, and of which outcomes.
+use Rattle.std.proofs.Common.{◌≡◌, ℕ, ◌+◌, Bool, true, false, List, [], ◌∷◌, ◌++◌, inl, inr, refl, sym, subst}
+use Rattle.std.proofs.lemmas.List.Elements.{All-head, All-tail}
+use Rattle.stamp_base.specs.declared.stores.Store.TheVariants.{Table}
+use Rattle.history_book.specs.Members.{◌∈◌}
+use Rattle.history_book.specs.declared.cause.Cause.{Cause}
+use Rattle.history_book.specs.declared.cause.Cause.TheVariants as cause
+use Rattle.history_book.specs.declared.item.Actor.TheVariants.{Session}
+use Rattle.history_book.specs.declared.item.StoreStep.TheVariants.{Handed, PutFound}
+use Rattle.history_book.specs.declared.item.Item.{Item}
+use Rattle.history_book.specs.declared.item.Item.TheVariants as item
+use Rattle.system_parts.specs.Record.{granted}
+use Rattle.system_parts.specs.declared.session.State as state
+use Rattle.system_parts.specs.declared.session.State.TheVariants as phase
+use Rattle.system_parts.specs.declared.instance.Request.{Request}
+use Rattle.system_parts.specs.declared.instance.Request.TheVariants.{Begin, Commit}
+use Rattle.system_parts.specs.declared.instance.Settled.{Settled}
+use Rattle.system_parts.specs.declared.instance.Settled.TheVariants as how
+use Rattle.system_parts.specs.Instance.{session_of}
+use Rattle.machine.specs.State.{Client, State}
+use Rattle.machine.specs.Events.Crash.{loss_heard, loss_items}
+use Rattle.machine.specs.Events.Decide.{draw_item}
+use Rattle.machine.specs.Events.Take.{rules_of, take_item}
+use Rattle.cause_rules.specs.OpenAsks.{ends_request}
+use Rattle.isolation_laws.proofs.Pushed.{not_true, in_append}
+use Rattle.machine.specs.Plain.{Silent, AllSilent}
+use Rattle.machine.proofs.Outcome.PlainItems.{none_silent, one_silent}
+use Rattle.machine.specs.Outcome.OutcomesOfRecord.{fault_if}
+use Rattle.machine.specs.Outcome.OutcomesOfStamps.{answered_item}
+use Rattle.machine.specs.Outcome.OutcomesOfPlacings.{own_told}
+use Rattle.machine.specs.Outcome.Outcomes.{Outcome, OfGranted, OfCrashed, OfAskedBegin, OfAskedCommit, OfAccepted, OfEnded, OfDrew, OfAnsweredBegin, OfAnsweredCommit, OfHanded, OfOwnPlaced, OfOwnNotPlaced, OfOutcome, told_by_outcome}
+use Rattle.cause_laws.proofs.SilentOutcomes.{fault_if_silent, silent_items}
+use Rattle.request_completion.specs.Closings.{leaves_cells, Owes}
+use Rattle.request_completion.specs.Turns.{ends_commit, EndsCommit, NoneEnds}
+use Rattle.request_completion.proofs.OwingItems.{only_is, refusal_not, leaves_ends}
+use Rattle.request_completion.proofs.OwingOutcomes.{among}
+
+-- ---- silent items do not
+commit_ends : (why : Cause) → ends_commit why ≡ true → ends_request why ≡ true
+commit_ends (cause.Open start) is = refl
+commit_ends why is = leaves_ends why is
+
+ends_silent : (s : ℕ) (x : Item) → Silent x → EndsCommit s x → ⊥
+ends_silent s (item.Committed session start commit) silent ends = not_true silent
+ends_silent s (item.Refused (Session session) why) silent ends = refusal_not (ends_request why) (commit_ends why ends.1) silent
+ends_silent s _ silent ends = ends
+
+pub silent_ends : (s : ℕ) (items : List Item) → AllSilent items → NoneEnds s items
+unfolding ◌∈◌
+silent_ends s [] silent x m ends = m
+silent_ends s (y ∷ ys) silent x m ends = elim m [
+  | inl same ↦ ends_silent s x (subst (λ (z : Item). Silent z) (sym same) (All-head Silent y ys silent)) ends
+  | inr deeper ↦ silent_ends s ys (All-tail Silent y ys silent) x deeper ends
+]
+
+pub leaves_end : (why : Cause) → leaves_cells why ≡ true → ends_commit why ≡ true
+leaves_end (cause.Open start) is = absurd (not_true is)
+leaves_end why is = is
+
+pub owes_ends : (s : ℕ) (x : Item) → Owes s x → EndsCommit s x
+owes_ends s (item.Committed session start commit) owes = owes
+owes_ends s (item.Refused (Session session) why) owes = (owes.0, leaves_end why owes.1)
+owes_ends s _ owes = owes
+
+-- ---- the last item alone may
+pub first_none : (s : ℕ) (y : Item) (ys : List Item) → (EndsCommit s y → ⊥) → AllSilent ys → NoneEnds s (y ∷ ys)
+unfolding ◌∈◌
+first_none s y ys not silent x m ends = elim m [
+  | inl same ↦ not (subst (λ (z : Item). EndsCommit s z) same ends)
+  | inr deeper ↦ silent_ends s ys silent x deeper ends
+]
+
+pub only_none : (s : ℕ) (y : Item) → (EndsCommit s y → ⊥) → NoneEnds s (y ∷ [])
+only_none s y not = first_none s y [] not none_silent
+
+pub last_is : (s : ℕ) (x : Item) (front : List Item) (last : Item) (items : List Item) → items ≡ front ++ last ∷ [] → AllSilent front → x ∈ items → EndsCommit s x → x ≡ last
+last_is s x front last items is silent m ends = elim (in_append x front (last ∷ []) (among x items (front ++ last ∷ []) is m)) [
+  | inl early ↦ absurd (silent_ends s front silent x early ends)
+  | inr late ↦ only_is x last late
+]
+
+-- where the last is told to another session
+pub last_none : (s r : ℕ) (front : List Item) (last : Item) (items : List Item) → items ≡ front ++ last ∷ [] → AllSilent front → (EndsCommit s last → r ≡ s) → (s ≡ r → ⊥) → NoneEnds s items
+last_none s r front last items is silent told other x m ends = other (sym (told (subst (λ (z : Item). EndsCommit s z) (last_is s x front last items is silent m ends) ends)))
+
+-- ---- what is told of a commit
+pub answered_told : (s : ℕ) (by : Settled) (session start commit : ℕ) → EndsCommit s (answered_item by session start commit) → session ≡ s
+answered_told s how.Placed session start commit ends = ends
+answered_told s how.Invalid session start commit ends = ends.0
+answered_told s how.Faulted session start commit ends = ends.0
+
+-- what stands before it where a session places its commit
+abbrev pub own_front : Settled → ℕ → ℕ → List Item
+own_front how.Placed session start = []
+own_front how.Invalid session start = item.Step (Session session) (PutFound start) ∷ []
+own_front how.Faulted session start = item.Fault (Session session) Table ∷ []
+
+pub own_is : (by : Settled) (session start commit : ℕ) → own_told by session start commit ≡ own_front by session start ++ answered_item by session start commit ∷ []
+own_is how.Placed session start commit = refl
+own_is how.Invalid session start commit = refl
+own_is how.Faulted session start commit = refl
+
+pub own_silent : (by : Settled) (session start : ℕ) → AllSilent (own_front by session start)
+own_silent how.Placed session start = none_silent
+own_silent how.Invalid session start = one_silent (item.Step (Session session) (PutFound start)) refl
+own_silent how.Faulted session start = one_silent (item.Fault (Session session) Table) refl
+
+-- ---- what a crash tells
+draw_none : (s node term stamp : ℕ) (request : Request) → EndsCommit s (draw_item node term request stamp) → ⊥
+draw_none s node term stamp (Begin session) ends = ends
+draw_none s node term stamp (Commit session start keys) ends = ends
+
+pub heard_is : (x : Item) (heard : state.State) (items : List Item) → x ∈ loss_heard heard items → x ∈ items
+unfolding ◌∈◌
+heard_is x phase.Gone items m = absurd m
+heard_is x _ items m = m
+
+pub loss_told : (s : ℕ) (x : Item) (node term : ℕ) (request : Request) (c : Client) → x ∈ loss_items node term request c → EndsCommit s x → session_of request ≡ s
+loss_told s x node term (Begin session) c m ends =
+    let is : x ≡ item.Refused (Session session) (cause.Crashed node term) = only_is x _ (heard_is x c.entry.state _ m) in
+    (subst (λ (z : Item). EndsCommit s z) is ends).0
+loss_told s x node term (Commit session start keys) c m ends =
+    let is : x ≡ item.Refused (Session session) (cause.Open start) = only_is x _ (heard_is x c.entry.state _ m) in
+    (subst (λ (z : Item). EndsCommit s z) is ends).0
+
+-- ---- the outcomes that tell it
+abbrev pub is_ending : {w : State} → Outcome w → Bool
+is_ending (OfCrashed k) = true
+is_ending (OfEnded k) = true
+is_ending (OfAnsweredCommit k) = true
+is_ending (OfOwnPlaced k) = true
+is_ending (OfOwnNotPlaced k) = true
+is_ending (OfOutcome k) = true
+is_ending _ = false
+
+pub ends_none : (w : State) (o : Outcome w) (s : ℕ) → is_ending o ≡ false → NoneEnds s (told_by_outcome w o)
+ends_none w (OfGranted k) s is x m ends =
+    let told : Item = take_item k.node k.reading (granted (rules_of w.setup) w.master k.reading) in
+    first_none s told (fault_if k.failed k.node) (λ owed. owed) (fault_if_silent k.failed k.node) x (among x k.items (told ∷ fault_if k.failed k.node) k.tells m) ends
+ends_none w (OfAskedBegin k) s is x m ends = only_none s (item.AskBegin k.session k.node) (λ owed. owed) x m ends
+ends_none w (OfAskedCommit k) s is x m ends = only_none s (item.AskCommit k.session k.node k.start) (λ owed. owed) x (among x k.items (item.AskCommit k.session k.node k.start ∷ []) k.tells m) ends
+ends_none w (OfAccepted k) s is x m ends = only_none s (item.Accept k.session k.node k.i.term k.reading) (λ owed. owed) x (among x k.items (item.Accept k.session k.node k.i.term k.reading ∷ []) k.tells m) ends
+ends_none w (OfDrew k) s is x m ends = only_none s (draw_item k.node k.i.term k.held.request (k.i.last + 1)) (λ owed. draw_none s k.node k.i.term (k.i.last + 1) k.held.request owed) x m ends
+ends_none w (OfAnsweredBegin k) s is x m ends = only_none s (item.Begin k.session k.start) (λ owed. owed) x m ends
+ends_none w (OfHanded k) s is x m ends = only_none s (item.Step (Session k.session) (Handed k.start k.commit)) (λ owed. owed) x (among x k.items (item.Step (Session k.session) (Handed k.start k.commit) ∷ []) k.tells m) ends
+ends_none w (OfCrashed k) s is x m ends = absurd (cc)
+ends_none w (OfEnded k) s is x m ends = absurd (cc)
+ends_none w (OfAnsweredCommit k) s is x m ends = absurd (cc)
+ends_none w (OfOwnPlaced k) s is x m ends = absurd (cc)
+ends_none w (OfOwnNotPlaced k) s is x m ends = absurd (cc)
+ends_none w (OfOutcome k) s is x m ends = absurd (cc)
+ends_none w o s is x m ends = silent_ends s (told_by_outcome w o) (silent_items w o refl) x m ends

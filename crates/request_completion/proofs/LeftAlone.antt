@@ -1,0 +1,100 @@
+-- A client whose completion is under way is moved by its own steps alone, or vanishes.
+use Rattle.std.proofs.Common.{◌≡◌, ℕ, Bool, List, Option, None, Some, inl, inr, refl, sym, ◌∙◌, ap, subst}
+use Rattle.std.specs.Prelude.{slice_get}
+use Rattle.std.specs.Option.{option_or}
+use Rattle.stamp_base.specs.SetupNumbers.{SetupNumbers}
+use Rattle.port_io.specs.declared.weather.Fate.{Fate}
+use Rattle.history_book.specs.declared.item.Item.{Item}
+use Rattle.system_parts.specs.Rows.{Row}
+use Rattle.system_parts.specs.Pairs.{Pairs}
+use Rattle.system_parts.specs.declared.session.State.{State as SessionState}
+use Rattle.system_parts.specs.declared.session.State.TheVariants as phase
+use Rattle.system_parts.specs.SessionSteps.{begin_refusal, work_refusal, key_refusal}
+use Rattle.system_parts.specs.declared.instance.Held.{Held}
+use Rattle.system_parts.specs.declared.instance.Request.{Request}
+use Rattle.system_parts.specs.declared.instance.Request.TheVariants.{Begin, Commit}
+use Rattle.system_parts.specs.Instance.{InstanceEntry, held_of, stamps_of_held}
+use Rattle.machine.specs.State.{Client, State}
+use Rattle.machine.specs.Clients.{is_reading}
+use Rattle.machine.specs.Events.AskBegin.{ask_begin_by, ask_begin_on}
+use Rattle.machine.specs.Events.AskCommit.{ask_commit_by, ask_commit_on}
+use Rattle.machine.specs.Events.Accept.{accept_request, accept_on}
+use Rattle.machine.specs.Events.Decide.{decide_request, decide_on}
+use Rattle.machine.specs.Events.Answer.{answer_request, answer_on}
+use Rattle.machine.specs.Events.Write.{write_open, write_on}
+use Rattle.machine.specs.Events.Fetch.{reads_refusal, fetch_open, fetch_on}
+use Rattle.machine.specs.Events.Heal.{offer_by, offer_of, heal_at, heal_on}
+use Rattle.machine.specs.Events.Abort.{abort_by, abort_on}
+use Rattle.isolation_laws.specs.Words.{InstanceAt, ClientAt}
+use Rattle.isolation_laws.specs.Requests.{WaitsFor}
+use Rattle.isolation_laws.specs.Sound.{Stands}
+use Rattle.machine.proofs.Lookups.{one_client, held_by}
+
+-- ---- a client that completes, of whom no node holds a request
+pub record Completing (nodes : List (Option InstanceEntry)) (clients : List Client) (s : ℕ) (c : Client) : Type 0 where
+  pub at : ClientAt clients s c
+  pub undo : Bool
+  pub completes : c.entry.state ≡ phase.Completing undo
+  pub unheld : (n : ℕ) (i : InstanceEntry) (held : Held) → InstanceAt nodes n i → held_of i s ≡ Some held → ⊥
+
+waits_not : (request : Request) (c : Client) (undo : Bool) → c.entry.state ≡ phase.Completing undo → WaitsFor request c → ⊥
+waits_not (Begin r) c undo completes (inl gone) = let clash : phase.Completing undo ≡ phase.Gone = sym completes ∙ gone in cc
+waits_not (Begin r) c undo completes (inr asking) = let clash : phase.Completing undo ≡ phase.Asking = sym completes ∙ asking in cc
+waits_not (Commit r start keys) c undo completes (inl gone) = let clash : phase.Completing undo ≡ phase.Gone = sym completes ∙ gone in cc
+waits_not (Commit r start keys) c undo completes (inr committing) = let clash : phase.Completing undo ≡ phase.Committing = sym completes ∙ committing.0 in cc
+
+pub completing_of : (w : State) (h : List Item) (s : ℕ) (c : Client) (undo : Bool) → Stands w h → ClientAt w.clients s c → c.entry.state ≡ phase.Completing undo → Completing w.nodes w.clients s c
+completing_of w h s c undo stands at completes = record {
+  at = at;
+  undo = undo;
+  completes = completes;
+  unheld = λ n i held here has.
+      let waits : (x : Client) × ClientAt w.clients s x × WaitsFor held.request x = stands.holds.requests.requests.waits n s i held.request held.progress here (held_by i s held has) in
+      waits_not held.request c undo completes (subst (λ (x : Client). WaitsFor held.request x) (one_client w.clients s waits.0 c waits.1 at) waits.2);
+}
+
+pub same_there : (nodes : List (Option InstanceEntry)) (clients : List Client) (s : ℕ) (c d : Client) → Completing nodes clients s c → ClientAt clients s d → d ≡ c
+same_there nodes clients s c d k there = one_client clients s d c there k.at
+
+-- ---- its own calls are refused
+pub write_keeps : (r key : ℕ) (value : List ℕ) (fate : Fate) (c : Client) (rows : List Row) (undo : Bool) → c.entry.state ≡ phase.Completing undo → (write_on r key value fate c rows).parts.0 ≡ c
+write_keeps r key value fate c rows undo completes =
+    ap (λ (state : SessionState). (write_open r key value fate c rows (option_or (work_refusal state (is_reading c)) (key_refusal c.entry.keys key)) c.entry.start).parts.0) completes
+
+pub fetch_keeps : (setup : SetupNumbers) (r key : ℕ) (fate : Fate) (c : Client) (rows : List Row) (undo : Bool) → c.entry.state ≡ phase.Completing undo → (fetch_on setup r key fate c rows).parts ≡ c
+fetch_keeps setup r key fate c rows undo completes =
+    ap (λ (state : SessionState). (fetch_open setup r key fate c rows (option_or (work_refusal state (is_reading c)) (reads_refusal setup c key)) c.entry.start c.entry.epoch).parts) completes
+
+pub heal_keeps : (r : ℕ) (fate : Fate) (c : Client) (rows : List Row) (pairs : Pairs) (undo : Bool) → c.entry.state ≡ phase.Completing undo → (heal_on r fate c rows pairs).parts.0 ≡ c
+heal_keeps r fate c rows pairs undo completes =
+    let none : offer_of c ≡ None = ap (λ (state : SessionState). offer_by state (is_reading c) c.heal) completes in
+    ap (λ (offer : Option (ℕ × ℕ × ℕ)). (heal_at r fate c rows pairs offer).parts.0) none
+
+pub abort_keeps : (r : ℕ) (c : Client) (undo : Bool) → c.entry.state ≡ phase.Completing undo → (abort_on r c).parts ≡ c
+abort_keeps r c undo completes = ap (λ (state : SessionState). (abort_by r c (work_refusal state (is_reading c)) c.entry.start).parts) completes
+
+pub begin_keeps : (r n : ℕ) (c : Client) (post : Option InstanceEntry) (undo : Bool) → c.entry.state ≡ phase.Completing undo → (ask_begin_on r n c post).parts.0 ≡ c
+begin_keeps r n c post undo completes = ap (λ (state : SessionState). (ask_begin_by r n c post (begin_refusal state)).parts.0) completes
+
+pub commit_keeps : (r n : ℕ) (c : Client) (post : Option InstanceEntry) (undo : Bool) → c.entry.state ≡ phase.Completing undo → (ask_commit_on r n c post).parts.0 ≡ c
+commit_keeps r n c post undo completes = ap (λ (state : SessionState). (ask_commit_by r n c post (work_refusal state (is_reading c)) c.entry.start).parts.0) completes
+
+-- ---- and no node serves it
+none_by : (i : InstanceEntry) (s : ℕ) (found : Option Held) → held_of i s ≡ found → ((held : Held) → held_of i s ≡ Some held → ⊥) → held_of i s ≡ None
+none_by i s None is not = is
+none_by i s (Some held) is not = absurd (not held is)
+
+holds_none : (nodes : List (Option InstanceEntry)) (clients : List Client) (s r n : ℕ) (c : Client) (i : InstanceEntry) → Completing nodes clients s c → InstanceAt nodes n i → s ≡ r → held_of i r ≡ None
+holds_none nodes clients s r n c i k here same = subst (λ (q : ℕ). held_of i q ≡ None) same (none_by i s (held_of i s) refl (λ held has. k.unheld n i held here has))
+
+pub accept_keeps : (nodes : List (Option InstanceEntry)) (clients : List Client) (s r n reading : ℕ) (c : Client) (post : Option InstanceEntry) → Completing nodes clients s c → slice_get nodes n ≡ Some post → s ≡ r → (accept_on n r reading post c).parts.1 ≡ c
+accept_keeps nodes clients s r n reading c None k here same = refl
+accept_keeps nodes clients s r n reading c (Some i) k here same = ap (λ (held : Option Held). (accept_request n r reading i c held).parts.1) (holds_none nodes clients s r n c i k here same)
+
+pub decide_keeps : (nodes : List (Option InstanceEntry)) (clients : List Client) (s r n : ℕ) (c : Client) (post : Option InstanceEntry) → Completing nodes clients s c → slice_get nodes n ≡ Some post → s ≡ r → (decide_on n r post c).parts.1 ≡ c
+decide_keeps nodes clients s r n c None k here same = refl
+decide_keeps nodes clients s r n c (Some i) k here same = ap (λ (held : Option Held). (decide_request n r i c held).parts.1) (holds_none nodes clients s r n c i k here same)
+
+pub answer_keeps : (nodes : List (Option InstanceEntry)) (clients : List Client) (s r n : ℕ) (c : Client) (post : Option InstanceEntry) → Completing nodes clients s c → slice_get nodes n ≡ Some post → s ≡ r → (answer_on n r post c).parts.1 ≡ c
+answer_keeps nodes clients s r n c None k here same = refl
+answer_keeps nodes clients s r n c (Some i) k here same = ap (λ (held : Option Held). (answer_request n r i c (stamps_of_held held)).parts.1) (holds_none nodes clients s r n c i k here same)

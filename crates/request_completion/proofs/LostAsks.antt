@@ -1,0 +1,79 @@
+-- A node that is refused for want of an instance has none, so that no ask is open there.
+use Rattle.std.proofs.Common.{◌≡◌, ℕ, Bool, true, if◌then◌else◌, List, [], ◌∷◌, Option, None, Some, inl, inr, refl, sym, ◌∙◌, ap, take}
+use Rattle.std.specs.Prelude.{slice_get}
+use Rattle.std.specs.Option.{option_or}
+use Rattle.std.proofs.lemmas.Bool.{eq-eqb}
+use Rattle.std.proofs.lemmas.Option.{none-some}
+use Rattle.stamp_base.specs.SetupNumbers.{SetupNumbers}
+use Rattle.history_book.specs.declared.cause.Cause.TheVariants as cause
+use Rattle.history_book.specs.declared.item.Actor.{Actor}
+use Rattle.history_book.specs.declared.item.Actor.TheVariants.{Clock, Node, Session, Janitor}
+use Rattle.history_book.specs.declared.item.Item.{Item}
+use Rattle.history_book.specs.declared.item.Item.TheVariants as item
+use Rattle.system_parts.specs.declared.instance.Request.{Request}
+use Rattle.system_parts.specs.declared.instance.Request.TheVariants.{Begin, Commit}
+use Rattle.machine.specs.State.{State}
+use Rattle.machine.specs.Machine.{stepped}
+use Rattle.cause_rules.specs.Explained.{ShownCause}
+use Rattle.cause_rules.specs.Posts.{Taken, last_take, since_take, HasNone}
+use Rattle.machine.specs.Due.{Due, DueNow, cause_of_loss}
+use Rattle.isolation_laws.proofs.AlwaysHolds.{dues}
+use Rattle.isolation_laws.proofs.OnceEach.{place_of}
+use Rattle.request_completion.specs.Silences.{LostAsksAreOver}
+
+-- ---- no cause is shown by everything: a node that has taken the record has an instance
+abbrev took : ℕ → List Item
+took n = item.Take n 0 0 0 0 0 ∷ []
+
+abbrev first_taken : Taken
+first_taken = record { term = 0; epoch = 0; until = 0 }
+
+abbrev taken_if : Bool → Option Taken
+taken_if own = if own then Some first_taken else None
+
+abbrev taken_by : Bool → Option Taken
+taken_by own = option_or (taken_if own) None
+
+abbrev left_by : ℕ → Bool → List Item
+left_by n own = if own then [] else took n
+
+cons_not : (x : Item) (xs : List Item) → [] ≡ x ∷ xs → ⊥
+cons_not x xs is = cc
+
+none_not : (n : ℕ) → HasNone (took n) n → ⊥
+none_not n (inl none) =
+    let last : last_take (took n) n ≡ taken_by true = ap taken_by (eq-eqb n n refl) in
+    none-some first_taken (sym none ∙ last)
+none_not n (inr fault) =
+    let left : since_take (took n) n ≡ left_by n true = ap (left_by n) (eq-eqb n n refl) in
+    cons_not (item.Fault (Node n) fault.0) fault.1 (sym left ∙ fault.2)
+
+shown_not : (setup : SetupNumbers) (actor : Actor) (n : ℕ) → ShownCause setup (took n) actor (cause.NoOracle n) → ⊥
+shown_not setup (Session s) n shown = none_not n shown
+shown_not setup (Node m) n shown = none_not n shown.1
+shown_not setup Janitor n shown = none_not n shown
+shown_not setup Clock n shown = shown
+
+loss_not : (n node term : ℕ) (request : Request) → cause.NoOracle n ≡ cause_of_loss node term request → ⊥
+loss_not n node term (Begin session) is = cc
+loss_not n node term (Commit session start keys) is = cc
+
+-- ---- the node has no instance
+now_vacant : (w : State) (actor : Actor) (n : ℕ) → DueNow w actor (cause.NoOracle n) → slice_get w.nodes n ≡ Some None
+now_vacant w (Session s) n due = due
+now_vacant w (Node m) n due = due.1
+now_vacant w Janitor n due = due
+now_vacant w Clock n due = absurd due
+
+due_vacant : (w : State) (told : List Item) (actor : Actor) (n : ℕ) → Due w told (item.Refused actor (cause.NoOracle n)) → slice_get w.nodes n ≡ Some None
+due_vacant w told actor n (inl any) = absurd (shown_not w.setup actor n (any w.setup (took n)))
+due_vacant w told actor n (inr (inl now)) = now_vacant w actor n now.1
+due_vacant w told actor n (inr (inr (inl loss))) = absurd (loss_not n loss.serves.node loss.i.term loss.request loss.why_is)
+due_vacant w told actor n (inr (inr (inr placing))) = absurd placing.how
+
+pub lost_asks_are_over : LostAsksAreOver
+lost_asks_are_over w h e fate actor n s tells m =
+    let x : Item = item.Refused actor (cause.NoOracle n) in
+    let place : (p : ℕ) × (slice_get (stepped w e fate).items p ≡ Some x) = place_of x (stepped w e fate).items m in
+    let vacant : slice_get w.nodes n ≡ Some None = due_vacant w (take place.0 (stepped w e fate).items) actor n ((dues w h e fate tells.stands).at place.0 x place.1) in
+    tells.shows.open_asks.each n s None vacant

@@ -1,0 +1,42 @@
+-- How many asks are open after items among which none asks.
+use Rattle.std.proofs.Common.{◌≡◌, ℕ, suc, Bool, true, false, if◌then◌else◌, List, [], ◌∷◌, inl, inr, refl, sym, ◌∙◌, ap}
+use Rattle.std.specs.List.{fold}
+use Rattle.std.proofs.lemmas.List.Elements.{All-head, All-tail}
+use Rattle.std.proofs.lemmas.List.Sums.{fold-append}
+use Rattle.history_book.specs.Members.{◌∈◌}
+use Rattle.history_book.specs.declared.item.Item.{Item}
+use Rattle.cause_rules.specs.OpenAsks.{closes, open_then, open_asks_of}
+use Rattle.request_completion.specs.Overs.{NoAsk, NoneAsks, OverStaysOver, ClosedAsksAreOver}
+
+-- ---- one item
+either_way : (b : Bool) (count : ℕ) → (if b then count else count) ≡ count
+either_way true count = refl
+either_way false count = refl
+
+none_then : (n s : ℕ) (x : Item) → NoAsk n s x → open_then n s 0 x ≡ 0
+none_then n s x none = ap (λ (b : Bool). if b then suc 0 else if closes n s x then 0 else 0) none ∙ either_way (closes n s x) 0
+
+closed_then : (n s count : ℕ) (x : Item) → NoAsk n s x → closes n s x ≡ true → open_then n s count x ≡ 0
+closed_then n s count x none over =
+    ap (λ (b : Bool). if b then suc count else if closes n s x then 0 else count) none
+    ∙ ap (λ (b : Bool). if b then 0 else count) over
+
+-- ---- all items
+stays : (n s : ℕ) (items : List Item) → NoneAsks n s items → fold (open_then n s) 0 items ≡ 0
+stays n s [] none = refl
+stays n s (x ∷ items) none =
+    ap (λ (count : ℕ). fold (open_then n s) count items) (none_then n s x (All-head (NoAsk n s) x items none)) ∙ stays n s items (All-tail (NoAsk n s) x items none)
+
+over_by : (n s count : ℕ) (items : List Item) (x : Item) → NoneAsks n s items → x ∈ items → closes n s x ≡ true → fold (open_then n s) count items ≡ 0
+unfolding ◌∈◌
+over_by n s count [] x none m over = absurd m
+over_by n s count (y ∷ items) x none (inl same) over =
+    let first : open_then n s count y ≡ 0 = closed_then n s count y (All-head (NoAsk n s) y items none) (ap (closes n s) (sym same) ∙ over) in
+    ap (λ (now : ℕ). fold (open_then n s) now items) first ∙ stays n s items (All-tail (NoAsk n s) y items none)
+over_by n s count (y ∷ items) x none (inr m) over = over_by n s (open_then n s count y) items x (All-tail (NoAsk n s) y items none) m over
+
+pub over_stays_over : OverStaysOver
+over_stays_over h items n s over none = fold-append (open_then n s) 0 h items ∙ (ap (λ (count : ℕ). fold (open_then n s) count items) over ∙ stays n s items none)
+
+pub closed_asks_are_over : ClosedAsksAreOver
+closed_asks_are_over h items n s x m over none = fold-append (open_then n s) 0 h items ∙ over_by n s (open_asks_of h n s) items x none m over

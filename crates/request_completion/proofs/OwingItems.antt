@@ -1,0 +1,123 @@
+-- Which items leave something to be done: none that is silent, and none that tells of a loss.
+use Rattle.std.proofs.Common.{◌≡◌, ℕ, Bool, true, false, if◌then◌else◌, List, [], ◌∷◌, Option, None, Some, inl, inr, refl, sym, ◌∙◌, subst}
+use Rattle.std.proofs.lemmas.List.Elements.{All-head, All-tail}
+use Rattle.stamp_base.specs.declared.stores.Store.TheVariants.{Table}
+use Rattle.history_book.specs.Members.{◌∈◌}
+use Rattle.history_book.specs.declared.cause.Cause.{Cause}
+use Rattle.history_book.specs.declared.cause.Cause.TheVariants as cause
+use Rattle.history_book.specs.declared.item.Actor.TheVariants.{Session}
+use Rattle.history_book.specs.declared.item.StoreStep.TheVariants.{PutFound}
+use Rattle.history_book.specs.declared.item.Item.{Item}
+use Rattle.history_book.specs.declared.item.Item.TheVariants as item
+use Rattle.system_parts.specs.declared.session.State as state
+use Rattle.system_parts.specs.declared.session.State.TheVariants as phase
+use Rattle.system_parts.specs.declared.instance.Held.{Held}
+use Rattle.system_parts.specs.declared.instance.Request.{Request}
+use Rattle.system_parts.specs.declared.instance.Request.TheVariants.{Begin, Commit}
+use Rattle.system_parts.specs.declared.instance.Settled.{Settled}
+use Rattle.system_parts.specs.declared.instance.Settled.TheVariants as how
+use Rattle.machine.specs.State.{Client}
+use Rattle.machine.specs.Events.Crash.{loss_heard, loss_items, crashed_items, all_crashed_items}
+use Rattle.machine.specs.Events.Decide.{draw_item}
+use Rattle.cause_rules.specs.OpenAsks.{ends_request}
+use Rattle.isolation_laws.proofs.Pushed.{not_true, in_append}
+use Rattle.machine.specs.Plain.{Silent, AllSilent}
+use Rattle.machine.proofs.Outcome.PlainItems.{none_silent}
+use Rattle.machine.specs.Outcome.OutcomesOfStamps.{answered_item}
+use Rattle.machine.specs.Outcome.OutcomesOfPlacings.{own_told}
+use Rattle.request_completion.specs.Closings.{leaves_cells, Owes}
+
+-- ---- silent items
+pub leaves_ends : (why : Cause) → leaves_cells why ≡ true → ends_request why ≡ true
+leaves_ends (cause.Expired reading until) is = refl
+leaves_ends (cause.OldEpoch start epoch) is = refl
+leaves_ends (cause.Conflict key by) is = refl
+leaves_ends (cause.Hidden key water) is = refl
+leaves_ends (cause.Replaced found) is = refl
+leaves_ends (cause.Spent ceiling) is = refl
+leaves_ends (cause.Invalid start) is = refl
+leaves_ends _ is = absurd (not_true is)
+
+pub refusal_not : (ends : Bool) → ends ≡ true → (if ends then false else true) ≡ true → ⊥
+refusal_not true is silent = not_true silent
+refusal_not false is silent = not_true is
+
+pub silent_not : (s : ℕ) (x : Item) → Silent x → Owes s x → ⊥
+silent_not s (item.Committed session start commit) silent owes = not_true silent
+silent_not s (item.Refused (Session session) why) silent owes = refusal_not (ends_request why) (leaves_ends why owes.1) silent
+silent_not s _ silent owes = owes
+
+pub silent_in : (s : ℕ) (x : Item) (items : List Item) → AllSilent items → x ∈ items → Owes s x → ⊥
+unfolding ◌∈◌
+silent_in s x [] silent m owes = m
+silent_in s x (y ∷ ys) silent m owes = elim m [
+  | inl same ↦ silent_not s x (subst (λ (z : Item). Silent z) (sym same) (All-head Silent y ys silent)) owes
+  | inr deeper ↦ silent_in s x ys (All-tail Silent y ys silent) deeper owes
+]
+
+-- ---- items that owe nothing, by their form
+pub first_not : (s : ℕ) (x y : Item) (ys : List Item) → (Owes s y → ⊥) → AllSilent ys → x ∈ (y ∷ ys) → Owes s x → ⊥
+unfolding ◌∈◌
+first_not s x y ys not silent m owes = elim m [
+  | inl same ↦ not (subst (λ (z : Item). Owes s z) same owes)
+  | inr deeper ↦ silent_in s x ys silent deeper owes
+]
+
+pub only_not : (s : ℕ) (x y : Item) → (Owes s y → ⊥) → x ∈ (y ∷ []) → Owes s x → ⊥
+only_not s x y not m owes = first_not s x y [] not none_silent m owes
+
+pub only_is : (x y : Item) → x ∈ (y ∷ []) → x ≡ y
+unfolding ◌∈◌
+only_is x y m = elim m [ inl same ↦ same | inr none ↦ absurd none ]
+
+pub draw_not : (s node term stamp : ℕ) (request : Request) → Owes s (draw_item node term request stamp) → ⊥
+draw_not s node term stamp (Begin session) owes = owes
+draw_not s node term stamp (Commit session start keys) owes = owes
+
+-- ---- what a crash tells
+heard_not : (s : ℕ) (x : Item) (heard : state.State) (y : Item) → (Owes s y → ⊥) → x ∈ loss_heard heard (y ∷ []) → Owes s x → ⊥
+unfolding ◌∈◌
+heard_not s x phase.Gone y not m owes = m
+heard_not s x _ y not m owes = only_not s x y not m owes
+
+loss_not : (s : ℕ) (x : Item) (node term : ℕ) (request : Request) (c : Client) → x ∈ loss_items node term request c → Owes s x → ⊥
+loss_not s x node term (Begin session) c m owes = heard_not s x c.entry.state (item.Refused (Session session) (cause.Crashed node term)) (λ owed. not_true owed.1) m owes
+loss_not s x node term (Commit session start keys) c m owes = heard_not s x c.entry.state (item.Refused (Session session) (cause.Open start)) (λ owed. not_true owed.1) m owes
+
+lost_not : (s : ℕ) (x : Item) (node term : ℕ) (held : Option Held) (c : Client) → x ∈ crashed_items node term held c → Owes s x → ⊥
+unfolding ◌∈◌
+lost_not s x node term None c m owes = m
+lost_not s x node term (Some held) c m owes = loss_not s x node term held.request c m owes
+
+pub all_lost_not : (s : ℕ) (x : Item) (node term : ℕ) (requests : List (Option Held)) (cs : List Client) → x ∈ all_crashed_items node term requests cs → Owes s x → ⊥
+unfolding all_crashed_items ◌∈◌
+all_lost_not s x node term [] cs m owes = m
+all_lost_not s x node term (held ∷ others) [] m owes = m
+all_lost_not s x node term (held ∷ others) (c ∷ cs) m owes = elim (in_append x (crashed_items node term held c) (all_crashed_items node term others cs) m) [
+  | inl here ↦ lost_not s x node term held c here owes
+  | inr there ↦ all_lost_not s x node term others cs there owes
+]
+
+-- ---- answers to a commit
+pub answered_owes : (s : ℕ) (by : Settled) (session start commit : ℕ) → Owes s (answered_item by session start commit) → session ≡ s
+answered_owes s how.Placed session start commit owes = owes
+answered_owes s how.Invalid session start commit owes = owes.0
+answered_owes s how.Faulted session start commit owes = owes.0
+
+pub answered_start : (x : Item) (by : Settled) (session start commit s t c : ℕ) → x ≡ answered_item by session start commit → x ≡ item.Committed s t c → start ≡ t
+answered_start x how.Placed session start commit s t c is told = let same : item.Committed session start commit ≡ item.Committed s t c = sym is ∙ told in cc
+answered_start x how.Invalid session start commit s t c is told = let clash : item.Refused (Session session) (cause.Invalid start) ≡ item.Committed s t c = sym is ∙ told in absurd (cc)
+answered_start x how.Faulted session start commit s t c is told = let clash : item.Refused (Session session) (cause.Open start) ≡ item.Committed s t c = sym is ∙ told in absurd (cc)
+
+-- what the session finds by itself
+last_owes : (s : ℕ) (x first : Item) (by : Settled) (session start commit : ℕ) → Silent first → x ∈ (first ∷ answered_item by session start commit ∷ []) → Owes s x → session ≡ s
+unfolding ◌∈◌
+last_owes s x first by session start commit silent m owes = elim m [
+  | inl same ↦ absurd (silent_not s first silent (subst (λ (z : Item). Owes s z) same owes))
+  | inr last ↦ answered_owes s by session start commit (subst (λ (z : Item). Owes s z) (only_is x (answered_item by session start commit) last) owes)
+]
+
+pub own_owes : (s : ℕ) (x : Item) (by : Settled) (session start commit : ℕ) → x ∈ own_told by session start commit → Owes s x → session ≡ s
+own_owes s x how.Placed session start commit m owes = answered_owes s how.Placed session start commit (subst (λ (z : Item). Owes s z) (only_is x (answered_item how.Placed session start commit) m) owes)
+own_owes s x how.Invalid session start commit m owes = last_owes s x (item.Step (Session session) (PutFound start)) how.Invalid session start commit refl m owes
+own_owes s x how.Faulted session start commit m owes = last_owes s x (item.Fault (Session session) Table) how.Faulted session start commit refl m owes

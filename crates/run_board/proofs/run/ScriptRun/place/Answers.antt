@@ -1,0 +1,20 @@
+use Rattle.std.proofs.Common.{◌≡◌, subst, sym, ap, ◌∙◌}
+use Rattle.turn_rules.specs.Carried.{carried}
+use Rattle.session_script.specs.Script.{data_of}
+use Rattle.run_board.specs.Run.{Ran}
+use Rattle.run_board.specs.Seating.{seated_of}
+use Rattle.run_board.specs.Steps.{place_of}
+use Rattle.run_board.proofs.Found.{place_found, place_missing}
+use Rattle.run_board.proofs.run.ScriptRun.place.Goals as goal
+
+pub returns-in-Some : goal.returns-in-Some
+returns-in-Some c =
+    let s = c.self.inside in
+    let is = ap (λ all. seated_of all c.args.actor.now) (sym c.as_slice.ensures.value) ∙ c.in-Some.ensures in
+    subst (λ (r : Ran). c.in-Some.seated.now.seat.place ≡ place_of r c.args.actor.now) c.self.view_is (place_found (data_of s.script) (carried (data_of s.script) s.turns.items) s.names.names s.held.items s.seated.items c.args.actor.now c.in-Some.seated.now c.self.invariant.1 is)
+
+pub returns-in-None : goal.returns-in-None
+returns-in-None c =
+    let s = c.self.inside in
+    let is = ap (λ all. seated_of all c.args.actor.now) (sym c.as_slice.ensures.value) ∙ c.in-None.ensures in
+    subst (λ (r : Ran). 0 ≡ place_of r c.args.actor.now) c.self.view_is (place_missing (data_of s.script) (carried (data_of s.script) s.turns.items) s.names.names s.held.items s.seated.items c.args.actor.now c.self.invariant.1 is)

@@ -1,0 +1,217 @@
+// The seats of the actors, each with its actor's lines.
+ghost use Rattle.std.specs.Prelude.{◌≡◌, ◌<◌, ◌≤◌, All, map, IfOk, OnOk, MatchOption, None, Some};
+ghost use Rattle.history_book.specs.declared.item.Actor.TheVariants.{Node, Session};
+ghost use Rattle.planned_cluster.specs.Fitting.{SessionIsThere};
+ghost use Rattle.planned_cluster.specs.Standing.{clocks_at};
+ghost use Rattle.run_board.specs.Seating.{own_lines, line_of, seated_of, after_turn, after_passing, after_passes, passing_of, touched, CanPass, AreSeatedFirst, SitsDown};
+
+use command_semantics::Halt;
+use history_book::Actor;
+use planned_cluster::{PlannedCluster, see_session};
+use script_data::Line;
+use stamp_base::{NoMemory, NodeNo, SessionNo};
+use std::alloc::Global;
+use turn_rules::{Seat, Turn, pass};
+
+/// How far an actor has come, and its lines.
+#[derive(Drop)]
+pub struct Seated {
+    pub seat: Seat,
+    pub lines: Vec<Line>,
+}
+
+impl Seated {
+    /// The actor's present line.
+    pub fn line(&self) -> Option<Line>
+        ensures { result ≡ line_of self.now }
+    {
+        self.lines.get(self.seat.place).copied()
+    }
+
+    fn go_on(&mut self, turn: &Turn, halt: Option<Halt>, asked: bool)
+        ensures { self.new ≡ after_turn turn.now halt asked self.old }
+    {
+        let Turn::Own { actor, .. } = turn else {
+            return;
+        };
+        if self.seat.actor != *actor {
+            return;
+        }
+        if let Some(line) = self.line() {
+            self.seat.go_on(&line.verb, halt, asked);
+        }
+    }
+
+    fn pass(&mut self, planned: &PlannedCluster, leads: &[u64])
+        requires { CanPass planned.now.clock leads.now self.old }
+        ensures { self.new ≡ after_passing (clocks_at planned.now.cluster planned.now.clock leads.now) planned.now.cluster.state self.old }
+    {
+        let view = planned.view(self.seat.actor);
+        pass(
+            planned.clock,
+            leads,
+            planned.cluster.master(),
+            &view,
+            self.lines.as_slice(),
+            &mut self.seat,
+        );
+    }
+
+    fn pass_if(&mut self, planned: &PlannedCluster, leads: &[u64], session: SessionNo)
+        requires { CanPass planned.now.clock leads.now self.old }
+        ensures { self.new ≡ passing_of session (clocks_at planned.now.cluster planned.now.clock leads.now) planned.now.cluster.state self.old }
+    {
+        if self.seat.actor == Actor::Session(session) {
+            self.pass(planned, leads);
+        }
+    }
+}
+
+/// Sessions that the lines name are those that there are, as their types say.
+pub fn see_sessions(lines: &[Line])
+    ensures { All (λ line. SessionIsThere line.actor) lines.now }
+{
+    for line in lines {
+        see_session(&line.actor);
+    }
+}
+
+/// All actors before their first lines: clock, janitor, nodes and sessions.
+pub fn all_seated(alloc: Global, nodes: u64, lines: &[Line]) -> Result<Vec<Seated>, NoMemory>
+    requires { nodes ≤ 8 }
+    ensures { IfOk result (λ all. AreSeatedFirst nodes lines.now all.items) }
+{
+    let mut all = Vec::new(alloc);
+    seat(alloc, Actor::Clock, lines, &mut all)?;
+    seat(alloc, Actor::Janitor, lines, &mut all)?;
+    for node in 0..nodes {
+        seat_node(alloc, node, lines, &mut all)?;
+    }
+    for session in 0..SessionNo::COUNT as u64 {
+        seat_session(alloc, session, lines, &mut all)?;
+    }
+    Ok(all)
+}
+
+fn seat_node(
+    alloc: Global,
+    number: u64,
+    lines: &[Line],
+    all: &mut Vec<Seated>,
+) -> Result<(), NoMemory>
+    requires { number < 8 }
+    ensures { OnOk result (SitsDown lines.now (Node number) all.old.items all.new.items) }
+{
+    match NodeNo::new(number) {
+        Some(node) => seat(alloc, Actor::Node(node), lines, all),
+        None => unreachable!(),
+    }
+}
+
+fn seat_session(
+    alloc: Global,
+    number: u64,
+    lines: &[Line],
+    all: &mut Vec<Seated>,
+) -> Result<(), NoMemory>
+    requires { number < 16 }
+    ensures { OnOk result (SitsDown lines.now (Session number) all.old.items all.new.items) }
+{
+    match SessionNo::new(number) {
+        Some(session) => seat(alloc, Actor::Session(session), lines, all),
+        None => unreachable!(),
+    }
+}
+
+fn seat(alloc: Global, actor: Actor, lines: &[Line], all: &mut Vec<Seated>) -> Result<(), NoMemory>
+    ensures { OnOk result (SitsDown lines.now actor all.old.items all.new.items) }
+{
+    let own = own_lines(alloc, &actor, lines)?;
+    all.push(Seated {
+        seat: Seat::first(actor),
+        lines: own,
+    })?;
+    Ok(())
+}
+
+fn own_lines(alloc: Global, actor: &Actor, lines: &[Line]) -> Result<Vec<Line>, NoMemory>
+    ensures { IfOk result (λ own. own.items ≡ own_lines actor.now lines.now) }
+{
+    let mut own = Vec::new(alloc);
+    for line in lines {
+        if line.actor == *actor {
+            own.extend_from_slice(&[*line])?;
+        }
+    }
+    Ok(own)
+}
+
+/// Where the actor sits.
+pub fn seated_of<'a>(seated: &'a [Seated], actor: &Actor) -> Option<&'a Seated>
+    ensures { MatchOption result (seated_of seated.now actor.now ≡ None) (λ found. seated_of seated.now actor.now ≡ Some found.now) }
+{
+    for one in seated {
+        if one.seat.actor == *actor {
+            return Some(one);
+        }
+    }
+    None
+}
+
+/// An own turn's event moves its actor's seat.
+pub fn go_on(seated: &mut Vec<Seated>, turn: &Turn, halt: Option<Halt>, asked: bool)
+    ensures { seated.new.items ≡ map (after_turn turn.now halt asked) seated.old.items }
+{
+    for number in 0..seated.len() {
+        seated[number].go_on(turn, halt, asked);
+    }
+}
+
+/// The session of which the turn is, where it is one of a session or one that serves its request.
+fn touched(turn: &Turn) -> Option<SessionNo>
+    ensures { result ≡ touched turn.now }
+{
+    match turn {
+        Turn::Own {
+            actor: Actor::Session(session),
+            ..
+        } => Some(*session),
+        Turn::Own { .. } => None,
+        Turn::Accept { session, .. } => Some(*session),
+        Turn::Decide { session, .. } => Some(*session),
+        Turn::Put { session, .. } => Some(*session),
+        Turn::Answer { session, .. } => Some(*session),
+        Turn::Extend { .. } => None,
+    }
+}
+
+/// The session of the turn passes its lines with nothing left to do, or each actor does where the turn is of no session.
+pub fn pass_touched(planned: &PlannedCluster, leads: &[u64], seated: &mut Vec<Seated>, turn: &Turn)
+    requires { All (CanPass planned.now.clock leads.now) seated.old.items }
+    ensures { seated.new.items ≡ after_passes (touched turn.now) (clocks_at planned.now.cluster planned.now.clock leads.now) planned.now.cluster.state seated.old.items }
+{
+    match touched(turn) {
+        Some(session) => pass_one(planned, leads, seated, session),
+        None => pass_all(planned, leads, seated),
+    }
+}
+
+/// The session passes its lines with nothing left to do.
+fn pass_one(planned: &PlannedCluster, leads: &[u64], seated: &mut Vec<Seated>, session: SessionNo)
+    requires { All (CanPass planned.now.clock leads.now) seated.old.items }
+    ensures { seated.new.items ≡ map (passing_of session (clocks_at planned.now.cluster planned.now.clock leads.now) planned.now.cluster.state) seated.old.items }
+{
+    for number in 0..seated.len() {
+        seated[number].pass_if(planned, leads, session);
+    }
+}
+
+/// Each actor passes its lines with nothing left to do.
+pub fn pass_all(planned: &PlannedCluster, leads: &[u64], seated: &mut Vec<Seated>)
+    requires { All (CanPass planned.now.clock leads.now) seated.old.items }
+    ensures { seated.new.items ≡ map (after_passing (clocks_at planned.now.cluster planned.now.clock leads.now) planned.now.cluster.state) seated.old.items }
+{
+    for number in 0..seated.len() {
+        seated[number].pass(planned, leads);
+    }
+}

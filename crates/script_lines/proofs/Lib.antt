@@ -1,2 +1,0 @@
-mod ArgumentLemmas
-mod WordLemmas

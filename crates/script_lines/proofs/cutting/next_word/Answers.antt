@@ -1,5 +1,0 @@
-use Rattle.script_lines.proofs.WordLemmas.{takes_word}
-use Rattle.script_lines.proofs.cutting.next_word.Goals as goal
-
-pub returns : goal.returns
-returns c = takes_word _ _ _ c.skip_blanks-text.ensures c.word_end-end.ensures.place c.word_end-end.ensures.within

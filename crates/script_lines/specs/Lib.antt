@@ -1,7 +1,0 @@
-pub mod Arguments
-pub mod Causes
-pub mod Checked
-pub mod Grammar
-pub mod Results
-pub mod Verbs
-pub mod Words

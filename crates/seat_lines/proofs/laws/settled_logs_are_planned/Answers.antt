@@ -1,5 +1,0 @@
-use Rattle.seat_lines.proofs.SettledLogs as settled
-use Rattle.seat_lines.proofs.laws.settled_logs_are_planned.Goals as goal
-
-pub returns : goal.returns
-returns c = settled.settled_logs_are_planned c.settled_is_planned.ensures

@@ -1,5 +1,0 @@
-use Rattle.served_lines.proofs.OverAsks as lemmas
-use Rattle.served_lines.proofs.asks.closed_asks_are_over.Goals as goal
-
-pub returns : goal.returns
-returns c = lemmas.closed_asks_are_over

@@ -1,2 +1,0 @@
-pub mod Following
-mod LaterEvents

@@ -1,6 +1,0 @@
-use Rattle.std.proofs.Common.{◌≡◌, drop}
-use Rattle.seat_lines.specs.Owed.{with_items}
-use Rattle.split_runs.proofs.account.Account.add_all.Given as goal
-
-abbrev pub invariant-loop-item : goal.invariant-loop-item
-invariant-loop-item l = with_items l.actor l.steps l.self (drop l.item-index l.items) ≡ with_items l.actor l.steps l.fn.self l.items

@@ -1,4 +1,0 @@
-mod PlacedMarks
-mod OwnPlacings
-mod SweepSteps
-mod WorkSteps

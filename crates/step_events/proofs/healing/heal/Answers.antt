@@ -1,4 +1,0 @@
-use Rattle.step_events.proofs.healing.heal.Goals as goal
-
-pub returns-in-Some-clause-made : goal.returns-in-Some-clause-made
-returns-in-Some-clause-made g c = λ pairs. rw (← c.in-Some.ensures) (c.heal_offered.ensures.made pairs)

@@ -1,4 +1,0 @@
-use Rattle.step_events.proofs.stepping.step.Goals as goal
-
-pub returns-in-Some-clause-made : goal.returns-in-Some-clause-made
-returns-in-Some-clause-made g c = c.place.ensures.made c.args.cells.now.rows

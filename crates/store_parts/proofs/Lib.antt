@@ -1,4 +1,0 @@
-pub mod RowLaws
-pub mod RowFetches
-pub mod RowVersions
-pub mod PairLaws

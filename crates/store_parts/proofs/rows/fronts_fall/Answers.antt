@@ -1,7 +1,0 @@
-use Rattle.std.proofs.Common.{◌≤◌}
-use Rattle.store_parts.specs.declared.rows.Cell.{Cell}
-use Rattle.store_parts.proofs.RowFetches.{front-falls, front-all}
-use Rattle.store_parts.proofs.rows.fronts_fall.Goals as goal
-
-pub returns : goal.returns
-returns c = record { falling = front-falls; upto = λ start upto cells all. front-all (λ (cell : Cell). cell.version ≤ upto) start cells all }

@@ -1,0 +1,22 @@
+pub mod BucketPairs
+pub mod BucketSteps
+pub mod BucketLaws
+pub mod BucketVerdicts
+pub mod LastCommits
+pub mod InstanceMoves
+pub mod InstanceNumbers
+pub mod InstanceRequests
+pub mod InstanceBegins
+pub mod InstanceRecords
+pub mod InstanceStamps
+pub mod CacheLemmas
+pub mod CompletionLemmas
+pub mod CutReadLemmas
+mod KeyReadLemmas
+pub mod RecalledLemmas
+pub mod RecalledReadLemmas
+pub mod WriteListLemmas
+pub mod RowLaws
+pub mod RowFetches
+pub mod RowVersions
+pub mod PairLaws

@@ -1,9 +1,0 @@
-use Rattle.reply_pipeline.specs.Seats.{IsSenderPass}
-use Rattle.thread_crew.specs.Lines.{AreLeft}
-use Rattle.thread_crew.specs.Sending.{ComesBack}
-use Rattle.thread_crew.specs.Sights.{IsSightOf}
-use Rattle.thread_crew.proofs.actors.act.Given as goal
-
-abbrev pub invariant-loop : goal.invariant-loop
-invariant-loop g l =
-    ComesBack l.fn.mine l.mine × IsSenderPass l.shared.queues.now l.pass × AreLeft l.shared.lines.now l.mine l.left × IsSightOf l.shared.beacon.now l.sight

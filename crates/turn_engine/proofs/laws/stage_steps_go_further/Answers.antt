@@ -1,5 +1,0 @@
-use Rattle.turn_engine.proofs.Further.{stage_steps_go_further}
-use Rattle.turn_engine.proofs.laws.stage_steps_go_further.Goals as goal
-
-pub returns : goal.returns
-returns c = stage_steps_go_further

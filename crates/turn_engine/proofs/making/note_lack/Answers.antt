@@ -1,8 +1,0 @@
-use Rattle.std.proofs.Common.{◌∙◌, sym, ap}
-use Rattle.turn_rules.specs.declared.turn.Turn.{Turn}
-use Rattle.turn_engine.specs.Making.{lacking_after}
-use Rattle.turn_engine.proofs.Lacking.{noted}
-use Rattle.turn_engine.proofs.making.note_lack.Goals as goal
-
-pub returns-then-finds_no_stamp : goal.returns-then-finds_no_stamp
-returns-then-finds_no_stamp c = c.set_lack.ensures ∙ sym (ap (λ (t : Turn). lacking_after c.args.lacking.now.items t c.args.halt) c.in-Decide.is ∙ noted c.args.lacking.now.items c.in-Decide.node c.in-Decide.session c.args.halt (sym c.finds_no_stamp.ensures ∙ c.if-finds_no_stamp.true))

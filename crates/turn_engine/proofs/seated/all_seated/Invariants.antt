@@ -1,9 +1,0 @@
-use Rattle.turn_engine.specs.Seating.{AreSeated}
-use Rattle.turn_engine.proofs.Sitting.{with_nodes, with_sessions}
-use Rattle.turn_engine.proofs.seated.all_seated.Given as goal
-
-abbrev pub invariant-loop-node : goal.invariant-loop-node
-invariant-loop-node l = AreSeated l.lines (with_nodes l.node) l.all.items
-
-abbrev pub invariant-loop-session : goal.invariant-loop-session
-invariant-loop-session l = AreSeated l.lines (with_sessions l.nodes l.session) l.all.items

@@ -1,5 +1,0 @@
-use Rattle.planned_cluster.proofs.Fitting.{SessionsAreThere}
-use Rattle.turn_engine.proofs.seated.see_sessions.Given as goal
-
-abbrev pub invariant-loop-line : goal.invariant-loop-line
-invariant-loop-line l = SessionsAreThere l.line-index l.lines

@@ -1,5 +1,0 @@
-pub mod Seating
-pub mod Run
-pub mod Making
-pub mod Steps
-pub mod Further

@@ -1,3 +1,0 @@
-mod WorkedHistories
-mod WorkedReads
-mod WorkedSkew

@@ -1,5 +1,0 @@
-use Rattle.worked_histories.proofs.WorkedSkew.{own_read_stands, earlier_read_falls}
-use Rattle.worked_histories.proofs.reads_after_own_writes_stand.Goals as goal
-
-pub returns : goal.returns
-returns c = record { after = own_read_stands; before = earlier_read_falls }
