@@ -11,13 +11,13 @@ use Rattle.machine.specs.State.{State, opening}
 use Rattle.machine.specs.Machine.{Step, stepped, Move, state_after, items_after, history_after, reading_of, IsSteadyAt, AreSteady, Steady}
 use Rattle.machine.proofs.PartsKept.{leaves_parts, clients_stay}
 use Rattle.cause_rules.specs.Explained.{Shown, Explained}
-use Rattle.isolation_laws.specs.Sound.{Stands}
+use Rattle.isolation_laws.specs.Sound.{ReachedInvariant}
 use Rattle.isolation_laws.proofs.AlwaysHolds.{dues, facts_stay, steady_stays, steady_now, stands_at_first, setup_after}
 use Rattle.cause_laws.specs.Requests.{AreAsked, AreFaulted, ArePutByNodes, AreOpenAsks}
 use Rattle.cause_laws.specs.Nodes.{AreTaken, AreVacant, AreShownStops, AreLasts}
-use Rattle.cause_laws.specs.Shows.{Shows, Tells}
-use Rattle.cause_laws.proofs.Deeds.{DeedOf, nodes_by, items_by}
-use Rattle.cause_laws.proofs.DeedsDone.{deed_of}
+use Rattle.cause_laws.specs.ShownInvariant.{ShownInvariant, Tells}
+use Rattle.cause_laws.proofs.NodeTransitions.{NodeTransitionOf, nodes_by, items_by}
+use Rattle.cause_laws.proofs.NodeTransitionsDone.{deed_of}
 use Rattle.cause_laws.proofs.AsksKept.{asked_kept, faulted_kept, put_kept}
 use Rattle.cause_laws.proofs.OpenAsksKept.{open_asks_kept}
 use Rattle.cause_laws.proofs.TakenKept.{taken_kept}
@@ -35,13 +35,13 @@ use Rattle.cause_laws.proofs.LongerHistories.{each_longer}
 
 -- ---- one event
 -- what holds after each deed holds of what the step leaves
-after_deed : (w : State) (h : List Item) (P : List (Option InstanceEntry) → List Item → Type 0) (nodes : List (Option InstanceEntry)) (items : List Item) → (by : DeedOf w nodes items) → P (nodes_by w by.deed) (h ++ items_by w by.deed) → P nodes (h ++ items)
+after_deed : (w : State) (h : List Item) (P : List (Option InstanceEntry) → List Item → Type 0) (nodes : List (Option InstanceEntry)) (items : List Item) → (by : NodeTransitionOf w nodes items) → P (nodes_by w by.deed) (h ++ items_by w by.deed) → P nodes (h ++ items)
 after_deed w h P nodes items by holds = subst (λ xs. P xs (h ++ items)) (sym by.leaves) (subst (λ xs. P (nodes_by w by.deed) (h ++ xs)) (sym by.tells) holds)
 
-shows_stay : (w : State) (h : List Item) (e : Event) (fate : Fate) → Stands w h → Shows w h → Shows (stepped w e fate).state (h ++ (stepped w e fate).items)
+shows_stay : (w : State) (h : List Item) (e : Event) (fate : Fate) → ReachedInvariant w h → ShownInvariant w h → ShownInvariant (stepped w e fate).state (h ++ (stepped w e fate).items)
 shows_stay w h e fate stands shows =
     let step : Step = stepped w e fate in
-    let by : DeedOf w step.state.nodes step.items = deed_of w h e fate stands in
+    let by : NodeTransitionOf w step.state.nodes step.items = deed_of w h e fate stands in
     let setup : step.state.setup ≡ w.setup = (leaves_parts w e fate).setup in
     record {
       sixteen = clients_stay w e fate ∙ shows.sixteen;
@@ -61,13 +61,13 @@ shows_stay w h e fate stands shows =
     }
 
 -- each refusal that it appends is shown
-explained_stays : (w : State) (h : List Item) (e : Event) (fate : Fate) → Stands w h → Shows w h → Explained w.setup h → Explained w.setup (h ++ (stepped w e fate).items)
+explained_stays : (w : State) (h : List Item) (e : Event) (fate : Fate) → ReachedInvariant w h → ShownInvariant w h → Explained w.setup h → Explained w.setup (h ++ (stepped w e fate).items)
 explained_stays w h e fate stands shows explained =
     each_longer (Shown w.setup) h (stepped w e fate).items explained (record {
       at = λ place x found. due_is_shown w h _ x stands shows ((dues w h e fate stands).at place x found);
     })
 
-pub tells_stay : (w : State) (h : List Item) (e : Event) (fate : Fate) → Tells w h → IsSteadyAt w.setup.skew w.seen (reading_of e) → Tells (stepped w e fate).state (h ++ (stepped w e fate).items)
+pub tells_stay : (w : State) (h : List Item) (e : Event) (fate : Fate) → ExplainedInvariant w h → IsSteadyAt w.setup.skew w.seen (reading_of e) → ExplainedInvariant (stepped w e fate).state (h ++ (stepped w e fate).items)
 tells_stay w h e fate tells steady = record {
   stands = facts_stay w h e fate tells.stands steady;
   shows = shows_stay w h e fate tells.stands tells.shows;
@@ -75,15 +75,15 @@ tells_stay w h e fate tells steady = record {
 }
 
 -- ---- all moves
-tells_after : (w : State) (h : List Item) (moves : List Move) → Tells w h → AreSteady w.setup.skew w.seen moves → Tells (state_after w moves) (h ++ items_after w moves)
+tells_after : (w : State) (h : List Item) (moves : List Move) → ExplainedInvariant w h → AreSteady w.setup.skew w.seen moves → ExplainedInvariant (state_after w moves) (h ++ items_after w moves)
 unfolding state_after items_after
-tells_after w h [] tells steady = subst (λ xs. Tells w xs) (sym (append-nil h)) tells
+tells_after w h [] tells steady = subst (λ xs. ExplainedInvariant w xs) (sym (append-nil h)) tells
 tells_after w h (move ∷ moves) tells steady =
     let step : Step = stepped w move.event move.fate in
-    let after : Tells step.state (h ++ step.items) = tells_stay w h move.event move.fate tells (steady_now w move moves steady) in
-    subst (λ xs. Tells (state_after step.state moves) xs) (append_assoc h step.items (items_after step.state moves)) (tells_after step.state (h ++ step.items) moves after (steady_stays w move moves steady))
+    let after : ExplainedInvariant step.state (h ++ step.items) = tells_stay w h move.event move.fate tells (steady_now w move moves steady) in
+    subst (λ xs. ExplainedInvariant (state_after step.state moves) xs) (append_assoc h step.items (items_after step.state moves)) (tells_after step.state (h ++ step.items) moves after (steady_stays w move moves steady))
 
-pub tells_at_first : (setup : SetupNumbers) → AreInRange setup → Tells (opening setup) []
+pub tells_at_first : (setup : SetupNumbers) → AreInRange setup → ExplainedInvariant (opening setup) []
 tells_at_first setup in_range = record {
   stands = stands_at_first setup in_range;
   shows = shown_at_first setup;

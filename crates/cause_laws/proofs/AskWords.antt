@@ -14,7 +14,7 @@ use Rattle.machine.specs.Events.Decide.{draw_item}
 use Rattle.cause_rules.specs.Asks.{ask_by, asks_for, term_by, draw_by, draws_for, its_ask, since_ask, its_term, its_draw, since_draw, its_start, its_node, node_asked}
 use Rattle.cause_rules.specs.Since.{last_told, since}
 use Rattle.cause_laws.specs.Due.{IsRefusal}
-use Rattle.cause_laws.proofs.Deeds.{Silent, AllSilent, ask_item}
+use Rattle.cause_laws.proofs.NodeTransitions.{Silent, AllSilent, ask_item}
 use Rattle.cause_laws.proofs.SinceWords.{last_told-push, since-push, last_told-same, since-more}
 
 -- ---- items that tell nothing of the session

@@ -16,14 +16,14 @@ use Rattle.machine.specs.State.{State}
 use Rattle.machine.specs.Events.Take.{rules_of, instance_of}
 use Rattle.machine.specs.Events.Decide.{draw_item}
 use Rattle.isolation_laws.specs.Words.{InstanceAt, HeldBy}
-use Rattle.isolation_laws.specs.Sound.{Stands}
+use Rattle.isolation_laws.specs.Sound.{ReachedInvariant}
 use Rattle.machine.proofs.Lookups.{instance_changed, held_by, heldby_ended, heldby_changed}
 use Rattle.isolation_laws.proofs.Requests.PendingAfter.{new_holds_none, same_requests}
 use Rattle.cause_laws.specs.Requests.{AreAsked, AreFaulted, ArePutByNodes}
-use Rattle.cause_laws.specs.Shows.{Shows}
-use Rattle.cause_laws.proofs.Deeds.{Granted, Told as ToldToWait, Asked, Serving, Accepted, Drew, SettledOne, Deed, OfRested, OfTook, OfRenewed, OfWidened, OfStopped, OfCrashed, OfAsked, OfAccepted, OfDrew, OfSettled, OfTold, OfEnded, OfLearned, granted_nodes, took_items, renewed_to, widened_to, ask_item, fault_of, nodes_by, items_by, now_at}
+use Rattle.cause_laws.specs.ShownInvariant.{ShownInvariant}
+use Rattle.cause_laws.proofs.NodeTransitions.{Granted, Told as ToldToWait, Asked, Serving, Accepted, Drew, SettledOne, NodeTransition, OfRested, OfTook, OfRenewed, OfWidened, OfStopped, OfCrashed, OfAsked, OfAccepted, OfDrew, OfSettled, OfTold, OfEnded, OfLearned, granted_nodes, took_items, renewed_to, widened_to, ask_item, fault_of, nodes_by, items_by, now_at}
 use Rattle.cause_laws.proofs.AskWords.{AllMute, silent_mute, other_ask, other_accept, other_draw}
-use Rattle.cause_laws.proofs.DeedsMute.{one_mute, always_mute, took_mute, crashed_mute, settled_mute, ended_mute, learned_mute}
+use Rattle.cause_laws.proofs.NodeTransitionsMute.{one_mute, always_mute, took_mute, crashed_mute, settled_mute, ended_mute, learned_mute}
 use Rattle.cause_laws.proofs.RequestsTold.{Told, AllTold, all_told, asked_by_told, faulted_by_told, put_by_told, told_mute, told_ask, told_accept, told_draw, told_settled}
 use Rattle.cause_laws.proofs.RequestsWere.{AllWere, were_same, were_put, were_ended, was_told, Alone, serving_alone, serving_own, asked_unheld, unheld_alone, IsNow, now_or_was}
 
@@ -69,7 +69,7 @@ served_told : (w : State) (h : List Item) (k : Serving w) (p : Progress) → All
 served_told w h k p all is =
     subst (λ (q : Progress). Told w.setup.direct h k.node k.session k.i.term k.held.request q) is (all k.node k.session k.i k.held.request k.held.progress k.at (held_by k.i k.session k.held k.has))
 
-by_ask : (w : State) (h : List Item) (k : Asked w) → Stands w h → AllTold w.setup.direct w.nodes h → AllTold w.setup.direct (nodes_by w (OfAsked k)) (h ++ ask_item k.node k.request ∷ [])
+by_ask : (w : State) (h : List Item) (k : Asked w) → ReachedInvariant w h → AllTold w.setup.direct w.nodes h → AllTold w.setup.direct (nodes_by w (OfAsked k)) (h ++ ask_item k.node k.request ∷ [])
 by_ask w h k stands all =
     let s : ℕ = session_of k.request in
     changed w.setup.direct w.nodes h (ask_item k.node k.request ∷ []) k.node s k.i (with_request k.i s (Some (just_asked k.request))) (just_asked k.request) all
@@ -77,7 +77,7 @@ by_ask w h k stands all =
     (λ r other. one_mute r (ask_item k.node k.request) (other_ask r k.node k.request (λ same. other (sym same))))
     (told_ask w.setup.direct h k.node k.i.term k.request)
 
-by_accept : (w : State) (h : List Item) (k : Accepted w) → Stands w h → AllTold w.setup.direct w.nodes h → AllTold w.setup.direct (nodes_by w (OfAccepted k)) (h ++ item.Accept k.it.session k.it.node k.it.i.term k.reading ∷ [])
+by_accept : (w : State) (h : List Item) (k : Accepted w) → ReachedInvariant w h → AllTold w.setup.direct w.nodes h → AllTold w.setup.direct (nodes_by w (OfAccepted k)) (h ++ item.Accept k.it.session k.it.node k.it.i.term k.reading ∷ [])
 by_accept w h k stands all =
     let it : Serving w = k.it in
     changed w.setup.direct w.nodes h (item.Accept it.session it.node it.i.term k.reading ∷ []) it.node it.session it.i (moved it.i it.session it.held progress.Accepted) (record it.held { progress = progress.Accepted }) all
@@ -85,7 +85,7 @@ by_accept w h k stands all =
     (λ r other. one_mute r (item.Accept it.session it.node it.i.term k.reading) (other_accept r it.session it.node it.i.term k.reading (λ same. other (sym same))))
     (told_accept w.setup.direct h it.node it.session it.i.term k.reading it.held.request (served_told w h it progress.Asked all k.asked))
 
-by_draw : (w : State) (h : List Item) (k : Drew w) → Stands w h → AllTold w.setup.direct w.nodes h → AllTold w.setup.direct (nodes_by w (OfDrew k)) (h ++ draw_item k.it.node k.it.i.term k.it.held.request (k.it.i.last + 1) ∷ [])
+by_draw : (w : State) (h : List Item) (k : Drew w) → ReachedInvariant w h → AllTold w.setup.direct w.nodes h → AllTold w.setup.direct (nodes_by w (OfDrew k)) (h ++ draw_item k.it.node k.it.i.term k.it.held.request (k.it.i.last + 1) ∷ [])
 by_draw w h k stands all =
     let it : Serving w = k.it in
     let stamp : ℕ = it.i.last + 1 in
@@ -99,7 +99,7 @@ by_draw w h k stands all =
     (subst (λ (r : ℕ). Told w.setup.direct (h ++ x ∷ []) it.node r it.i.term it.held.request (drawn_as it.i.direct it.held.request stamp)) own
     (told_draw w.setup.direct it.i.direct h it.node it.i.term stamp it.held.request (stands.holds.memory.form.direct it.node it.i it.at) before))
 
-by_settle : (w : State) (h : List Item) (k : SettledOne w) → Stands w h → Shows w h → AllTold w.setup.direct w.nodes h → AllTold w.setup.direct (nodes_by w (OfSettled k)) (h ++ (k.effects ++ fault_of k.by k.it.node))
+by_settle : (w : State) (h : List Item) (k : SettledOne w) → ReachedInvariant w h → ShownInvariant w h → AllTold w.setup.direct w.nodes h → AllTold w.setup.direct (nodes_by w (OfSettled k)) (h ++ (k.effects ++ fault_of k.by k.it.node))
 by_settle w h k stands shows all =
     let it : Serving w = k.it in
     let items : List Item = k.effects ++ fault_of k.by it.node in
@@ -111,7 +111,7 @@ by_settle w h k stands shows all =
     (told_settled w.setup.direct h k.effects it.node it.session it.i.term k.asker k.start k.commit k.keys k.by (settled_mute w k it.session) (λ is. shows.marked.marked k.start (k.found is)) before))
 
 -- ---- every deed
-told_by : (w : State) (h : List Item) (d : Deed w) → Stands w h → Shows w h → AllTold w.setup.direct w.nodes h → AllTold w.setup.direct (nodes_by w d) (h ++ items_by w d)
+told_by : (w : State) (h : List Item) (d : NodeTransition w) → ReachedInvariant w h → ShownInvariant w h → AllTold w.setup.direct w.nodes h → AllTold w.setup.direct (nodes_by w d) (h ++ items_by w d)
 told_by w h (OfRested k) stands shows all = kept w.setup.direct w.nodes w.nodes h k.items all (were_same w.nodes) (λ s. silent_mute s k.items k.silent)
 told_by w h (OfTook k) stands shows all = kept w.setup.direct w.nodes (granted_nodes w k k.failed) h (took_items w k) all (were_took w k k.failed) (took_mute w k)
 told_by w h (OfRenewed k) stands shows all =
@@ -137,14 +137,14 @@ told_by w h (OfEnded k) stands shows all =
 told_by w h (OfLearned k) stands shows all = kept w.setup.direct w.nodes w.nodes h (k.steps ++ k.last ∷ []) all (were_same w.nodes) (learned_mute w k)
 
 -- ---- the facts
-deed_told : (w : State) (h : List Item) (d : Deed w) → Stands w h → Shows w h → AllTold w.setup.direct (nodes_by w d) (h ++ items_by w d)
+deed_told : (w : State) (h : List Item) (d : NodeTransition w) → ReachedInvariant w h → ShownInvariant w h → AllTold w.setup.direct (nodes_by w d) (h ++ items_by w d)
 deed_told w h d stands shows = told_by w h d stands shows (all_told w.setup w.nodes h shows.asked shows.faulted shows.put)
 
-pub asked_kept : (w : State) (h : List Item) (d : Deed w) → Stands w h → Shows w h → AreAsked (nodes_by w d) (h ++ items_by w d)
+pub asked_kept : (w : State) (h : List Item) (d : NodeTransition w) → ReachedInvariant w h → ShownInvariant w h → AreAsked (nodes_by w d) (h ++ items_by w d)
 asked_kept w h d stands shows = asked_by_told w.setup.direct (nodes_by w d) (h ++ items_by w d) (deed_told w h d stands shows)
 
-pub faulted_kept : (w : State) (h : List Item) (d : Deed w) → Stands w h → Shows w h → AreFaulted (nodes_by w d) (h ++ items_by w d)
+pub faulted_kept : (w : State) (h : List Item) (d : NodeTransition w) → ReachedInvariant w h → ShownInvariant w h → AreFaulted (nodes_by w d) (h ++ items_by w d)
 faulted_kept w h d stands shows = faulted_by_told w.setup.direct (nodes_by w d) (h ++ items_by w d) (deed_told w h d stands shows)
 
-pub put_kept : (w : State) (h : List Item) (d : Deed w) → Stands w h → Shows w h → ArePutByNodes w.setup (nodes_by w d)
+pub put_kept : (w : State) (h : List Item) (d : NodeTransition w) → ReachedInvariant w h → ShownInvariant w h → ArePutByNodes w.setup (nodes_by w d)
 put_kept w h d stands shows = put_by_told w.setup (nodes_by w d) (h ++ items_by w d) (deed_told w h d stands shows)

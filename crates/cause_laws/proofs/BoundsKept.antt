@@ -12,11 +12,11 @@ use Rattle.machine.specs.State.{State, opening}
 use Rattle.machine.specs.Machine.{IsSteadyAt, stepped, reading_of, seen_after}
 use Rattle.machine.specs.Events.Take.{rules_of}
 use Rattle.machine.proofs.PartsKept.{seen_up, leaves_parts, posts_stay}
-use Rattle.isolation_laws.specs.Holds.{Holds}
-use Rattle.isolation_laws.specs.Sound.{Stands}
+use Rattle.isolation_laws.specs.IsolationInvariant.{IsolationInvariant}
+use Rattle.isolation_laws.specs.Sound.{ReachedInvariant}
 use Rattle.machine.specs.Outcome.Outcomes.{Outcome, OfGranted, OfRenewed, OfExtended, left_by}
 use Rattle.isolation_laws.proofs.AlwaysHolds.{each_outcome}
-use Rattle.cause_laws.specs.Shows.{Tells}
+use Rattle.cause_laws.specs.ShownInvariant.{Tells}
 use Rattle.cause_laws.specs.Bounds.{IsBounded, Bounded}
 use Rattle.cause_laws.proofs.RecordBounds.{bounded_taken, bounded_renewed, bounded_extended, has_room}
 
@@ -50,19 +50,19 @@ raised setup seen later master up far bounded = record {
 }
 
 -- ---- one event: a take, a renewal and an extension change the record, and nothing else does
-outcome_bounded : (w : State) (h : List Item) (o : Outcome w) → Holds w h → IsBounded w.setup w.seen w.master → w.seen ≤ (left_by w o).seen → (left_by w o).seen ≤ 2 ^ 61 → IsBounded w.setup (left_by w o).seen (left_by w o).master
+outcome_bounded : (w : State) (h : List Item) (o : Outcome w) → IsolationInvariant w h → IsBounded w.setup w.seen w.master → w.seen ≤ (left_by w o).seen → (left_by w o).seen ≤ 2 ^ 61 → IsBounded w.setup (left_by w o).seen (left_by w o).master
 outcome_bounded w h (OfGranted k) holds bounded up far = bounded_taken w k.node k.reading holds.in_range k.free (raised w.setup w.seen (max w.seen k.reading) w.master up far bounded)
 outcome_bounded w h (OfRenewed k) holds bounded up far = bounded_renewed w k.reading (holds.numbers.leases.holder k.node k.i k.at) (raised w.setup w.seen (max w.seen k.reading) w.master up far bounded)
 outcome_bounded w h (OfExtended k) holds bounded up far = bounded_extended w (holds.numbers.leases.holder k.node k.i k.at) (has_room (rules_of w.setup) w.master k.room) bounded
 outcome_bounded w h o holds bounded up far = raised w.setup w.seen (left_by w o).seen w.master up far bounded
 
-record_bounded : (w : State) (h : List Item) (e : Event) (fate : Fate) → Stands w h → IsBounded w.setup w.seen w.master → IsSteadyAt w.setup.skew w.seen (reading_of e) → let left : State = (stepped w e fate).state in IsBounded w.setup left.seen left.master
+record_bounded : (w : State) (h : List Item) (e : Event) (fate : Fate) → ReachedInvariant w h → IsBounded w.setup w.seen w.master → IsSteadyAt w.setup.skew w.seen (reading_of e) → let left : State = (stepped w e fate).state in IsBounded w.setup left.seen left.master
 record_bounded w h e fate both bounded steady =
     each_outcome (λ v items. w.seen ≤ v.seen → v.seen ≤ 2 ^ 61 → IsBounded w.setup v.seen v.master) w h e fate both (λ o. outcome_bounded w h o both.holds bounded)
     (subst (λ (seen : ℕ). w.seen ≤ seen) (sym (seen_up w e fate)) (seen_more w.seen (reading_of e)))
     (subst (λ (seen : ℕ). seen ≤ 2 ^ 61) (sym (seen_up w e fate)) (seen_far w.setup.skew w.seen (reading_of e) steady bounded.reading))
 
-pub bounds_stay : (w : State) (h : List Item) (e : Event) (fate : Fate) → Tells w h → Bounded w → IsSteadyAt w.setup.skew w.seen (reading_of e) → Bounded (stepped w e fate).state
+pub bounds_stay : (w : State) (h : List Item) (e : Event) (fate : Fate) → ExplainedInvariant w h → Bounded w → IsSteadyAt w.setup.skew w.seen (reading_of e) → Bounded (stepped w e fate).state
 bounds_stay w h e fate tells bounded steady =
     let left : State = (stepped w e fate).state in
     let setup : left.setup ≡ w.setup = (leaves_parts w e fate).setup in

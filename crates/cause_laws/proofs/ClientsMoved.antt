@@ -19,7 +19,7 @@ use Rattle.machine.specs.Clients.{client_begun, client_handed, unless_gone, unle
 use Rattle.machine.specs.Events.Write.{client_wrote}
 use Rattle.isolation_laws.specs.Words.{InstanceAt, HeldBy, ClientAt}
 use Rattle.isolation_laws.specs.Requests.{WaitsFor}
-use Rattle.isolation_laws.specs.Holds.{Holds}
+use Rattle.isolation_laws.specs.IsolationInvariant.{IsolationInvariant}
 use Rattle.machine.proofs.Lookups.{one_client}
 use Rattle.isolation_laws.proofs.Requests.ClientsOpen.{gone_cases}
 use Rattle.machine.specs.Outcome.OutcomesOfStamps.{HandedOver}
@@ -55,7 +55,7 @@ put_back w items session c new at before = PutBack session c new at refl (λ gon
 waits_start : (w : State) (asker start : ℕ) (keys : List ℕ) (c : Client) → WaitsFor (Commit asker start keys) c → (IsGone c → ⊥) → c.entry.start ≡ Some start
 waits_start w asker start keys c waits alive = elim waits [ inl gone ↦ absurd (alive gone) | inr committing ↦ committing.1 ]
 
-held_start : (w : State) (h : List Item) (k : HandedOver w) → Holds w h → HeldBy k.i k.session (Commit k.asker k.start k.keys) (progress.Handed k.commit) → (IsGone k.c → ⊥) → k.c.entry.start ≡ Some k.start
+held_start : (w : State) (h : List Item) (k : HandedOver w) → IsolationInvariant w h → HeldBy k.i k.session (Commit k.asker k.start k.keys) (progress.Handed k.commit) → (IsGone k.c → ⊥) → k.c.entry.start ≡ Some k.start
 held_start w h k holds held alive =
     let waits = holds.requests.requests.waits k.node k.session k.i (Commit k.asker k.start k.keys) (progress.Handed k.commit) k.at held in
     waits_start w k.asker k.start k.keys k.c (subst (λ (d : Client). WaitsFor (Commit k.asker k.start k.keys) d) (one_client w.clients k.session waits.0 k.c waits.1 k.client_at) waits.2) alive
@@ -63,7 +63,7 @@ held_start w h k holds held alive =
 gone_stays : (c : Client) (commit : ℕ) (state : Phase) → state ≡ phase.Gone → (unless_gone_by state c (client_handed c commit)).entry.state ≡ phase.Placing → c.entry.state ≡ phase.Placing
 gone_stays c commit state gone placing = subst (λ (s : Phase). (unless_gone_by s c (client_handed c commit)).entry.state ≡ phase.Placing) gone placing
 
-handed_now : (w : State) (h : List Item) (k : HandedOver w) → Holds w h → IsPlacing (unless_gone k.c (client_handed k.c k.commit)) → (k.c.entry ≡ (unless_gone k.c (client_handed k.c k.commit)).entry) ⊎ Handed w k.session (unless_gone k.c (client_handed k.c k.commit)).entry k.items
+handed_now : (w : State) (h : List Item) (k : HandedOver w) → IsolationInvariant w h → IsPlacing (unless_gone k.c (client_handed k.c k.commit)) → (k.c.entry ≡ (unless_gone k.c (client_handed k.c k.commit)).entry) ⊎ Handed w k.session (unless_gone k.c (client_handed k.c k.commit)).entry k.items
 handed_now w h k holds placing = elim (gone_cases k.c (client_handed k.c k.commit)) [
   | inl stays ↦ inl (ap (λ (c : Client). c.entry) (sym stays.0))
   | inr moves ↦
@@ -95,7 +95,7 @@ handed_gone w k gone = elim (gone_cases k.c (client_handed k.c k.commit)) [
 wrote_before : (c : Client) (key : ℕ) → c.entry.state ≡ phase.Open → AsBefore c.entry (client_wrote c key).entry
 wrote_before c key opened = record { gone = λ gone. gone; placing = λ placing. absurd (let clash : phase.Open ≡ phase.Placing = sym opened ∙ placing in cc) }
 
-pub moved : (w : State) (h : List Item) (o : Outcome w) → Holds w h → ClientsMoved w (left_by w o).clients (told_by_outcome w o)
+pub moved : (w : State) (h : List Item) (o : Outcome w) → IsolationInvariant w h → ClientsMoved w (left_by w o).clients (told_by_outcome w o)
 moved w h (OfAnsweredBegin k) holds = put_back w _ k.session k.c _ k.client_at (heard k.c (client_begun k.c k.start k.i.epoch) (begun_before k.c.entry k.c k.start k.i.epoch))
 moved w h (OfHanded k) holds = PutBack k.session k.c _ k.client_at refl (λ gone. inl (handed_gone w k gone)) (handed_now w h k holds)
 moved w h (OfWrote k) holds = put_back w _ k.it.session k.it.c _ k.it.client_at (wrote_before k.it.c k.key k.it.is_open)

@@ -10,8 +10,8 @@ use Rattle.history_book.specs.declared.item.Item.TheVariants.{Refused}
 use Rattle.system_parts.specs.declared.instance.Progress.TheVariants as progress
 use Rattle.machine.specs.State.{State}
 use Rattle.cause_rules.specs.Explained.{ShownToSession, ShownToNode, ShownToJanitor, ShownCause, Shown}
-use Rattle.isolation_laws.specs.Sound.{Stands}
-use Rattle.cause_laws.specs.Shows.{Shows}
+use Rattle.isolation_laws.specs.Sound.{ReachedInvariant}
+use Rattle.cause_laws.specs.ShownInvariant.{ShownInvariant}
 use Rattle.cause_laws.specs.Due.{DueToSession, DueToNode, DueToJanitor, DueNow, Due}
 use Rattle.cause_laws.proofs.ShownOfRequests.{node_of, conflict_shown, hidden_shown, old_epoch_shown, expired_shown}
 use Rattle.cause_laws.proofs.ShownOfDecisions.{replaced_shown, spent_shown, no_stamp_shown, invalid_shown, open_shown, not_yet_shown}
@@ -19,7 +19,7 @@ use Rattle.cause_laws.proofs.ShownOfNodes.{early_shown, spent_record_shown, over
 use Rattle.cause_laws.proofs.ShownOfLosses.{loss_shown}
 use Rattle.cause_laws.proofs.ShownOfPlacings.{placing_shown}
 
-to_session : (w : State) (h : List Item) (s : ℕ) (why : Cause) → Stands w h → Shows w h → DueToSession w s why → ShownToSession w.setup h s why
+to_session : (w : State) (h : List Item) (s : ℕ) (why : Cause) → ReachedInvariant w h → ShownInvariant w h → DueToSession w s why → ShownToSession w.setup h s why
 to_session w h s (cause.Conflict key by) stands shows due = conflict_shown w h s key by stands shows due
 to_session w h s (cause.Hidden key water) stands shows due = hidden_shown w h s key water stands shows due
 to_session w h s (cause.OldEpoch start epoch) stands shows due = old_epoch_shown w h s start epoch shows due
@@ -35,7 +35,7 @@ to_session w h s (cause.NoOracle node) stands shows due = none_shown w h node sh
 to_session w h s cause.Gone stands shows due = gone_shown w h s shows due
 to_session w h s _ stands shows due = absurd due
 
-to_node : (w : State) (h : List Item) (n : ℕ) (why : Cause) → Stands w h → Shows w h → DueToNode w n why → ShownToNode w.setup h n why
+to_node : (w : State) (h : List Item) (n : ℕ) (why : Cause) → ReachedInvariant w h → ShownInvariant w h → DueToNode w n why → ShownToNode w.setup h n why
 to_node w h n (cause.Early reading until) stands shows due = early_shown w h reading until shows due
 to_node w h n (cause.Spent ceiling) stands shows due = spent_record_shown w h ceiling stands shows due
 to_node w h n (cause.Replaced found) stands shows due = overtaken_shown w h n found stands shows due
@@ -43,17 +43,17 @@ to_node w h n (cause.Holding term) stands shows due = holding_shown w h n term s
 to_node w h n (cause.NoOracle node) stands shows due = (due.0, none_shown w h node shows due.1)
 to_node w h n _ stands shows due = absurd due
 
-to_janitor : (w : State) (h : List Item) (why : Cause) → Shows w h → DueToJanitor w why → ShownToJanitor h why
+to_janitor : (w : State) (h : List Item) (why : Cause) → ShownInvariant w h → DueToJanitor w why → ShownToJanitor h why
 to_janitor w h (cause.NoOracle node) shows due = none_shown w h node shows due
 to_janitor w h _ shows due = absurd due
 
-now_shown : (w : State) (h : List Item) (actor : Actor) (why : Cause) → Stands w h → Shows w h → DueNow w actor why → ShownCause w.setup h actor why
+now_shown : (w : State) (h : List Item) (actor : Actor) (why : Cause) → ReachedInvariant w h → ShownInvariant w h → DueNow w actor why → ShownCause w.setup h actor why
 now_shown w h (Session s) why stands shows due = to_session w h s why stands shows due
 now_shown w h (Node n) why stands shows due = to_node w h n why stands shows due
 now_shown w h Janitor why stands shows due = to_janitor w h why shows due
 now_shown w h Clock why stands shows due = absurd due
 
-pub due_is_shown : (w : State) (h told : List Item) (x : Item) → Stands w h → Shows w h → Due w told x → Shown w.setup (h ++ told) x
+pub due_is_shown : (w : State) (h told : List Item) (x : Item) → ReachedInvariant w h → ShownInvariant w h → Due w told x → Shown w.setup (h ++ told) x
 due_is_shown w h told (Refused actor why) stands shows (inl any) = any w.setup (h ++ told)
 due_is_shown w h told (Refused actor why) stands shows (inr (inl (first, due))) =
     subst (λ items. ShownCause w.setup (h ++ items) actor why) (sym first) (subst (λ items. ShownCause w.setup items actor why) (sym (append-nil h)) (now_shown w h actor why stands shows due))

@@ -10,7 +10,7 @@ use Rattle.machine.specs.declared.event.Event.{Event}
 use Rattle.machine.specs.State.{Client, State}
 use Rattle.machine.specs.Machine.{stepped}
 use Rattle.isolation_laws.specs.Words.{ClientAt}
-use Rattle.isolation_laws.specs.Sound.{Stands}
+use Rattle.isolation_laws.specs.Sound.{ReachedInvariant}
 use Rattle.machine.proofs.Lookups.{client_set}
 use Rattle.machine.specs.Outcome.Outcomes.{left_by, told_by_outcome}
 use Rattle.isolation_laws.proofs.AlwaysHolds.{each_outcome}
@@ -49,6 +49,6 @@ moved_told : (w : State) (left : List Client) (items : List Item) → ClientsMov
 moved_told w left items (Moves move) = λ s c at gone. let was = move s c at in inl (was.0, was.1, was.2.gone gone)
 moved_told w left items (PutBack session c new at same gone placing) = subst (λ (clients : List Client). GoneTold w.clients clients items) (sym same) (put_told w.clients session c new items at gone)
 
-pub gone_kept : (w : State) (h : List Item) (e : Event) (fate : Fate) → Stands w h → AreGone w.clients h → AreGone (stepped w e fate).state.clients (h ++ (stepped w e fate).items)
+pub gone_kept : (w : State) (h : List Item) (e : Event) (fate : Fate) → ReachedInvariant w h → AreGone w.clients h → AreGone (stepped w e fate).state.clients (h ++ (stepped w e fate).items)
 gone_kept w h e fate stands are = each_outcome (λ v items. AreGone v.clients (h ++ items)) w h e fate stands
     (λ o. gone_on w.clients (left_by w o).clients h (told_by_outcome w o) (moved_told w (left_by w o).clients (told_by_outcome w o) (moved w h o stands.holds)) are)

@@ -18,7 +18,7 @@ use Rattle.machine.specs.Events.Crash.{loss_heard, loss_items, crashed_items, al
 use Rattle.isolation_laws.specs.Words.{InstanceAt, ClientAt}
 use Rattle.isolation_laws.specs.Requests.{WaitsFor, AreRequests}
 use Rattle.machine.proofs.Lookups.{held_by, one_client}
-use Rattle.cause_laws.proofs.Deeds.{IsLossOf}
+use Rattle.cause_laws.proofs.NodeTransitions.{IsLossOf}
 
 -- ---- crash: each session that is told something has its request there
 abbrev pub AllLosses : InstanceEntry → List Item → Type 0

@@ -5,30 +5,30 @@ use Rattle.history_book.specs.declared.item.Item.{Item}
 use Rattle.system_parts.specs.Instance.{InstanceEntry}
 use Rattle.machine.specs.State.{State}
 use Rattle.isolation_laws.specs.Words.{InstanceAt}
-use Rattle.isolation_laws.specs.Sound.{Stands}
+use Rattle.isolation_laws.specs.Sound.{ReachedInvariant}
 use Rattle.cause_rules.specs.Posts.{TermTaken, CeilingGiven}
 use Rattle.cause_rules.specs.Refusals.{ShownSpent}
-use Rattle.cause_laws.specs.Shows.{Shows}
+use Rattle.cause_laws.specs.ShownInvariant.{ShownInvariant}
 
 pub holder_of : (holder : Option ℕ) → IsSome holder → (n : ℕ) × (holder ≡ Some n)
 holder_of None held = absurd (cc)
 holder_of (Some n) held = (n, refl)
 
 -- wherever an instance is there, the record is held
-pub holder_by : (w : State) (h : List Item) (node : ℕ) (i : InstanceEntry) → Stands w h → InstanceAt w.nodes node i → (n : ℕ) × (w.master.holder ≡ Some n)
+pub holder_by : (w : State) (h : List Item) (node : ℕ) (i : InstanceEntry) → ReachedInvariant w h → InstanceAt w.nodes node i → (n : ℕ) × (w.master.holder ≡ Some n)
 holder_by w h node i stands at = holder_of w.master.holder (stands.holds.numbers.leases.holder node i at)
 
 less_than : (a b : ℕ) → a ≤ b → b ≢ a → a < b
 less_than a b within other = grind arith
 
 -- an instance has another term than the record, so that a later one was taken
-pub replaced_shown : (w : State) (h : List Item) (node : ℕ) (i : InstanceEntry) → Stands w h → Shows w h → InstanceAt w.nodes node i → w.master.term ≢ i.term → (i.term < w.master.term) × TermTaken h w.master.term
+pub replaced_shown : (w : State) (h : List Item) (node : ℕ) (i : InstanceEntry) → ReachedInvariant w h → ShownInvariant w h → InstanceAt w.nodes node i → w.master.term ≢ i.term → (i.term < w.master.term) × TermTaken h w.master.term
 replaced_shown w h node i stands shows at other =
     let holder = holder_by w h node i stands at in
     (less_than i.term w.master.term (stands.holds.numbers.ranges.counted node i at).1 other, shows.master.term holder.0 holder.1)
 
 -- the record has no room for a further range
-pub spent_shown : (w : State) (h : List Item) (ceiling n : ℕ) → Shows w h → w.master.holder ≡ Some n → w.master.ceiling ≡ ceiling → 2 ^ 62 < ceiling + w.setup.range → ShownSpent w.setup h ceiling
+pub spent_shown : (w : State) (h : List Item) (ceiling n : ℕ) → ShownInvariant w h → w.master.holder ≡ Some n → w.master.ceiling ≡ ceiling → 2 ^ 62 < ceiling + w.setup.range → ShownSpent w.setup h ceiling
 spent_shown w h ceiling n shows held is past =
     let given = shows.master.ceiling n held in
     record { term = given.0; given = subst (λ c. CeilingGiven h given.0 c) is given.1; past = past }

@@ -11,12 +11,12 @@ use Rattle.machine.specs.State.{State}
 use Rattle.machine.specs.Events.Take.{rules_of, instance_of, take_item}
 use Rattle.machine.specs.Events.Decide.{draw_item}
 use Rattle.isolation_laws.specs.Words.{InstanceAt}
-use Rattle.isolation_laws.specs.Sound.{Stands}
+use Rattle.isolation_laws.specs.Sound.{ReachedInvariant}
 use Rattle.cause_rules.specs.Posts.{CeilingGiven}
 use Rattle.cause_rules.specs.Commits.{CommitDrawn, StampDrawn}
 use Rattle.cause_laws.specs.Nodes.{AreLasts}
-use Rattle.cause_laws.specs.Shows.{Shows}
-use Rattle.cause_laws.proofs.Deeds.{Deed, Granted, took_items, fault_if, widened_to, nodes_by, items_by}
+use Rattle.cause_laws.specs.ShownInvariant.{ShownInvariant}
+use Rattle.cause_laws.proofs.NodeTransitions.{NodeTransition, Granted, took_items, fault_if, widened_to, nodes_by, items_by}
 use Rattle.cause_laws.proofs.PostWords.{ceiling_given_on}
 use Rattle.cause_laws.proofs.PostMoves.{KeptBy, each_by}
 use Rattle.cause_laws.proofs.LongerHistories.{in_second}
@@ -60,7 +60,7 @@ last_anew w h k some = record {
 }
 
 -- ---- all
-lasts_kept_by : (w : State) (h : List Item) → Stands w h → Shows w h → KeptBy w (λ items n i. HasLast (h ++ items) i)
+lasts_kept_by : (w : State) (h : List Item) → ReachedInvariant w h → ShownInvariant w h → KeptBy w (λ items n i. HasLast (h ++ items) i)
 lasts_kept_by w h stands shows = record {
   told = λ items m i at takes crashes. last_told w h items m i shows.lasts at;
   requests = λ items m i now kept. record { wide = kept.wide; given = kept.given; drawn = kept.drawn };
@@ -79,7 +79,7 @@ lasts_kept_by w h stands shows = record {
   };
 }
 
-pub lasts_kept : (w : State) (h : List Item) (d : Deed w) → Stands w h → Shows w h → AreLasts (nodes_by w d) (h ++ items_by w d)
+pub lasts_kept : (w : State) (h : List Item) (d : NodeTransition w) → ReachedInvariant w h → ShownInvariant w h → AreLasts (nodes_by w d) (h ++ items_by w d)
 lasts_kept w h d stands shows =
     let all = each_by w (λ items n i. HasLast (h ++ items) i) (lasts_kept_by w h stands shows) d in
     record {

@@ -4,7 +4,7 @@ pub mod RecordCalls
 pub mod RequestCalls
 pub mod StoreCalls
 pub mod StepCalls
-mod Deeds
+mod NodeTransitions
 mod RecordedDraws
 mod HiddenWaters
 pub mod ShownOfRequests
@@ -18,7 +18,7 @@ pub mod SinceWords
 mod AskWords
 mod RequestsTold
 mod RequestsWere
-mod DeedsMute
+mod NodeTransitionsMute
 mod AsksKept
 mod PostWords
 mod PostItems
@@ -30,9 +30,9 @@ mod LastsKept
 mod ShownAtFirst
 pub mod LongerHistories
 mod HeldAsks
-mod DeedsOfPlacings
+mod NodeTransitionsOfPlacings
 pub mod SilentOutcomes
-mod DeedsDone
+mod NodeTransitionsDone
 mod OpenWords
 mod RecordShown
 mod HeldCounts

@@ -8,7 +8,7 @@ use Rattle.system_parts.specs.Pairs.{Pairs}
 use Rattle.machine.specs.declared.event.Event.{Event}
 use Rattle.machine.specs.State.{State}
 use Rattle.machine.specs.Machine.{stepped}
-use Rattle.isolation_laws.specs.Sound.{Stands}
+use Rattle.isolation_laws.specs.Sound.{ReachedInvariant}
 use Rattle.machine.specs.Outcome.Outcomes.{Outcome, OfPlaced, OfOwnPlaced, OfReadDropped, OfReadStepped, OfOutcome, OfOutcomeFailed, OfCompleted, OfSwept, OfSweepFailed, left_by, told_by_outcome}
 use Rattle.machine.specs.MarksTold.{MarksTold}
 use Rattle.machine.proofs.MarksTold.{marks_same, marks_behind, placed_marks}
@@ -36,5 +36,5 @@ outcome_marks w (OfSwept k) = k.marks
 outcome_marks w (OfSweepFailed k) = k.marks
 outcome_marks w o = marks_same w.pairs (told_by_outcome w o)
 
-pub marked_kept : (w : State) (h : List Item) (e : Event) (fate : Fate) → Stands w h → AreMarked w.pairs h → AreMarked (stepped w e fate).state.pairs (h ++ (stepped w e fate).items)
+pub marked_kept : (w : State) (h : List Item) (e : Event) (fate : Fate) → ReachedInvariant w h → AreMarked w.pairs h → AreMarked (stepped w e fate).state.pairs (h ++ (stepped w e fate).items)
 marked_kept w h e fate stands are = each_outcome (λ v items. AreMarked v.pairs (h ++ items)) w h e fate stands (λ o. marked_on w.pairs (left_by w o).pairs h (told_by_outcome w o) (outcome_marks w o) are)

@@ -24,11 +24,11 @@ use Rattle.machine.specs.Events.Take.{rules_of, instance_of, take_item}
 use Rattle.machine.specs.Events.Decide.{draw_item}
 use Rattle.cause_rules.specs.OpenAsks.{ends_request, asks_at, open_then}
 use Rattle.isolation_laws.specs.Words.{InstanceAt, HeldBy}
-use Rattle.isolation_laws.specs.Sound.{Stands}
+use Rattle.isolation_laws.specs.Sound.{ReachedInvariant}
 use Rattle.machine.proofs.Lookups.{held_by}
 use Rattle.cause_laws.specs.Requests.{held_count, AreOpenAsks}
-use Rattle.cause_laws.specs.Shows.{Shows}
-use Rattle.cause_laws.proofs.Deeds.{Granted, Crashed, Asked, Serving, Ended, Learned, Deed, OfRested, OfTook, OfRenewed, OfWidened, OfStopped, OfCrashed, OfAsked, OfAccepted, OfDrew, OfSettled, OfTold, OfEnded, OfLearned, IsLossOf, granted_nodes, took_items, fault_if, fault_of, renewed_to, widened_to, ask_item, nodes_by, items_by}
+use Rattle.cause_laws.specs.ShownInvariant.{ShownInvariant}
+use Rattle.cause_laws.proofs.NodeTransitions.{Granted, Crashed, Asked, Serving, Ended, Learned, NodeTransition, OfRested, OfTook, OfRenewed, OfWidened, OfStopped, OfCrashed, OfAsked, OfAccepted, OfDrew, OfSettled, OfTold, OfEnded, OfLearned, IsLossOf, granted_nodes, took_items, fault_if, fault_of, renewed_to, widened_to, ask_item, nodes_by, items_by}
 use Rattle.cause_laws.proofs.OpenWords.{Keeps, open_kept, Calm, calm_keeps, all_calm_keep, none_keeps, closed, all_silent_calm, draw_calm, ask_of_other, ask_elsewhere, ask_opens, crash_elsewhere, crash_closes, ends_no_ask, ends_closes, ends_of_other}
 use Rattle.cause_laws.proofs.HeldCounts.{same_or_other, count_of, held_within, count_other, count_now, count_same, no_count, AllCame, came_all, calm_stays, came_at, came_calm, AllShaped, shaped_put, shaped_ended, shape_request, shaped_of, open_asks_by}
 use Rattle.cause_laws.proofs.RequestsWere.{serving_alone, learned_unheld}
@@ -71,14 +71,14 @@ loss_no_ask : (n s : ℕ) (i : InstanceEntry) (x : Item) → IsLossOf i x → as
 loss_no_ask n s i (item.Refused actor why) loss = refl
 loss_no_ask n s i _ loss = absurd loss
 
-loss_keeps : (w : State) (h : List Item) (k : Crashed w) (m s : ℕ) (post : Option InstanceEntry) → Stands w h → m ≢ k.node → slice_get w.nodes m ≡ Some post → (x : Item) → IsLossOf k.i x → Keeps m s (held_count post s) x
+loss_keeps : (w : State) (h : List Item) (k : Crashed w) (m s : ℕ) (post : Option InstanceEntry) → ReachedInvariant w h → m ≢ k.node → slice_get w.nodes m ≡ Some post → (x : Item) → IsLossOf k.i x → Keeps m s (held_count post s) x
 loss_keeps w h k m s post stands other at (item.Refused (Session r) why) loss =
     unheld_keeps w.nodes m s r post (item.Refused (Session r) why) at refl
     (λ differ. record { asks = refl; closes_none = ap (λ b. b && ends_request why) (ne_eqb r s (λ same. differ (sym same))) })
     (λ j request p there holds. other (stands.holds.requests.requests.one m k.node r j k.i request loss.0.request p loss.0.progress there k.at holds (held_by k.i r loss.0 loss.1)))
 loss_keeps w h k m s post stands other at _ loss = absurd loss
 
-came_crashed : (w : State) (h : List Item) (k : Crashed w) → Stands w h → AllCame w.nodes (item.Crash k.node k.i.term ∷ k.told) (slice_set w.nodes k.node None)
+came_crashed : (w : State) (h : List Item) (k : Crashed w) → ReachedInvariant w h → AllCame w.nodes (item.Crash k.node k.i.term ∷ k.told) (slice_set w.nodes k.node None)
 came_crashed w h k stands =
     let crash : Item = item.Crash k.node k.i.term in
     came_at w.nodes (crash ∷ k.told) k.node (Some k.i) None k.at
@@ -108,7 +108,7 @@ fault_of_calm m s node how.Invalid = All-nil (Calm m s)
 fault_of_calm m s node how.Faulted = one_calm m s _ (record { asks = refl; closes_none = refl })
 
 -- ---- a request that is over, and an outcome that was learned
-came_ended : (w : State) (h : List Item) (k : Ended w) → Stands w h → AllCame w.nodes (k.last ∷ []) (nodes_by w (OfEnded k))
+came_ended : (w : State) (h : List Item) (k : Ended w) → ReachedInvariant w h → AllCame w.nodes (k.last ∷ []) (nodes_by w (OfEnded k))
 came_ended w h k stands =
     let it : Serving w = k.it in
     came_at w.nodes (k.last ∷ []) it.node (Some it.i) (Some (without_request it.i it.session)) it.at
@@ -121,7 +121,7 @@ came_ended w h k stands =
     (λ m other s post at. unheld_keeps w.nodes m s it.session post k.last at (ends_no_ask m it.session s k.last k.ends) (ends_of_other m it.session s k.last k.ends)
     (λ j request p there holds. other ((serving_alone w h it stands).one m j request p there holds)))
 
-came_learned : (w : State) (h : List Item) (k : Learned w) → Stands w h → AllCame w.nodes (k.steps ++ k.last ∷ []) w.nodes
+came_learned : (w : State) (h : List Item) (k : Learned w) → ReachedInvariant w h → AllCame w.nodes (k.steps ++ k.last ∷ []) w.nodes
 came_learned w h k stands =
     let last : Item = k.last in
     came_all w.nodes (k.steps ++ last ∷ []) (λ m s post at.
@@ -135,7 +135,7 @@ shaped_request_put : (w : State) (n : ℕ) (i : InstanceEntry) (r : ℕ) (now : 
 shaped_request_put w n i r now at all = shaped_put w.setup w.nodes n (with_request i r now) all (shape_request w.setup i r now (all n i at))
 
 -- ---- every deed
-came_by : (w : State) (h : List Item) (d : Deed w) → Stands w h → length w.clients ≡ 16 → AllShaped w.setup w.nodes → AllCame w.nodes (items_by w d) (nodes_by w d)
+came_by : (w : State) (h : List Item) (d : NodeTransition w) → ReachedInvariant w h → length w.clients ≡ 16 → AllShaped w.setup w.nodes → AllCame w.nodes (items_by w d) (nodes_by w d)
 came_by w h (OfRested k) stands sixteen shaped = came_all w.nodes k.items (λ m. calm_stays w.nodes k.items m (λ s. all_silent_calm m s k.items k.silent))
 came_by w h (OfTook k) stands sixteen shaped = came_took w k k.failed
 came_by w h (OfRenewed k) stands sixteen shaped =
@@ -162,7 +162,7 @@ came_by w h (OfTold k) stands sixteen shaped =
 came_by w h (OfEnded k) stands sixteen shaped = came_ended w h k stands
 came_by w h (OfLearned k) stands sixteen shaped = came_learned w h k stands
 
-shaped_by : (w : State) (d : Deed w) → AllShaped w.setup w.nodes → AllShaped w.setup (nodes_by w d)
+shaped_by : (w : State) (d : NodeTransition w) → AllShaped w.setup w.nodes → AllShaped w.setup (nodes_by w d)
 shaped_by w (OfRested k) all = all
 shaped_by w (OfTook k) all = shaped_took w k k.failed all
 shaped_by w (OfRenewed k) all = shaped_put w.setup w.nodes k.node (instance_renewed k.i (renewed_to w k)) all (all k.node k.i k.at)
@@ -180,7 +180,7 @@ shaped_by w (OfEnded k) all = shaped_request_put w k.it.node k.it.i k.it.session
 shaped_by w (OfLearned k) all = all
 
 -- a session that asks is one of the 16, so that its request has a place
-pub open_asks_kept : (w : State) (h : List Item) (d : Deed w) → Stands w h → Shows w h → length w.clients ≡ 16 → AreOpenAsks w.setup (nodes_by w d) (h ++ items_by w d)
+pub open_asks_kept : (w : State) (h : List Item) (d : NodeTransition w) → ReachedInvariant w h → ShownInvariant w h → length w.clients ≡ 16 → AreOpenAsks w.setup (nodes_by w d) (h ++ items_by w d)
 open_asks_kept w h d stands shows sixteen =
     let shaped : AllShaped w.setup w.nodes = shaped_of w.setup w.nodes h shows.open_asks in
     open_asks_by w.setup w.nodes (nodes_by w d) h (items_by w d) shows.open_asks (came_by w h d stands sixteen shaped) (shaped_by w d shaped)

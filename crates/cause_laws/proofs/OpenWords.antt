@@ -15,7 +15,7 @@ use Rattle.system_parts.specs.declared.instance.Request.TheVariants.{Begin, Comm
 use Rattle.system_parts.specs.Instance.{session_of}
 use Rattle.machine.specs.Events.Decide.{draw_item}
 use Rattle.cause_rules.specs.OpenAsks.{ends_request, closes, asks_at, open_then, open_asks_of}
-use Rattle.cause_laws.proofs.Deeds.{Silent, AllSilent, EndsFor, ask_item}
+use Rattle.cause_laws.proofs.NodeTransitions.{Silent, AllSilent, EndsFor, ask_item}
 
 -- ---- the count after items
 pub open_more : (h items : List Item) (n s : ℕ) → open_asks_of (h ++ items) n s ≡ fold (open_then n s) (open_asks_of h n s) items

@@ -19,16 +19,16 @@ use Rattle.machine.specs.declared.event.Event.{Event}
 use Rattle.machine.specs.State.{Client, State}
 use Rattle.machine.specs.Machine.{stepped}
 use Rattle.isolation_laws.specs.Words.{HeldBy, ClientAt}
-use Rattle.isolation_laws.specs.Sound.{Stands}
+use Rattle.isolation_laws.specs.Sound.{ReachedInvariant}
 use Rattle.machine.proofs.Lookups.{client_set, held_by, one_client}
 use Rattle.machine.specs.Outcome.Outcomes.{Outcome, left_by, told_by_outcome}
 use Rattle.isolation_laws.proofs.AlwaysHolds.{each_outcome}
 use Rattle.cause_laws.specs.Requests.{AskedToPlace, ArePlacingAsked}
-use Rattle.cause_laws.specs.Shows.{Shows}
-use Rattle.cause_laws.proofs.Deeds.{Asked, Serving, Deed, OfRested, OfTook, OfRenewed, OfWidened, OfStopped, OfCrashed, OfAsked, OfAccepted, OfDrew, OfSettled, OfTold, OfEnded, OfLearned, DeedOf, ask_item, items_by}
-use Rattle.cause_laws.proofs.DeedsDone.{outcome_deed}
+use Rattle.cause_laws.specs.ShownInvariant.{ShownInvariant}
+use Rattle.cause_laws.proofs.NodeTransitions.{Asked, Serving, NodeTransition, OfRested, OfTook, OfRenewed, OfWidened, OfStopped, OfCrashed, OfAsked, OfAccepted, OfDrew, OfSettled, OfTold, OfEnded, OfLearned, NodeTransitionOf, ask_item, items_by}
+use Rattle.cause_laws.proofs.NodeTransitionsDone.{outcome_deed}
 use Rattle.cause_laws.proofs.AskWords.{AllMute, silent_mute, other_ask, other_accept, other_draw, its_ask-mute, its_draw-mute}
-use Rattle.cause_laws.proofs.DeedsMute.{one_mute, always_mute, took_mute, crashed_mute, settled_mute, ended_mute, learned_mute}
+use Rattle.cause_laws.proofs.NodeTransitionsMute.{one_mute, always_mute, took_mute, crashed_mute, settled_mute, ended_mute, learned_mute}
 use Rattle.cause_laws.proofs.RequestsWere.{alone_unheld, serving_own}
 use Rattle.cause_laws.proofs.AsBefore.{IsPlacing}
 use Rattle.cause_laws.proofs.ClientsMoved.{ClientsMoved, Moves, PutBack, Handed, moved}
@@ -43,11 +43,11 @@ asks_not w k s c at placing same =
     let own : ClientAt w.clients s k.c = subst (λ (r : ℕ). ClientAt w.clients r k.c) same k.client_at in
     idle_not_placing k.c.entry.state k.idle (ap (λ (d : Client). d.entry.state) (one_client w.clients s k.c c own at) ∙ placing)
 
-serves_not : (w : State) (h : List Item) (it : Serving w) (s : ℕ) (c : Client) → Stands w h → ClientAt w.clients s c → IsPlacing c → it.session ≡ s → ⊥
+serves_not : (w : State) (h : List Item) (it : Serving w) (s : ℕ) (c : Client) → ReachedInvariant w h → ClientAt w.clients s c → IsPlacing c → it.session ≡ s → ⊥
 serves_not w h it s c stands at placing same =
     alone_unheld w h s c stands at (inr placing) it.node it.i it.held.request it.held.progress it.at (subst (λ (r : ℕ). HeldBy it.i r it.held.request it.held.progress) same (held_by it.i it.session it.held it.has))
 
-placing_mute : (w : State) (h : List Item) (d : Deed w) (s : ℕ) (c : Client) → Stands w h → ClientAt w.clients s c → IsPlacing c → AllMute s (items_by w d)
+placing_mute : (w : State) (h : List Item) (d : NodeTransition w) (s : ℕ) (c : Client) → ReachedInvariant w h → ClientAt w.clients s c → IsPlacing c → AllMute s (items_by w d)
 placing_mute w h (OfRested k) s c stands at placing = silent_mute s k.items k.silent
 placing_mute w h (OfTook k) s c stands at placing = took_mute w k s
 placing_mute w h (OfRenewed k) s c stands at placing = always_mute s _ refl
@@ -63,9 +63,9 @@ placing_mute w h (OfTold k) s c stands at placing = silent_mute s k.items k.sile
 placing_mute w h (OfEnded k) s c stands at placing = ended_mute w k s
 placing_mute w h (OfLearned k) s c stands at placing = learned_mute w k s
 
-outcome_mute : (w : State) (h : List Item) (o : Outcome w) (s : ℕ) (c : Client) → Stands w h → ClientAt w.clients s c → IsPlacing c → AllMute s (told_by_outcome w o)
+outcome_mute : (w : State) (h : List Item) (o : Outcome w) (s : ℕ) (c : Client) → ReachedInvariant w h → ClientAt w.clients s c → IsPlacing c → AllMute s (told_by_outcome w o)
 outcome_mute w h o s c stands at placing =
-    let by : DeedOf w (left_by w o).nodes (told_by_outcome w o) = outcome_deed w h o stands.holds in
+    let by : NodeTransitionOf w (left_by w o).nodes (told_by_outcome w o) = outcome_deed w h o stands.holds in
     subst (AllMute s) (sym by.tells) (placing_mute w h by.deed s c stands at placing)
 
 -- ---- what was asked stays so
@@ -90,7 +90,7 @@ came w left items (Moves move) s c at placing = inl ((at_work_moved w.clients le
 came w left items (PutBack session old new was same gone handed) s c at placing = came_put w session old new items was handed s c (subst (λ (clients : List Client). ClientAt clients s c) same at) placing
 
 -- ---- each outcome
-handed_asked : (w : State) (h : List Item) (s start commit : ℕ) (e : SessionEntry) (items : List Item) → Shows w h → Handed w s e items → e.start ≡ Some start → e.commit ≡ Some commit → AskedToPlace (h ++ items) s start commit
+handed_asked : (w : State) (h : List Item) (s start commit : ℕ) (e : SessionEntry) (items : List Item) → ShownInvariant w h → Handed w s e items → e.start ≡ Some start → e.commit ≡ Some commit → AskedToPlace (h ++ items) s start commit
 handed_asked w h s start commit e items shows k start_is commit_is =
     let mute : AllMute s items = subst (AllMute s) (sym k.tells) (always_mute s (item.Step (Session s) (HandedStep k.start k.commit)) refl) in
     let asked : AskedToPlace h s k.start k.commit = record {
@@ -101,7 +101,7 @@ handed_asked w h s start commit e items shows k start_is commit_is =
     subst (λ (t : ℕ). AskedToPlace (h ++ items) s t commit) (same_Some k.start start (sym k.start_is ∙ start_is))
     (subst (λ (u : ℕ). AskedToPlace (h ++ items) s k.start u) (same_Some k.commit commit (sym k.commit_is ∙ commit_is)) (asked_on h items s k.start k.commit mute asked))
 
-placing_on : (w : State) (h : List Item) (o : Outcome w) → Stands w h → Shows w h → ArePlacingAsked (left_by w o).clients (h ++ told_by_outcome w o)
+placing_on : (w : State) (h : List Item) (o : Outcome w) → ReachedInvariant w h → ShownInvariant w h → ArePlacingAsked (left_by w o).clients (h ++ told_by_outcome w o)
 placing_on w h o stands shows = record {
   each = λ s start commit c at placing start_is commit_is. elim (came w (left_by w o).clients (told_by_outcome w o) (moved w h o stands.holds) s c at placing) [
     | inl was ↦
@@ -112,5 +112,5 @@ placing_on w h o stands shows = record {
   ];
 }
 
-pub placing_kept : (w : State) (h : List Item) (e : Event) (fate : Fate) → Stands w h → Shows w h → ArePlacingAsked (stepped w e fate).state.clients (h ++ (stepped w e fate).items)
+pub placing_kept : (w : State) (h : List Item) (e : Event) (fate : Fate) → ReachedInvariant w h → ShownInvariant w h → ArePlacingAsked (stepped w e fate).state.clients (h ++ (stepped w e fate).items)
 placing_kept w h e fate stands shows = each_outcome (λ v items. ArePlacingAsked v.clients (h ++ items)) w h e fate stands (λ o. placing_on w h o stands shows)

@@ -6,7 +6,7 @@ use Rattle.history_book.specs.declared.item.Item.TheVariants as item
 use Rattle.isolation_laws.proofs.Pushed.{not_true}
 use Rattle.cause_rules.specs.Posts.{takes_for, crashes_for, StandsSince}
 use Rattle.cause_laws.specs.Due.{IsRefusal}
-use Rattle.cause_laws.proofs.Deeds.{Silent, AllSilent}
+use Rattle.cause_laws.proofs.NodeTransitions.{Silent, AllSilent}
 use Rattle.cause_laws.proofs.PostWords.{NoTakes, NoCrashes, stands_on}
 
 -- neither a take nor a crash of any node

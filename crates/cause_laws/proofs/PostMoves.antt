@@ -19,7 +19,7 @@ use Rattle.machine.specs.Events.Decide.{draw_item}
 use Rattle.isolation_laws.specs.Words.{InstanceAt}
 use Rattle.machine.proofs.Lookups.{instance_changed, instance_ended}
 use Rattle.cause_rules.specs.Posts.{takes_for, crashes_for}
-use Rattle.cause_laws.proofs.Deeds.{Deed, OfRested, OfTook, OfRenewed, OfWidened, OfStopped, OfCrashed, OfAsked, OfAccepted, OfDrew, OfSettled, OfTold, OfEnded, OfLearned, Granted, Renewed, Widened, Stopped, Crashed, Drew, SettledOne, Learned, granted_nodes, took_items, fault_if, fault_of, renewed_to, widened_to, IsLossOf, EndsFor, ask_item, now_at, nodes_by, items_by}
+use Rattle.cause_laws.proofs.NodeTransitions.{NodeTransition, OfRested, OfTook, OfRenewed, OfWidened, OfStopped, OfCrashed, OfAsked, OfAccepted, OfDrew, OfSettled, OfTold, OfEnded, OfLearned, Granted, Renewed, Widened, Stopped, Crashed, Drew, SettledOne, Learned, granted_nodes, took_items, fault_if, fault_of, renewed_to, widened_to, IsLossOf, EndsFor, ask_item, now_at, nodes_by, items_by}
 use Rattle.cause_laws.proofs.PostWords.{NoTakes, NoCrashes}
 use Rattle.cause_laws.proofs.PostItems.{is_calm, AllCalm, calm_no_takes, calm_no_crashes, calm_one, silent_calm, crash_no_takes, crash_no_crashes}
 
@@ -57,12 +57,12 @@ learned_calm : (w : State) (k : Learned w) → AllCalm (k.steps ++ k.last ∷ []
 learned_calm w k = All-append (λ (x : Item). is_calm x ≡ true) k.steps (k.last ∷ []) (silent_calm k.steps k.silent) (calm_one k.last (last_calm k.session k.last k.ends))
 
 -- the deed is neither a take nor a crash
-abbrev pub is_calm_deed : {w : State} → Deed w → Bool
+abbrev pub is_calm_deed : {w : State} → NodeTransition w → Bool
 is_calm_deed (OfTook k) = false
 is_calm_deed (OfCrashed k) = false
 is_calm_deed _ = true
 
-pub calm_by : (w : State) (d : Deed w) → is_calm_deed d ≡ true → AllCalm (items_by w d)
+pub calm_by : (w : State) (d : NodeTransition w) → is_calm_deed d ≡ true → AllCalm (items_by w d)
 calm_by w (OfRested k) calm = silent_calm k.items k.silent
 calm_by w (OfTook k) calm = absurd (cc)
 calm_by w (OfCrashed k) calm = absurd (cc)
@@ -127,7 +127,7 @@ module _ (w : State) (P : List Item → ℕ → InstanceEntry → Type 0) (kept 
       let calm : AllCalm k.told = losses_calm k.i k.told k.losses in
       kept.told (item.Crash k.node k.i.term ∷ k.told) m j old.1 (crash_no_takes m k.node k.i.term k.told calm) (crash_no_crashes m k.node k.i.term k.told old.0 calm)
 
-  pub each_by : (d : Deed w) (m : ℕ) (j : InstanceEntry) → InstanceAt (nodes_by w d) m j → P (items_by w d) m j
+  pub each_by : (d : NodeTransition w) (m : ℕ) (j : InstanceEntry) → InstanceAt (nodes_by w d) m j → P (items_by w d) m j
   each_by (OfRested k) m j at = calmly k.items m j (calm_by w (OfRested k) refl) at
   each_by (OfTook k) m j at = taking k k.failed refl m j at
   each_by (OfRenewed k) m j at = put _ k.node k.i _ (calm_by w (OfRenewed k) refl) k.at (kept.renewed k) m j at

@@ -33,8 +33,8 @@ use Rattle.machine.proofs.Lookups.{client_set, one_client}
 use Rattle.cause_rules.specs.Asks.{Ask, ask_by, its_ask}
 use Rattle.cause_rules.specs.OwnKeys.{begin_by, begins_for, last_begun, since_begin}
 use Rattle.isolation_laws.specs.Words.{ClientAt, HeldBy}
-use Rattle.isolation_laws.specs.Holds.{Holds}
-use Rattle.isolation_laws.specs.Sound.{Stands}
+use Rattle.isolation_laws.specs.IsolationInvariant.{IsolationInvariant}
+use Rattle.isolation_laws.specs.Sound.{ReachedInvariant}
 use Rattle.isolation_laws.proofs.Requests.ClientsOpen.{WorksNoMore, gone_cases, read_keeps_entry}
 use Rattle.isolation_laws.proofs.Requests.ClientMoves.{ClientsMove, clients_move}
 use Rattle.isolation_laws.proofs.Holding.NoStamps.{NoStamp, quiet_no_stamps}
@@ -43,13 +43,13 @@ use Rattle.isolation_laws.proofs.Holding.LeftAlone.{alone}
 use Rattle.isolation_laws.proofs.AlwaysHolds.{each_outcome}
 use Rattle.cause_laws.specs.Requests.{ask_for}
 use Rattle.cause_laws.specs.Reads.{AreFetched, AreReadsShown}
-use Rattle.cause_laws.specs.Shows.{Shows}
+use Rattle.cause_laws.specs.ShownInvariant.{ShownInvariant}
 use Rattle.cause_laws.proofs.SinceWords.{last_told-push, last_told-same, since-more}
 use Rattle.cause_laws.proofs.AskWords.{its_ask-mute, its_ask-push, silent_mute, other_ask, none_unless}
-use Rattle.cause_laws.proofs.DeedsMute.{one_mute, always_mute, took_mute, crashed_mute, settled_mute, ended_mute, learned_mute}
+use Rattle.cause_laws.proofs.NodeTransitionsMute.{one_mute, always_mute, took_mute, crashed_mute, settled_mute, ended_mute, learned_mute}
 use Rattle.cause_laws.proofs.RequestsTold.{own_item}
-use Rattle.cause_laws.proofs.Deeds.{Asked, AsksFor, Deed, OfRested, OfTook, OfRenewed, OfWidened, OfStopped, OfCrashed, OfAsked, OfAccepted, OfDrew, OfSettled, OfTold, OfEnded, OfLearned, DeedOf, ask_item, items_by}
-use Rattle.cause_laws.proofs.DeedsDone.{outcome_deed}
+use Rattle.cause_laws.proofs.NodeTransitions.{Asked, AsksFor, NodeTransition, OfRested, OfTook, OfRenewed, OfWidened, OfStopped, OfCrashed, OfAsked, OfAccepted, OfDrew, OfSettled, OfTold, OfEnded, OfLearned, NodeTransitionOf, ask_item, items_by}
+use Rattle.cause_laws.proofs.NodeTransitionsDone.{outcome_deed}
 
 -- ---- items without a begin of the session
 record NoBegin (s : ℕ) (x : Item) : Type 0 where
@@ -65,7 +65,7 @@ placed_begins s start commit items quiet =
     All-cons (NoBegin s) (item.Placed start commit) items (record { told = refl; begins = refl }) (All-weaker NoStamp (NoBegin s) (no_begin s) items (quiet_no_stamps items quiet))
 
 -- only an answered begin opens a transaction
-no_begins : (w : State) (h : List Item) (o : Outcome w) (s : ℕ) → Holds w h → (changes o).opened ≡ false → All (NoBegin s) (told_by_outcome w o)
+no_begins : (w : State) (h : List Item) (o : Outcome w) (s : ℕ) → IsolationInvariant w h → (changes o).opened ≡ false → All (NoBegin s) (told_by_outcome w o)
 no_begins w h (OfPlaced k) s holds is = placed_begins s k.it.start k.it.commit k.items k.quiet
 no_begins w h (OfOwnPlaced k) s holds is = placed_begins s k.it.start k.it.commit k.items k.quiet
 no_begins w h (OfAnsweredBegin k) s holds is = absurd (cc)
@@ -205,7 +205,7 @@ draw_asks : (s node term stamp : ℕ) (request : Request) → ask_by s (draw_ite
 draw_asks s node term stamp (Begin r) = refl
 draw_asks s node term stamp (Commit r start keys) = refl
 
-ask_after : (w : State) (h : List Item) (d : Deed w) (s : ℕ) → AskAfter w h (items_by w d) s
+ask_after : (w : State) (h : List Item) (d : NodeTransition w) (s : ℕ) → AskAfter w h (items_by w d) s
 ask_after w h (OfRested k) s = inl (its_ask-mute h k.items s (silent_mute s k.items k.silent))
 ask_after w h (OfTook k) s = inl (its_ask-mute h _ s (took_mute w k s))
 ask_after w h (OfRenewed k) s = inl (its_ask-mute h _ s (always_mute s _ refl))
@@ -226,16 +226,16 @@ asked_start : (request : Request) (c : Client) (m n t : ℕ) → AsksFor request
 asked_start (Begin r) c m n t for_it same = absurd (none-some t (ap (λ (a : Ask). a.start) same))
 asked_start (Commit r start keys) c m n t for_it same = (for_it.0, for_it.1 ∙ ap (λ (a : Ask). a.start) same)
 
-asked_now : (w : State) (h items : List Item) (s n t : ℕ) (c : Client) → Shows w h → ClientAt w.clients s c → NewAsk w h items s → its_ask (h ++ items) s ≡ Some (record { node = n; start = Some t }) → AreFetched h s t c
+asked_now : (w : State) (h items : List Item) (s n t : ℕ) (c : Client) → ShownInvariant w h → ClientAt w.clients s c → NewAsk w h items s → its_ask (h ++ items) s ≡ Some (record { node = n; start = Some t }) → AreFetched h s t c
 asked_now w h items s n t c shows at new told =
     let there : ClientAt w.clients s new.ask.c = subst (λ (r : ℕ). ClientAt w.clients r new.ask.c) new.own new.ask.client_at in
     let was = asked_start new.ask.request new.ask.c new.ask.node n t new.ask.for_it (same_Some _ _ (sym new.told ∙ told)) in
     subst (λ (d : Client). AreFetched h s t d) (one_client w.clients s new.ask.c c there at) (shows.reads.opened s t new.ask.c there was.0 was.1)
 
-outcome_shown : (w : State) (h : List Item) (o : Outcome w) → Stands w h → Shows w h → (changes o).opened ≡ false → AreReadsShown (left_by w o).clients (h ++ told_by_outcome w o)
+outcome_shown : (w : State) (h : List Item) (o : Outcome w) → ReachedInvariant w h → ShownInvariant w h → (changes o).opened ≡ false → AreReadsShown (left_by w o).clients (h ++ told_by_outcome w o)
 outcome_shown w h o stands shows is =
     let items : List Item = told_by_outcome w o in
-    let by : DeedOf w (left_by w o).nodes items = outcome_deed w h o stands.holds in
+    let by : NodeTransitionOf w (left_by w o).nodes items = outcome_deed w h o stands.holds in
     record {
       opened = λ s t c at is_open start.
           let came = all_came w o is s c at in
@@ -275,15 +275,15 @@ begun_opened h s start epoch t old c same is_open is = elim (gone_cases old (cli
 ]
 
 -- the request that was answered was a begin
-begin_was_asked : (w : State) (h : List Item) (k : AnsweredBegin w) → Shows w h → its_ask h k.session ≡ Some (record { node = k.node; start = None })
+begin_was_asked : (w : State) (h : List Item) (k : AnsweredBegin w) → ShownInvariant w h → its_ask h k.session ≡ Some (record { node = k.node; start = None })
 begin_was_asked w h k shows =
     let held : HeldBy k.i k.session (Begin k.asker) (progress.Drawn k.start) = record { held = k.held; has = k.has; asks = k.request_is; stands = k.drawn } in
     shows.asked.asked k.node k.session k.i (Begin k.asker) (progress.Drawn k.start) k.at held
 
-begun_asked : (w : State) (h : List Item) (k : AnsweredBegin w) (n t : ℕ) → Shows w h → its_ask h k.session ≡ Some (record { node = n; start = Some t }) → ⊥
+begun_asked : (w : State) (h : List Item) (k : AnsweredBegin w) (n t : ℕ) → ShownInvariant w h → its_ask h k.session ≡ Some (record { node = n; start = Some t }) → ⊥
 begun_asked w h k n t shows told = none-some t (ap (λ (a : Ask). a.start) (same_Some _ _ (sym (begin_was_asked w h k shows) ∙ told)))
 
-begin_shown : (w : State) (h : List Item) (k : AnsweredBegin w) → Shows w h → AreReadsShown (answered_begin_state w k).clients (h ++ answered_begin_items w k)
+begin_shown : (w : State) (h : List Item) (k : AnsweredBegin w) → ShownInvariant w h → AreReadsShown (answered_begin_state w k).clients (h ++ answered_begin_items w k)
 begin_shown w h k shows = record {
   opened = λ s t c at is_open start. elim (client_set w.clients k.session s _ c at) [
     | inl here ↦ subst (λ (r : ℕ). AreFetched (h ++ item.Begin k.session k.start ∷ []) r t c) (sym here.0) (begun_opened h k.session k.start k.i.epoch t k.c c here.1 is_open start)
@@ -298,9 +298,9 @@ begin_shown w h k shows = record {
 }
 
 -- ---- each outcome, and each event
-reads_on : (w : State) (h : List Item) (o : Outcome w) → Stands w h → Shows w h → AreReadsShown (left_by w o).clients (h ++ told_by_outcome w o)
+reads_on : (w : State) (h : List Item) (o : Outcome w) → ReachedInvariant w h → ShownInvariant w h → AreReadsShown (left_by w o).clients (h ++ told_by_outcome w o)
 reads_on w h (OfAnsweredBegin k) stands shows = begin_shown w h k shows
 reads_on w h o stands shows = outcome_shown w h o stands shows refl
 
-pub reads_kept : (w : State) (h : List Item) (e : Event) (fate : Fate) → Stands w h → Shows w h → AreReadsShown (stepped w e fate).state.clients (h ++ (stepped w e fate).items)
+pub reads_kept : (w : State) (h : List Item) (e : Event) (fate : Fate) → ReachedInvariant w h → ShownInvariant w h → AreReadsShown (stepped w e fate).state.clients (h ++ (stepped w e fate).items)
 reads_kept w h e fate stands shows = each_outcome (λ v items. AreReadsShown v.clients (h ++ items)) w h e fate stands (λ o. reads_on w h o stands shows)

@@ -11,8 +11,8 @@ use Rattle.machine.specs.declared.event.Event.{Event}
 use Rattle.machine.specs.State.{State}
 use Rattle.machine.specs.Machine.{stepped}
 use Rattle.machine.specs.Events.Take.{rules_of, take_item}
-use Rattle.isolation_laws.specs.Holds.{Holds}
-use Rattle.isolation_laws.specs.Sound.{Stands}
+use Rattle.isolation_laws.specs.IsolationInvariant.{IsolationInvariant}
+use Rattle.isolation_laws.specs.Sound.{ReachedInvariant}
 use Rattle.machine.specs.Outcome.OutcomesOfRecord.{fault_if}
 use Rattle.machine.specs.Outcome.Outcomes.{Outcome, OfGranted, OfRenewed, OfExtended, left_by, told_by_outcome}
 use Rattle.isolation_laws.proofs.AlwaysHolds.{each_outcome}
@@ -73,11 +73,11 @@ told_so : (w : State) (h : List Item) (master : MasterRecord) (items these : Lis
 told_so w h master items these same shown = subst (λ (xs : List Item). IsRecordShown master (h ++ xs)) (sym same) shown
 
 -- a take, a renewal and an extension change the record, and nothing else does
-outcome_shown : (w : State) (h : List Item) (o : Outcome w) → Holds w h → IsRecordShown w.master h → IsRecordShown (left_by w o).master (h ++ told_by_outcome w o)
+outcome_shown : (w : State) (h : List Item) (o : Outcome w) → IsolationInvariant w h → IsRecordShown w.master h → IsRecordShown (left_by w o).master (h ++ told_by_outcome w o)
 outcome_shown w h (OfGranted k) holds shown = told_so w h _ k.items _ k.tells (record_taken k.node k.reading (granted (rules_of w.setup) w.master k.reading) h (fault_if k.failed k.node))
 outcome_shown w h (OfRenewed k) holds shown = told_so w h _ k.items _ k.tells (record_renewed w.master k.node k.reading k.i.term (renewed_until (rules_of w.setup) w.master k.reading) h (fault_if k.failed k.node) shown)
 outcome_shown w h (OfExtended k) holds shown = told_so w h _ k.items _ k.tells (record_extended w.master k.node k.i.term (w.master.ceiling + w.setup.range) h (fault_if k.failed k.node) (holds.numbers.leases.holder k.node k.i k.at) shown)
 outcome_shown w h o holds shown = record_on w.master h (told_by_outcome w o) shown
 
-pub record_kept : (w : State) (h : List Item) (e : Event) (fate : Fate) → Stands w h → IsRecordShown w.master h → IsRecordShown (stepped w e fate).state.master (h ++ (stepped w e fate).items)
+pub record_kept : (w : State) (h : List Item) (e : Event) (fate : Fate) → ReachedInvariant w h → IsRecordShown w.master h → IsRecordShown (stepped w e fate).state.master (h ++ (stepped w e fate).items)
 record_kept w h e fate stands shown = each_outcome (λ v items. IsRecordShown v.master (h ++ items)) w h e fate stands (λ o. outcome_shown w h o stands.holds shown)

@@ -18,18 +18,18 @@ use Rattle.machine.specs.Calls.{Waits, WaitsFor as ServesFor, WaitsAt, HoldsNone
 use Rattle.machine.specs.Events.Put.{to_place, to_place_by}
 use Rattle.isolation_laws.specs.Words.{InstanceAt, ClientAt, HasRecord}
 use Rattle.isolation_laws.specs.Requests.{WaitsFor}
-use Rattle.isolation_laws.specs.Holds.{Holds}
+use Rattle.isolation_laws.specs.IsolationInvariant.{IsolationInvariant}
 use Rattle.machine.proofs.Lookups.{held_by, one_client}
 use Rattle.machine.specs.Outcome.Outcomes.{AtDrawn}
 use Rattle.isolation_laws.proofs.Numbers.NumbersKept.{in_flight_of, drawn_pending}
 use Rattle.isolation_laws.proofs.Owners.{pending_unplaced}
 use Rattle.machine.proofs.Inversions.InversionOfSessions.{work_open}
-use Rattle.cause_laws.specs.Shows.{Tells}
+use Rattle.cause_laws.specs.ShownInvariant.{Tells}
 use Rattle.cause_laws.specs.RequestCalls.{PostAt, BeginMayBeAsked, CommitMayBeAsked, RequestsAreWaitedFor, PutMayBeMade}
 
 -- ---- who waits
 -- the session of a request that is held
-held_waits : (w : State) (h : List Item) (session node : ℕ) (c : Client) (i : InstanceEntry) (held : Held) → Holds w h → ClientAt w.clients session c → InstanceAt w.nodes node i → held_of i session ≡ Some held → WaitsFor held.request c
+held_waits : (w : State) (h : List Item) (session node : ℕ) (c : Client) (i : InstanceEntry) (held : Held) → IsolationInvariant w h → ClientAt w.clients session c → InstanceAt w.nodes node i → held_of i session ≡ Some held → WaitsFor held.request c
 held_waits w h session node c i held holds client_at at has =
     let waiting = holds.requests.requests.waits node session i held.request held.progress at (held_by i session held has) in
     subst (λ (d : Client). WaitsFor held.request d) (one_client w.clients session waiting.0 c waiting.1 client_at) waiting.2
@@ -60,19 +60,19 @@ not_waiting state idle (inl gone) = idle.here gone
 not_waiting state idle (inr (inl asks)) = idle.asks_none asks
 not_waiting state idle (inr (inr commits)) = idle.commits_none commits
 
-none_held : (w : State) (h : List Item) (session node : ℕ) (c : Client) (i : InstanceEntry) → Holds w h → ClientAt w.clients session c → InstanceAt w.nodes node i → IsIdle c.entry.state → (found : Option Held) → held_of i session ≡ found → found ≡ None
+none_held : (w : State) (h : List Item) (session node : ℕ) (c : Client) (i : InstanceEntry) → IsolationInvariant w h → ClientAt w.clients session c → InstanceAt w.nodes node i → IsIdle c.entry.state → (found : Option Held) → held_of i session ≡ found → found ≡ None
 none_held w h session node c i holds client_at at idle None is = refl
 none_held w h session node c i holds client_at at idle (Some held) is =
     absurd (not_waiting c.entry.state idle (waits_in held.request c (held_waits w h session node c i held holds client_at at is)))
 
-holds_none : (w : State) (h : List Item) (session node : ℕ) (c : Client) (post : Option InstanceEntry) → Holds w h → ClientAt w.clients session c → PostAt w node post → IsIdle c.entry.state → HoldsNone post session
+holds_none : (w : State) (h : List Item) (session node : ℕ) (c : Client) (post : Option InstanceEntry) → IsolationInvariant w h → ClientAt w.clients session c → PostAt w node post → IsIdle c.entry.state → HoldsNone post session
 holds_none w h session node c None holds client_at at idle = tt
 holds_none w h session node c (Some i) holds client_at at idle = none_held w h session node c i holds client_at at idle (held_of i session) refl
 
-pub begins_ask : (w : State) (h : List Item) → Tells w h → BeginMayBeAsked w
+pub begins_ask : (w : State) (h : List Item) → ExplainedInvariant w h → BeginMayBeAsked w
 begins_ask w h tells session node c post client_at at go = holds_none w h session node c post tells.stands.holds client_at at (free_idle c.entry.state go)
 
-pub commits_ask : (w : State) (h : List Item) → Tells w h → CommitMayBeAsked w
+pub commits_ask : (w : State) (h : List Item) → ExplainedInvariant w h → CommitMayBeAsked w
 commits_ask w h tells session node c post client_at at go =
     holds_none w h session node c post tells.stands.holds client_at at (subst IsIdle (sym (work_open c.entry.state (is_reading c) go).0) open_idle)
 
@@ -83,15 +83,15 @@ waits_unless (Begin session) c (inr asks) = λ stays. asks
 waits_unless (Commit session start keys) c (inl gone) = λ stays. absurd (stays gone)
 waits_unless (Commit session start keys) c (inr commits) = λ stays. commits.0
 
-serves_found : (w : State) (h : List Item) (session node : ℕ) (c : Client) (i : InstanceEntry) → Holds w h → ClientAt w.clients session c → InstanceAt w.nodes node i → (found : Option Held) → held_of i session ≡ found → ServesFor found c.entry
+serves_found : (w : State) (h : List Item) (session node : ℕ) (c : Client) (i : InstanceEntry) → IsolationInvariant w h → ClientAt w.clients session c → InstanceAt w.nodes node i → (found : Option Held) → held_of i session ≡ found → ServesFor found c.entry
 serves_found w h session node c i holds client_at at None is = tt
 serves_found w h session node c i holds client_at at (Some held) is = waits_unless held.request c (held_waits w h session node c i held holds client_at at is)
 
-waits_at : (w : State) (h : List Item) (session node : ℕ) (c : Client) (post : Option InstanceEntry) → Holds w h → ClientAt w.clients session c → PostAt w node post → WaitsAt post session c.entry
+waits_at : (w : State) (h : List Item) (session node : ℕ) (c : Client) (post : Option InstanceEntry) → IsolationInvariant w h → ClientAt w.clients session c → PostAt w node post → WaitsAt post session c.entry
 waits_at w h session node c None holds client_at at = tt
 waits_at w h session node c (Some i) holds client_at at = serves_found w h session node c i holds client_at at (held_of i session) refl
 
-pub requests_wait : (w : State) (h : List Item) → Tells w h → RequestsAreWaitedFor w
+pub requests_wait : (w : State) (h : List Item) → ExplainedInvariant w h → RequestsAreWaitedFor w
 requests_wait w h tells node post at session c client_at = waits_at w h session node c post tells.stands.holds client_at at
 
 -- ---- the put
@@ -112,15 +112,15 @@ drawn_by start commit (Commit asker t keys) (progress.Settled c by) is = absurd 
 drawn_by start commit (Commit asker t keys) (progress.Handed c) is = absurd (cc)
 drawn_by start commit (Begin asker) p is = absurd (cc)
 
-drawn_unplaced : (w : State) (h : List Item) (k : AtDrawn w) (other : ℕ) → Holds w h → HasRecord w.pairs k.start other → ⊥
+drawn_unplaced : (w : State) (h : List Item) (k : AtDrawn w) (other : ℕ) → IsolationInvariant w h → HasRecord w.pairs k.start other → ⊥
 drawn_unplaced w h k other holds there =
     pending_unplaced w.clients w.nodes h k.start other holds.numbers.placed holds.requests.pending (record { coming = in_flight_of w k; pending = inl (drawn_pending w k holds.requests.requests); start_is = refl }) (holds.cells.pairs_are.placed k.start other there)
 
-put_finds : (w : State) (h : List Item) (session node start commit other : ℕ) (i : InstanceEntry) → Holds w h → InstanceAt w.nodes node i → (found : Option Held) → held_of i session ≡ found → to_place found ≡ Some (start, commit) → HasRecord w.pairs start other → ⊥
+put_finds : (w : State) (h : List Item) (session node start commit other : ℕ) (i : InstanceEntry) → IsolationInvariant w h → InstanceAt w.nodes node i → (found : Option Held) → held_of i session ≡ found → to_place found ≡ Some (start, commit) → HasRecord w.pairs start other → ⊥
 put_finds w h session node start commit other i holds at None has is there = none-some (start, commit) is
 put_finds w h session node start commit other i holds at (Some held) has is there =
     let it : IsDrawn start commit held.request held.progress = drawn_by start commit held.request held.progress is in
     drawn_unplaced w h (record { node = node; session = session; asker = it.asker; start = start; commit = commit; keys = it.keys; i = i; held = held; at = at; has = has; request_is = it.request_is; drawn = it.drawn }) other holds there
 
-pub puts_place : (w : State) (h : List Item) → Tells w h → PutMayBeMade w
+pub puts_place : (w : State) (h : List Item) → ExplainedInvariant w h → PutMayBeMade w
 puts_place w h tells session node start commit other i at is there = put_finds w h session node start commit other i tells.stands.holds at (held_of i session) refl is there

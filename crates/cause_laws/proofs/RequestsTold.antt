@@ -23,7 +23,7 @@ use Rattle.machine.specs.Events.Decide.{draw_item}
 use Rattle.cause_rules.specs.Asks.{its_ask, its_term, its_draw, since_draw}
 use Rattle.isolation_laws.specs.Words.{InstanceAt, HeldBy}
 use Rattle.cause_laws.specs.Requests.{ask_for, AreAsked, AreFaulted, WhereNodesPut, ArePutByNodes}
-use Rattle.cause_laws.proofs.Deeds.{ask_item, fault_of}
+use Rattle.cause_laws.proofs.NodeTransitions.{ask_item, fault_of}
 use Rattle.cause_laws.proofs.AskWords.{AllMute, its_ask-mute, its_term-mute, its_draw-mute, since_draw-mute, its_ask-push, its_term-push, its_draw-push}
 
 -- ---- what is told of a request

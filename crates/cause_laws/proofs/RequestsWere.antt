@@ -11,9 +11,9 @@ use Rattle.system_parts.specs.Instance.{InstanceEntry, with_request, session_of}
 use Rattle.machine.specs.State.{Client, State}
 use Rattle.isolation_laws.specs.Words.{InstanceAt, HeldBy, ClientAt}
 use Rattle.isolation_laws.specs.Requests.{WaitsFor}
-use Rattle.isolation_laws.specs.Sound.{Stands}
+use Rattle.isolation_laws.specs.Sound.{ReachedInvariant}
 use Rattle.machine.proofs.Lookups.{instance_changed, instance_ended, held_by, one_client, heldby_changed}
-use Rattle.cause_laws.proofs.Deeds.{Serving, Asked, Learned}
+use Rattle.cause_laws.proofs.NodeTransitions.{Serving, Asked, Learned}
 use Rattle.cause_laws.proofs.RequestsTold.{Told, AllTold}
 
 -- ---- requests that were held before
@@ -52,13 +52,13 @@ was_told direct nodes h n s term request p all was = subst (λ (t : ℕ). Told d
 pub record Alone (nodes : List (Option InstanceEntry)) (n s : ℕ) : Type 0 where
   pub one : (m : ℕ) (j : InstanceEntry) (request : Request) (p : Progress) → InstanceAt nodes m j → HeldBy j s request p → m ≡ n
 
-pub serving_alone : (w : State) (h : List Item) (k : Serving w) → Stands w h → Alone w.nodes k.node k.session
+pub serving_alone : (w : State) (h : List Item) (k : Serving w) → ReachedInvariant w h → Alone w.nodes k.node k.session
 serving_alone w h k stands = record {
   one = λ m j request p at holds. stands.holds.requests.requests.one m k.node k.session j k.i request k.held.request p k.held.progress at k.at holds (held_by k.i k.session k.held k.has);
 }
 
 -- the request is held under its own session
-pub serving_own : (w : State) (h : List Item) (k : Serving w) → Stands w h → session_of k.held.request ≡ k.session
+pub serving_own : (w : State) (h : List Item) (k : Serving w) → ReachedInvariant w h → session_of k.held.request ≡ k.session
 serving_own w h k stands = stands.holds.requests.requests.own k.node k.session k.i k.held.request k.held.progress k.at (held_by k.i k.session k.held k.has)
 
 -- ---- a session that waits for nothing has no request
@@ -75,12 +75,12 @@ idle_waits_not request c idle waits = elim idle [
 abbrev pub Unheld : List (Option InstanceEntry) → ℕ → Type 0
 Unheld nodes s = (m : ℕ) (j : InstanceEntry) (request : Request) (p : Progress) → InstanceAt nodes m j → HeldBy j s request p → ⊥
 
-unheld_by : (w : State) (h : List Item) (s : ℕ) (c : Client) → Stands w h → ClientAt w.clients s c → ((request : Request) → WaitsFor request c → ⊥) → Unheld w.nodes s
+unheld_by : (w : State) (h : List Item) (s : ℕ) (c : Client) → ReachedInvariant w h → ClientAt w.clients s c → ((request : Request) → WaitsFor request c → ⊥) → Unheld w.nodes s
 unheld_by w h s c stands client_at not m j request p at holds =
     let waits : (d : Client) × ClientAt w.clients s d × WaitsFor request d = stands.holds.requests.requests.waits m s j request p at holds in
     not request (subst (λ (d : Client). WaitsFor request d) (one_client w.clients s waits.0 c waits.1 client_at) waits.2)
 
-pub asked_unheld : (w : State) (h : List Item) (k : Asked w) → Stands w h → Unheld w.nodes (session_of k.request)
+pub asked_unheld : (w : State) (h : List Item) (k : Asked w) → ReachedInvariant w h → Unheld w.nodes (session_of k.request)
 asked_unheld w h k stands = unheld_by w h (session_of k.request) k.c stands k.client_at (λ request waits. idle_waits_not request k.c k.idle waits)
 
 -- nor one that learns by itself how its commit stands
@@ -93,10 +93,10 @@ alone_waits_not request c alone waits = elim alone [
   | inr placing ↦ waits_not request c waits (λ is. cc) (λ is. cc) (λ is. cc)
 ]
 
-pub alone_unheld : (w : State) (h : List Item) (s : ℕ) (c : Client) → Stands w h → ClientAt w.clients s c → IsAlone c → Unheld w.nodes s
+pub alone_unheld : (w : State) (h : List Item) (s : ℕ) (c : Client) → ReachedInvariant w h → ClientAt w.clients s c → IsAlone c → Unheld w.nodes s
 alone_unheld w h s c stands at alone = unheld_by w h s c stands at (λ request waits. alone_waits_not request c alone waits)
 
-pub learned_unheld : (w : State) (h : List Item) (k : Learned w) → Stands w h → Unheld w.nodes k.session
+pub learned_unheld : (w : State) (h : List Item) (k : Learned w) → ReachedInvariant w h → Unheld w.nodes k.session
 learned_unheld w h k stands = alone_unheld w h k.session k.c stands k.at k.alone
 
 pub unheld_alone : (nodes : List (Option InstanceEntry)) (n s : ℕ) → Unheld nodes s → Alone nodes n s

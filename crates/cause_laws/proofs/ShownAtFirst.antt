@@ -15,7 +15,7 @@ use Rattle.cause_rules.specs.OpenAsks.{open_asks_of}
 use Rattle.isolation_laws.specs.Words.{ClientAt, Marked}
 use Rattle.isolation_laws.proofs.Inversions.InversionSound.{found_copy, none_at}
 use Rattle.cause_laws.specs.Requests.{held_count}
-use Rattle.cause_laws.specs.Shows.{Shows}
+use Rattle.cause_laws.specs.ShownInvariant.{ShownInvariant}
 
 nobody_asked : (n s : ℕ) (post : Option InstanceEntry) → post ≡ None → open_asks_of [] n s ≡ held_count post s
 nobody_asked n s post none = sym (ap (λ p. held_count p s) none)
@@ -35,7 +35,7 @@ nobody_open setup s c at is_open = let clash : phase.Free ≡ phase.Open = all_f
 none_marked : (t : ℕ) → Marked map.empty t → ⊥
 none_marked t marked = none-some InvalidMark (sym (map.get-empty nat_cmp t) ∙ marked)
 
-pub shown_at_first : (setup : SetupNumbers) → Shows (opening setup) []
+pub shown_at_first : (setup : SetupNumbers) → ShownInvariant (opening setup) []
 shown_at_first setup = record {
   sixteen = length-replicate 16 (client_new setup.cache);
   asked = record {

@@ -25,18 +25,18 @@ use Rattle.cause_rules.specs.Commits.{StampDrawn, placer, ShownReplaced, ShownNo
 use Rattle.cause_rules.specs.Refusals.{ShownSpent}
 use Rattle.isolation_laws.specs.Words.{InstanceAt, HeldBy, DrewCommit}
 use Rattle.isolation_laws.specs.Pending.{InFlight, HeldPending, Has}
-use Rattle.isolation_laws.specs.Sound.{Stands}
+use Rattle.isolation_laws.specs.Sound.{ReachedInvariant}
 use Rattle.isolation_laws.proofs.Owners.{drawn_once}
 use Rattle.cause_laws.specs.Nodes.{ShownStop}
-use Rattle.cause_laws.specs.Shows.{Shows}
+use Rattle.cause_laws.specs.ShownInvariant.{ShownInvariant}
 use Rattle.cause_laws.specs.Due.{DueStop, DueNoStamp, DueSettled, DueNotYet}
 use Rattle.cause_laws.proofs.ShownOfRequests.{node_of, start_of, start_of_begin, term_of, accepted_not_asked, drawn_not_asked}
 
 -- ---- decision
-stop_shown : (w : State) (h : List Item) (s : ℕ) (why : Cause) → Shows w h → (due : DueStop w s why) → ShownStop w.setup h due.i.term why
+stop_shown : (w : State) (h : List Item) (s : ℕ) (why : Cause) → ShownInvariant w h → (due : DueStop w s why) → ShownStop w.setup h due.i.term why
 stop_shown w h s why shows due = shows.stops.shown due.serves.node due.i why due.serves.at due.stop_is
 
-pub replaced_shown : (w : State) (h : List Item) (s found : ℕ) → Shows w h → DueStop w s (cause.Replaced found) → ShownReplaced h s found
+pub replaced_shown : (w : State) (h : List Item) (s found : ℕ) → ShownInvariant w h → DueStop w s (cause.Replaced found) → ShownReplaced h s found
 replaced_shown w h s found shows due =
     let is = stop_shown w h s (cause.Replaced found) shows due in
     record {
@@ -48,14 +48,14 @@ replaced_shown w h s found shows due =
       taken = is.1;
     }
 
-pub spent_shown : (w : State) (h : List Item) (s ceiling : ℕ) → Shows w h → DueStop w s (cause.Spent ceiling) → ShownSpent w.setup h ceiling
+pub spent_shown : (w : State) (h : List Item) (s ceiling : ℕ) → ShownInvariant w h → DueStop w s (cause.Spent ceiling) → ShownSpent w.setup h ceiling
 spent_shown w h s ceiling shows due = stop_shown w h s (cause.Spent ceiling) shows due
 
 last_drawn_by : (h : List Item) (i : InstanceEntry) → i.epoch < i.ceiling → i.last ≡ i.ceiling → (i.last ≡ i.epoch) ⊎ StampDrawn h i.term i.last → StampDrawn h i.term i.last
 last_drawn_by h i wide used (inl first) = absurd (omega (arith, wide, used, first))
 last_drawn_by h i wide used (inr drawn) = drawn
 
-pub no_stamp_shown : (w : State) (h : List Item) (s last : ℕ) → Shows w h → DueNoStamp w s last → ShownNoStamp h s last
+pub no_stamp_shown : (w : State) (h : List Item) (s last : ℕ) → ShownInvariant w h → DueNoStamp w s last → ShownNoStamp h s last
 no_stamp_shown w h s last shows due =
     let n : ℕ = due.serves.node in
     let at : InstanceAt w.nodes n due.i = due.serves.at in
@@ -69,7 +69,7 @@ no_stamp_shown w h s last shows due =
     }
 
 -- ---- the answer to a commit
-pub invalid_shown : (w : State) (h : List Item) (s start : ℕ) → Shows w h → DueSettled w s start how.Invalid → ShownInvalid h s start
+pub invalid_shown : (w : State) (h : List Item) (s start : ℕ) → ShownInvariant w h → DueSettled w s start how.Invalid → ShownInvalid h s start
 invalid_shown w h s start shows due =
     let mark = shows.faulted.marked due.serves.node s due.asker start due.commit due.i due.keys due.serves.at due.serves.holds in
     record {
@@ -80,7 +80,7 @@ invalid_shown w h s start shows due =
       marked = mark.1;
     }
 
-pub open_shown : (w : State) (h : List Item) (s start : ℕ) → Shows w h → DueSettled w s start how.Faulted → ShownOpen w.setup h s start
+pub open_shown : (w : State) (h : List Item) (s start : ℕ) → ShownInvariant w h → DueSettled w s start how.Faulted → ShownOpen w.setup h s start
 open_shown w h s start shows due =
     let drew : its_draw h s ≡ Some (start, Some due.commit) = shows.asked.drawn due.serves.node s due.i (Commit due.asker start due.keys) (progress.Settled due.commit how.Faulted) (start, Some due.commit) due.serves.at due.serves.holds refl in
     let put : w.setup.direct ≡ false = shows.put.each due.serves.node s due.i (Commit due.asker start due.keys) (progress.Settled due.commit how.Faulted) due.serves.at due.serves.holds in
@@ -128,12 +128,12 @@ waiting i start commit least =
 one_start : (r n term t s m other u c : ℕ) → Draw r n term t (Some c) ≡ Draw s m other u (Some c) → t ≡ u
 one_start r n term t s m other u c same = cc
 
-same_writer : {w : State} (h : List Item) (t s m other u c : ℕ) → Stands w h → Committed h t c → DrewCommit h s m other u c → t ≡ u
+same_writer : {w : State} (h : List Item) (t s m other u c : ℕ) → ReachedInvariant w h → Committed h t c → DrewCommit h s m other u c → t ≡ u
 same_writer h t s m other u c stands placed drew =
     let by = stands.holds.numbers.placed.drawn t c placed in
     one_start by.0 by.1 by.2 t s m other u c (drawn_once h by.0 s by.1 m by.2 other t u (Some c) (Some c) stands.holds.numbers.new by.3 drew refl)
 
-pub not_yet_shown : (w : State) (h : List Item) (s commit : ℕ) → Stands w h → Shows w h → DueNotYet w s commit → ShownNotYet w.setup h s commit
+pub not_yet_shown : (w : State) (h : List Item) (s commit : ℕ) → ReachedInvariant w h → ShownInvariant w h → DueNotYet w s commit → ShownNotYet w.setup h s commit
 not_yet_shown w h s commit stands shows due =
     let n : ℕ = due.serves.node in
     let least = least_is_least due.i.requests due.start commit due.least in

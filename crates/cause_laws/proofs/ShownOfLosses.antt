@@ -14,7 +14,7 @@ use Rattle.system_parts.specs.Instance.{InstanceEntry}
 use Rattle.machine.specs.State.{State}
 use Rattle.cause_rules.specs.Asks.{since_ask}
 use Rattle.cause_rules.specs.Explained.{ShownCause}
-use Rattle.cause_laws.specs.Shows.{Shows}
+use Rattle.cause_laws.specs.ShownInvariant.{ShownInvariant}
 use Rattle.cause_laws.specs.Due.{Serves, DueLoss, cause_of_loss}
 use Rattle.cause_laws.proofs.AskWords.{AllMute, its_node-mute, its_start-mute, since_ask-mute, crash_mute}
 use Rattle.cause_laws.proofs.ShownOfRequests.{node_of, start_of}
@@ -25,7 +25,7 @@ unfolding ◌∈◌
 crash_since h earlier s node term mute =
     subst (λ part. Crash node term ∈ part) (sym (since_ask-mute h (Crash node term ∷ earlier) s mute)) (in_back (Crash node term) (since_ask h s) (Crash node term ∷ earlier) (inl refl))
 
-by_request : (w : State) (h earlier : List Item) (s : ℕ) (i : InstanceEntry) (request : Request) (p : Progress) → Shows w h → (serves : Serves w s i request p) → AllMute s (Crash serves.node i.term ∷ earlier) → ShownCause w.setup (h ++ Crash serves.node i.term ∷ earlier) (Session s) (cause_of_loss serves.node i.term request)
+by_request : (w : State) (h earlier : List Item) (s : ℕ) (i : InstanceEntry) (request : Request) (p : Progress) → ShownInvariant w h → (serves : Serves w s i request p) → AllMute s (Crash serves.node i.term ∷ earlier) → ShownCause w.setup (h ++ Crash serves.node i.term ∷ earlier) (Session s) (cause_of_loss serves.node i.term request)
 by_request w h earlier s i (Begin asker) p shows serves mute =
     let told : List Item = Crash serves.node i.term ∷ earlier in
     record { node_is = its_node-mute h told s mute ∙ node_of w h s i (Begin asker) p shows serves; crashed = crash_since h earlier s serves.node i.term mute }
@@ -38,7 +38,7 @@ by_request w h earlier s i (Commit asker start keys) p shows serves mute =
       lost = inr (i.term, crash_since h earlier s serves.node i.term mute);
     }
 
-pub loss_shown : (w : State) (h told : List Item) (actor : Actor) (why : Cause) → Shows w h → DueLoss w told actor why → ShownCause w.setup (h ++ told) actor why
+pub loss_shown : (w : State) (h told : List Item) (actor : Actor) (why : Cause) → ShownInvariant w h → DueLoss w told actor why → ShownCause w.setup (h ++ told) actor why
 loss_shown w h told actor why shows due =
     let node : ℕ = due.serves.node in
     let mute : AllMute due.session (Crash node due.i.term ∷ due.earlier) = crash_mute due.session node due.i.term due.earlier due.refusals in

@@ -17,12 +17,12 @@ use Rattle.cause_rules.specs.Asks.{Ask, its_node, its_start, its_draw, since_dra
 use Rattle.cause_rules.specs.Commits.{placer, ShownInvalid, ShownOpen}
 use Rattle.cause_rules.specs.Explained.{ShownToSession, ShownCause}
 use Rattle.isolation_laws.specs.Pending.{is_placing}
-use Rattle.isolation_laws.specs.Sound.{Stands}
+use Rattle.isolation_laws.specs.Sound.{ReachedInvariant}
 use Rattle.cause_laws.specs.Requests.{AskedToPlace}
-use Rattle.cause_laws.specs.Shows.{Shows}
+use Rattle.cause_laws.specs.ShownInvariant.{ShownInvariant}
 use Rattle.cause_laws.specs.Due.{Places, MetMark, FailedToPlace, HowPlaced, DuePlacing}
 use Rattle.cause_laws.proofs.AskWords.{AllMute, Mute, mute_always, its_node-mute, its_start-mute, its_draw-mute, since_draw-mute}
-use Rattle.cause_laws.proofs.DeedsMute.{always_mute}
+use Rattle.cause_laws.proofs.NodeTransitionsMute.{always_mute}
 
 -- ---- what was told before it says nothing of requests
 met_mute : (w : State) (s start : ℕ) (told : List Item) → MetMark w s start told → AllMute s told
@@ -48,7 +48,7 @@ start_asked_of : (h told : List Item) (s start commit : ℕ) → AllMute s told 
 start_asked_of h told s start commit mute asked = its_start-mute h told s mute ∙ ap (λ (ask : Option Ask). option_or (start_asked ask) (start_drawn (its_draw h s))) asked.asked
 
 -- ---- a mark that was met
-mark_shown : (w : State) (h told : List Item) (s start commit : ℕ) → Shows w h → AskedToPlace h s start commit → MetMark w s start told → ShownInvalid (h ++ told) s start
+mark_shown : (w : State) (h told : List Item) (s start commit : ℕ) → ShownInvariant w h → AskedToPlace h s start commit → MetMark w s start told → ShownInvalid (h ++ told) s start
 mark_shown w h told s start commit shows asked met =
     let mute : AllMute s told = met_mute w s start told met in
     let mark = shows.marked.marked start met.marked in
@@ -61,7 +61,7 @@ mark_shown w h told s start commit shows asked met =
     }
 
 -- ---- a call that failed, which is one of the session: commits are direct, since it places its own
-form_is : (w : State) (h : List Item) (s start commit : ℕ) → Stands w h → Places w s start commit → (direct : Bool) → w.setup.direct ≡ direct → direct ≡ true
+form_is : (w : State) (h : List Item) (s start commit : ℕ) → ReachedInvariant w h → Places w s start commit → (direct : Bool) → w.setup.direct ≡ direct → direct ≡ true
 form_is w h s start commit stands places true is = refl
 form_is w h s start commit stands places false is = absurd (stands.holds.requests.form.plain is s places.client places.at (ap is_placing places.placing))
 
@@ -83,13 +83,13 @@ fault_shown w h told s start commit direct asked failed =
     }
 
 -- ---- either way
-told_shown : (w : State) (h told : List Item) (s start commit : ℕ) (why : Cause) → Stands w h → Shows w h → Places w s start commit → AskedToPlace h s start commit → HowPlaced w s start commit told why → ShownToSession w.setup (h ++ told) s why
+told_shown : (w : State) (h told : List Item) (s start commit : ℕ) (why : Cause) → ReachedInvariant w h → ShownInvariant w h → Places w s start commit → AskedToPlace h s start commit → HowPlaced w s start commit told why → ShownToSession w.setup (h ++ told) s why
 told_shown w h told s start commit (cause.Invalid t) stands shows places asked how = subst (λ (u : ℕ). ShownInvalid (h ++ told) s u) (sym how.0) (mark_shown w h told s start commit shows asked how.1)
 told_shown w h told s start commit (cause.Open t) stands shows places asked how =
     subst (λ (u : ℕ). ShownOpen w.setup (h ++ told) s u) (sym how.0) (fault_shown w h told s start commit (form_is w h s start commit stands places w.setup.direct refl) asked how.1)
 told_shown w h told s start commit _ stands shows places asked how = absurd how
 
-pub placing_shown : (w : State) (h told : List Item) (actor : Actor) (why : Cause) → Stands w h → Shows w h → DuePlacing w told actor why → ShownCause w.setup (h ++ told) actor why
+pub placing_shown : (w : State) (h told : List Item) (actor : Actor) (why : Cause) → ReachedInvariant w h → ShownInvariant w h → DuePlacing w told actor why → ShownCause w.setup (h ++ told) actor why
 placing_shown w h told actor why stands shows due =
     let it : Places w due.session due.start due.commit = due.places in
     let asked = shows.placing.each due.session due.start due.commit it.client it.at it.placing it.start_is it.commit_is in

@@ -21,30 +21,30 @@ use Rattle.cause_rules.specs.Commits.{ShownConflict, ShownHidden, ShownOldEpoch,
 use Rattle.cause_rules.specs.Posts.{TookLast, LeasedUntil}
 use Rattle.isolation_laws.specs.Words.{HeldBy}
 use Rattle.isolation_laws.specs.Pending.{InFlight, HeldPending, Taken}
-use Rattle.isolation_laws.specs.Sound.{Stands}
+use Rattle.isolation_laws.specs.Sound.{ReachedInvariant}
 use Rattle.isolation_laws.proofs.Memory.RecordedCommits.{recorded_rise}
 use Rattle.cause_laws.specs.Requests.{ask_for}
 use Rattle.cause_laws.specs.Reads.{AreFetched}
-use Rattle.cause_laws.specs.Shows.{Shows}
+use Rattle.cause_laws.specs.ShownInvariant.{ShownInvariant}
 use Rattle.cause_laws.specs.Due.{Serves, DueVerdict, DueOldEpoch, DueExpired}
 use Rattle.cause_laws.proofs.HiddenWaters.{refused_first, hidden_water}
 use Rattle.cause_laws.proofs.RecordedDraws.{last_drawn, drawn_at}
 
 -- ---- the ask of a request
-asks : (w : State) (h : List Item) (s : ℕ) (i : InstanceEntry) (request : Request) (p : Progress) → Shows w h → (serves : Serves w s i request p) → its_ask h s ≡ Some (ask_for serves.node request)
+asks : (w : State) (h : List Item) (s : ℕ) (i : InstanceEntry) (request : Request) (p : Progress) → ShownInvariant w h → (serves : Serves w s i request p) → its_ask h s ≡ Some (ask_for serves.node request)
 asks w h s i request p shows serves = shows.asked.asked serves.node s i request p serves.at serves.holds
 
 asked_of : (n : ℕ) (r : Request) → node_asked (Some (ask_for n r)) ≡ Some n
 asked_of n (Begin session) = refl
 asked_of n (Commit session start keys) = refl
 
-pub node_of : (w : State) (h : List Item) (s : ℕ) (i : InstanceEntry) (request : Request) (p : Progress) → Shows w h → (serves : Serves w s i request p) → its_node h s ≡ Some serves.node
+pub node_of : (w : State) (h : List Item) (s : ℕ) (i : InstanceEntry) (request : Request) (p : Progress) → ShownInvariant w h → (serves : Serves w s i request p) → its_node h s ≡ Some serves.node
 node_of w h s i request p shows serves = ap node_asked (asks w h s i request p shows serves) ∙ asked_of serves.node request
 
-pub start_of : (w : State) (h : List Item) (s asker start : ℕ) (keys : List ℕ) (i : InstanceEntry) (p : Progress) → Shows w h → Serves w s i (Commit asker start keys) p → its_start h s ≡ Some start
+pub start_of : (w : State) (h : List Item) (s asker start : ℕ) (keys : List ℕ) (i : InstanceEntry) (p : Progress) → ShownInvariant w h → Serves w s i (Commit asker start keys) p → its_start h s ≡ Some start
 start_of w h s asker start keys i p shows serves = ap (λ (ask : Option Ask). option_or (start_asked ask) (start_drawn (its_draw h s))) (asks w h s i (Commit asker start keys) p shows serves)
 
-pub start_of_begin : (w : State) (h : List Item) (s asker start : ℕ) (i : InstanceEntry) → Shows w h → Serves w s i (Begin asker) (progress.Drawn start) → its_start h s ≡ Some start
+pub start_of_begin : (w : State) (h : List Item) (s asker start : ℕ) (i : InstanceEntry) → ShownInvariant w h → Serves w s i (Begin asker) (progress.Drawn start) → its_start h s ≡ Some start
 start_of_begin w h s asker start i shows serves =
     let drew : its_draw h s ≡ Some (start, None) = shows.asked.drawn serves.node s i (Begin asker) (progress.Drawn start) (start, None) serves.at serves.holds refl in
     ap (λ (ask : Option Ask). option_or (start_asked ask) (start_drawn (its_draw h s))) (asks w h s i (Begin asker) (progress.Drawn start) shows serves) ∙ ap (λ (d : Option (ℕ × Option ℕ)). start_drawn d) drew
@@ -55,12 +55,12 @@ accepted_not_asked same = cc
 pub drawn_not_asked : (stamp : ℕ) → progress.Drawn stamp ≢ progress.Asked
 drawn_not_asked stamp same = cc
 
-pub term_of : (w : State) (h : List Item) (s : ℕ) (i : InstanceEntry) (request : Request) (p : Progress) → Shows w h → Serves w s i request p → p ≢ progress.Asked → its_term h s ≡ Some i.term
+pub term_of : (w : State) (h : List Item) (s : ℕ) (i : InstanceEntry) (request : Request) (p : Progress) → ShownInvariant w h → Serves w s i request p → p ≢ progress.Asked → its_term h s ≡ Some i.term
 term_of w h s i request p shows serves past = shows.asked.accepted serves.node s i request p serves.at serves.holds past
 
 -- ---- the verdict of the buckets
 -- a commit that was accepted asks for the keys that its transaction wrote
-keys_of : (w : State) (h : List Item) (s asker start : ℕ) (keys : List ℕ) (i : InstanceEntry) → Stands w h → Serves w s i (Commit asker start keys) progress.Accepted → keys ≡ written_keys h start
+keys_of : (w : State) (h : List Item) (s asker start : ℕ) (keys : List ℕ) (i : InstanceEntry) → ReachedInvariant w h → Serves w s i (Commit asker start keys) progress.Accepted → keys ≡ written_keys h start
 keys_of w h s asker start keys i stands serves =
     let own : asker ≡ s = stands.holds.requests.requests.own serves.node s i (Commit asker start keys) progress.Accepted serves.at serves.holds in
     let held : HeldBy i s (Commit s start keys) progress.Accepted = subst (λ r. HeldBy i s (Commit r start keys) progress.Accepted) own serves.holds in
@@ -80,35 +80,35 @@ unfolding verdict
 none_read buckets start reads why some none is = some (sym is ∙ ap (λ (ks : List ℕ). verdict buckets start ks) none)
 
 -- what was refused by what was read is so with strict reads
-read_strictly : (w : State) (h : List Item) (s : ℕ) (why : Verdict) → why ≢ Free → Stands w h → (due : DueVerdict w s why) → verdict due.i.buckets due.start due.client.reads ≡ why → w.setup.strict ≡ true
+read_strictly : (w : State) (h : List Item) (s : ℕ) (why : Verdict) → why ≢ Free → ReachedInvariant w h → (due : DueVerdict w s why) → verdict due.i.buckets due.start due.client.reads ≡ why → w.setup.strict ≡ true
 read_strictly w h s why some stands due read = elim (cases_Bool w.setup.strict) [
   | inl strict ↦ strict
   | inr plain ↦ absurd (none_read due.i.buckets due.start due.client.reads why some (stands.holds.reads.read_sets.plain plain s due.client due.client_at) read)
 ]
 
-refused : (w : State) (h : List Item) (s : ℕ) (why : Verdict) → why ≢ Free → Stands w h → (due : DueVerdict w s why) → Refused w due.i due.start due.keys due.client.reads why
+refused : (w : State) (h : List Item) (s : ℕ) (why : Verdict) → why ≢ Free → ReachedInvariant w h → (due : DueVerdict w s why) → Refused w due.i due.start due.keys due.client.reads why
 refused w h s why some stands due = elim (refused_first (verdict due.i.buckets due.start due.keys) (verdict due.i.buckets due.start due.client.reads) why some due.judged) [
   | inl wrote ↦ record { of = due.keys; own = inl refl; judged = wrote }
   | inr read ↦ record { of = due.client.reads; own = inr (read_strictly w h s why some stands due read, refl); judged = read }
 ]
 
 -- the buckets have what was drawn in the term
-judged_by : (w : State) (h : List Item) (s : ℕ) (why : Verdict) → Stands w h → (due : DueVerdict w s why) → (r : Refused w due.i due.start due.keys due.client.reads why) → verdict (contents w.setup.buckets w.setup.width (recorded h due.i.term)) due.start r.of ≡ why
+judged_by : (w : State) (h : List Item) (s : ℕ) (why : Verdict) → ReachedInvariant w h → (due : DueVerdict w s why) → (r : Refused w due.i due.start due.keys due.client.reads why) → verdict (contents w.setup.buckets w.setup.width (recorded h due.i.term)) due.start r.of ≡ why
 judged_by w h s why stands due r = ap (λ (bs : List Bucket). verdict bs due.start r.of) (sym (stands.holds.memory.recorded.hold due.serves.node due.i due.serves.at)) ∙ r.judged
 
 -- so what they say is shown by it
-told : (w : State) (h : List Item) (s : ℕ) (why : Verdict) → Stands w h → (due : DueVerdict w s why) → (r : Refused w due.i due.start due.keys due.client.reads why) → IsShown w.setup.buckets w.setup.width (recorded h due.i.term) due.start r.of why
+told : (w : State) (h : List Item) (s : ℕ) (why : Verdict) → ReachedInvariant w h → (due : DueVerdict w s why) → (r : Refused w due.i due.start due.keys due.client.reads why) → IsShown w.setup.buckets w.setup.width (recorded h due.i.term) due.start r.of why
 told w h s why stands due r =
     let setup = stands.holds.in_range in
     subst (λ v. IsShown w.setup.buckets w.setup.width (recorded h due.i.term) due.start r.of v) (judged_by w h s why stands due r)
     (verdict_shown w.setup.buckets w.setup.width (recorded h due.i.term) due.start r.of setup.buckets.0 setup.width.0 (recorded_rise h due.i.term stands.holds.numbers.new))
 
 -- its session asked for its commit last: what its client keeps as read was fetched since its begin
-reads_of : (w : State) (h : List Item) (s : ℕ) (why : Verdict) → Shows w h → (due : DueVerdict w s why) → AreFetched h s due.start due.client
+reads_of : (w : State) (h : List Item) (s : ℕ) (why : Verdict) → ShownInvariant w h → (due : DueVerdict w s why) → AreFetched h s due.start due.client
 reads_of w h s why shows due = shows.reads.asked s due.serves.node due.start due.client due.client_at (asks w h s due.i (Commit due.asker due.start due.keys) progress.Accepted shows due.serves)
 
 -- the transaction wrote the key, or with strict reads has read it
-own_key : (w : State) (h : List Item) (s key : ℕ) (why : Verdict) → Stands w h → Shows w h → (due : DueVerdict w s why) → (r : Refused w due.i due.start due.keys due.client.reads why) → Contains r.of key → WroteOrRead w.setup h s due.start key
+own_key : (w : State) (h : List Item) (s key : ℕ) (why : Verdict) → ReachedInvariant w h → ShownInvariant w h → (due : DueVerdict w s why) → (r : Refused w due.i due.start due.keys due.client.reads why) → Contains r.of key → WroteOrRead w.setup h s due.start key
 own_key w h s key why stands shows due r has = elim r.own [
   | inl wrote ↦ inl (subst (λ ks. Contains ks key) (wrote ∙ keys_of w h s due.asker due.start due.keys due.i stands due.serves) has)
   | inr read ↦
@@ -116,7 +116,7 @@ own_key w h s key why stands shows due r has = elim r.own [
       inr (read.0, record { begun = are.begun; fetched = are.fetched key (subst (λ ks. Contains ks key) read.1 has) })
 ]
 
-pub conflict_shown : (w : State) (h : List Item) (s key by : ℕ) → Stands w h → Shows w h → DueVerdict w s (Conflict key by) → ShownConflict w.setup h s key by
+pub conflict_shown : (w : State) (h : List Item) (s key by : ℕ) → ReachedInvariant w h → ShownInvariant w h → DueVerdict w s (Conflict key by) → ShownConflict w.setup h s key by
 conflict_shown w h s key by stands shows due =
     let r = refused w h s (Conflict key by) (λ same. cc) stands due in
     let is = told w h s (Conflict key by) stands due r in
@@ -135,7 +135,7 @@ conflict_shown w h s key by stands shows due =
       wrote = from.wrote;
     }
 
-pub hidden_shown : (w : State) (h : List Item) (s key water : ℕ) → Stands w h → Shows w h → DueVerdict w s (Hidden key water) → ShownHidden w.setup h s key water
+pub hidden_shown : (w : State) (h : List Item) (s key water : ℕ) → ReachedInvariant w h → ShownInvariant w h → DueVerdict w s (Hidden key water) → ShownHidden w.setup h s key water
 hidden_shown w h s key water stands shows due =
     let r = refused w h s (Hidden key water) (λ same. cc) stands due in
     let is = told w h s (Hidden key water) stands due r in
@@ -159,7 +159,7 @@ hidden_shown w h s key water stands shows due =
     }
 
 -- ---- acceptance
-pub old_epoch_shown : (w : State) (h : List Item) (s start epoch : ℕ) → Shows w h → DueOldEpoch w s start epoch → ShownOldEpoch h s start epoch
+pub old_epoch_shown : (w : State) (h : List Item) (s start epoch : ℕ) → ShownInvariant w h → DueOldEpoch w s start epoch → ShownOldEpoch h s start epoch
 old_epoch_shown w h s start epoch shows due = record {
   start_is = start_of w h s due.asker start due.keys due.i progress.Asked shows due.serves;
   node = due.serves.node;
@@ -169,7 +169,7 @@ old_epoch_shown w h s start epoch shows due = record {
   old = due.old;
 }
 
-pub expired_shown : (w : State) (h : List Item) (s reading until : ℕ) → Shows w h → DueExpired w s reading until → ShownExpired h s reading until
+pub expired_shown : (w : State) (h : List Item) (s reading until : ℕ) → ShownInvariant w h → DueExpired w s reading until → ShownExpired h s reading until
 expired_shown w h s reading until shows due = record {
   node = due.serves.node;
   node_is = node_of w h s due.i due.request progress.Asked shows due.serves;

@@ -23,7 +23,7 @@ use Rattle.machine.specs.Calls.{MayStep, CanWork}
 use Rattle.machine.specs.Events.Step.{own_resolve, work_by, work_of, next_of, store_asked, asked_next}
 use Rattle.isolation_laws.specs.Words.{ClientAt}
 use Rattle.isolation_laws.specs.Pending.{Has, is_placing, IsPending}
-use Rattle.isolation_laws.specs.Holds.{Holds}
+use Rattle.isolation_laws.specs.IsolationInvariant.{IsolationInvariant}
 use Rattle.isolation_laws.proofs.Owners.{pending_unplaced}
 use Rattle.machine.proofs.Outcome.QuietItems.{one_quiet}
 use Rattle.machine.proofs.Outcome.PlainItems.{one_silent}
@@ -31,7 +31,7 @@ use Rattle.machine.specs.Fits.{IsWork}
 use Rattle.isolation_laws.proofs.Inversions.StepsFitting.{work_fits}
 use Rattle.isolation_laws.proofs.Stores.StoresStay.{completed_fills}
 use Rattle.machine.proofs.MarksTold.{marks_same}
-use Rattle.cause_laws.specs.Shows.{Tells}
+use Rattle.cause_laws.specs.ShownInvariant.{Tells}
 use Rattle.cause_laws.specs.StoreCalls.{StepMayBeMade, PlacingMayBeMade}
 use Rattle.cause_laws.proofs.StoreCalls.{only_shadow, keeps_next}
 
@@ -49,7 +49,7 @@ first_some [] some none = some refl
 first_some (asked ∷ asks) some none = cc
 
 -- a completion has an ask left
-completing_asks : (w : State) (h : List Item) (session : ℕ) (c : Client) (undo : Bool) → Holds w h → ClientAt w.clients session c → c.entry.state ≡ phase.Completing undo → next_of c.under_way ≡ None → ⊥
+completing_asks : (w : State) (h : List Item) (session : ℕ) (c : Client) (undo : Bool) → IsolationInvariant w h → ClientAt w.clients session c → c.entry.state ≡ phase.Completing undo → next_of c.under_way ≡ None → ⊥
 completing_asks w h session c false holds at is none =
     let busy = holds.under_way.finishing.busy session c at is in
     let finish = holds.under_way.finishing.finish session c busy.0 at is busy.1 in
@@ -66,12 +66,12 @@ resolve_asks t None keys is some none = cc
 resolve_asks t (Some start) [] is some none = some refl
 resolve_asks t (Some start) (key ∷ keys) is some none = cc
 
-own_asks : (w : State) (h : List Item) (session : ℕ) (c : Client) → Holds w h → ClientAt w.clients session c → c.entry.state ≡ phase.OpenOutcome → next_of (own_resolve c.entry.start c.entry.keys) ≡ None → ⊥
+own_asks : (w : State) (h : List Item) (session : ℕ) (c : Client) → IsolationInvariant w h → ClientAt w.clients session c → c.entry.state ≡ phase.OpenOutcome → next_of (own_resolve c.entry.start c.entry.keys) ≡ None → ⊥
 own_asks w h session c holds at is none =
     let begun = holds.requests.have_begun.begun session c at (subst (λ (s : SessionState). IsTrue (has_transaction s)) (sym is) refl) in
     resolve_asks begun.0 c.entry.start c.entry.keys begun.1 (holds.requests.keys.some session c at (inr (inl is))) none
 
-open_asks : (w : State) (h : List Item) (session : ℕ) (c : Client) → Holds w h → ClientAt w.clients session c → c.entry.state ≡ phase.OpenOutcome → (work : UnderWay) → c.under_way ≡ work → next_of (work_by phase.OpenOutcome c.entry work) ≡ None → ⊥
+open_asks : (w : State) (h : List Item) (session : ℕ) (c : Client) → IsolationInvariant w h → ClientAt w.clients session c → c.entry.state ≡ phase.OpenOutcome → (work : UnderWay) → c.under_way ≡ work → next_of (work_by phase.OpenOutcome c.entry work) ≡ None → ⊥
 open_asks w h session c holds at is Nothing under_way none = own_asks w h session c holds at is none
 open_asks w h session c holds at is (Reads r) under_way none = cc
 open_asks w h session c holds at is (Settles x) under_way none = cc
@@ -91,13 +91,13 @@ reading_asks (Completes asks) go none = cc
 placing_some : (t k : ℕ) (start commit : Option ℕ) → start ≡ Some t → commit ≡ Some k → handed_by phase.Placing start commit ≡ None → ⊥
 placing_some t k start commit begins has none = let asks : Some (t, k) ≡ None = sym (ap (handed_by phase.Placing (Some t)) has ∙ refl) ∙ (ap (λ b. handed_by phase.Placing b commit) (sym begins) ∙ none) in cc
 
-placing_asks : (w : State) (h : List Item) (session : ℕ) (c : Client) → Holds w h → ClientAt w.clients session c → c.entry.state ≡ phase.Placing → handed_by phase.Placing c.entry.start c.entry.commit ≡ None → ⊥
+placing_asks : (w : State) (h : List Item) (session : ℕ) (c : Client) → IsolationInvariant w h → ClientAt w.clients session c → c.entry.state ≡ phase.Placing → handed_by phase.Placing c.entry.start c.entry.commit ≡ None → ⊥
 placing_asks w h session c holds at is none =
     let begun = holds.requests.have_begun.begun session c at (subst (λ (s : SessionState). IsTrue (has_transaction s)) (sym is) refl) in
     let has = holds.under_way.handed.commit session c at is in
     placing_some begun.0 has.0 c.entry.start c.entry.commit begun.1 has.1 none
 
-state_asks : (w : State) (h : List Item) (session : ℕ) (c : Client) → Holds w h → ClientAt w.clients session c → (state : SessionState) → c.entry.state ≡ state → step_refusal state (is_reading c) ≡ None → handed_by state c.entry.start c.entry.commit ≡ None → next_of (work_by state c.entry c.under_way) ≡ None → ⊥
+state_asks : (w : State) (h : List Item) (session : ℕ) (c : Client) → IsolationInvariant w h → ClientAt w.clients session c → (state : SessionState) → c.entry.state ≡ state → step_refusal state (is_reading c) ≡ None → handed_by state c.entry.start c.entry.commit ≡ None → next_of (work_by state c.entry c.under_way) ≡ None → ⊥
 state_asks w h session c holds at phase.Placing is go unhanded none = placing_asks w h session c holds at is unhanded
 state_asks w h session c holds at phase.OpenOutcome is go unhanded none = open_asks w h session c holds at is c.under_way refl none
 state_asks w h session c holds at (phase.Completing undo) is go unhanded none = completing_asks w h session c undo holds at is none
@@ -120,7 +120,7 @@ no_shadow_at key txn point.Table k t commit is = cc
 no_shadow_at key txn point.Marking k t commit is = cc
 no_shadow_at key txn (point.LastLook met) k t commit is = cc
 
-work_shadow : (w : State) (h : List Item) (session : ℕ) (c : Client) → Holds w h → ClientAt w.clients session c → (work : UnderWay) → IsWork c work → (k t commit : ℕ) → next_of work ≡ Some (Shadow k t commit) → Committed h t commit
+work_shadow : (w : State) (h : List Item) (session : ℕ) (c : Client) → IsolationInvariant w h → ClientAt w.clients session c → (work : UnderWay) → IsWork c work → (k t commit : ℕ) → next_of work ≡ Some (Shadow k t commit) → Committed h t commit
 work_shadow w h session c holds at Nothing fits k t commit is = absurd (cc)
 work_shadow w h session c holds at (Reads r) fits k t commit is = absurd (no_shadow_at r.key r.cell.version r.point k t commit is)
 work_shadow w h session c holds at (Settles x) fits k t commit is = absurd (no_shadow_at x.key x.txn x.point k t commit is)
@@ -165,14 +165,14 @@ placing_flies w session start commit c phase.Placing None drawn at is begins has
 placing_flies w session start commit c phase.Placing (Some t) None at is begins has stamps = absurd cc
 placing_flies w session start commit c state begun drawn at is begins has stamps = absurd cc
 
-pub placings_place : (w : State) (h : List Item) → Tells w h → PlacingMayBeMade w
+pub placings_place : (w : State) (h : List Item) → ExplainedInvariant w h → PlacingMayBeMade w
 placings_place w h tells session start commit other c at stamps there =
-    let holds : Holds w h = tells.stands.holds in
+    let holds : IsolationInvariant w h = tells.stands.holds in
     pending_unplaced w.clients w.nodes h start other holds.numbers.placed holds.requests.pending (placing_flies w session start commit c c.entry.state c.entry.start c.entry.commit at refl refl refl stamps) (holds.cells.pairs_are.placed start other there)
 
-pub steps_ask : (w : State) (h : List Item) → Tells w h → StepMayBeMade w
+pub steps_ask : (w : State) (h : List Item) → ExplainedInvariant w h → StepMayBeMade w
 steps_ask w h tells session c at =
-    let holds : Holds w h = tells.stands.holds in
+    let holds : IsolationInvariant w h = tells.stands.holds in
     let asks : MayStep c → handed_commit c.entry ≡ None → next_of (work_of c) ≡ None → ⊥ = λ may. state_asks w h session c holds at c.entry.state refl may in
     record {
       asks = λ may none. let both = asks_none c (handed_commit c.entry) none in asks may both.0 both.1;

@@ -9,11 +9,11 @@ use Rattle.history_book.specs.declared.cause.Cause.TheVariants.{Replaced, Spent}
 use Rattle.history_book.specs.declared.item.Item.{Item}
 use Rattle.system_parts.specs.Instance.{InstanceEntry}
 use Rattle.machine.specs.State.{State}
-use Rattle.isolation_laws.specs.Sound.{Stands}
+use Rattle.isolation_laws.specs.Sound.{ReachedInvariant}
 use Rattle.cause_rules.specs.Refusals.{ShownSpent}
 use Rattle.cause_laws.specs.Nodes.{ShownStop, AreShownStops}
-use Rattle.cause_laws.specs.Shows.{Shows}
-use Rattle.cause_laws.proofs.Deeds.{Deed, OfStopped, Stopped, nodes_by, items_by}
+use Rattle.cause_laws.specs.ShownInvariant.{ShownInvariant}
+use Rattle.cause_laws.proofs.NodeTransitions.{NodeTransition, OfStopped, Stopped, nodes_by, items_by}
 use Rattle.cause_laws.proofs.PostWords.{term_taken_on, ceiling_given_on}
 use Rattle.cause_laws.proofs.PostMoves.{KeptBy, each_by}
 use Rattle.cause_laws.proofs.HeldRecord.{holder_by, replaced_shown, spent_shown}
@@ -27,7 +27,7 @@ stop_on setup h items term (Replaced found) shown = (shown.0, term_taken_on h it
 stop_on setup h items term (Spent ceiling) shown = spent_on setup h items ceiling shown
 stop_on setup h items term _ shown = absurd shown
 
-stopped_shown : (w : State) (h : List Item) (k : Stopped w) → Stands w h → Shows w h → ShownStop w.setup h k.i.term k.why
+stopped_shown : (w : State) (h : List Item) (k : Stopped w) → ReachedInvariant w h → ShownInvariant w h → ShownStop w.setup h k.i.term k.why
 stopped_shown w h k stands shows = elim k.by [
   | inl (is, other) ↦ subst (λ why. ShownStop w.setup h k.i.term why) (sym is) (replaced_shown w h k.node k.i stands shows k.at other)
   | inr (is, own, spent) ↦ subst (λ why. ShownStop w.setup h k.i.term why) (sym is) (spent_shown w h w.master.ceiling (holder_by w h k.node k.i stands k.at).0 shows (holder_by w h k.node k.i stands k.at).1 refl (ltb-true (2 ^ 62) (w.master.ceiling + w.setup.range) spent))
@@ -42,7 +42,7 @@ first_kept : (setup : SetupNumbers) (g : List Item) (term : ℕ) (stop : Option 
 first_kept setup g term None new old shown why is = subst (λ x. ShownStop setup g term x) (same_Some new why is) shown
 first_kept setup g term (Some first) new old shown why is = old why is
 
-stops_kept_by : (w : State) (h : List Item) → Stands w h → Shows w h → KeptBy w (λ items n i. IsShownStop w (h ++ items) i)
+stops_kept_by : (w : State) (h : List Item) → ReachedInvariant w h → ShownInvariant w h → KeptBy w (λ items n i. IsShownStop w (h ++ items) i)
 stops_kept_by w h stands shows = record {
   told = λ items m i at takes crashes why is. stop_on w.setup h items i.term why (shows.stops.shown m i why at is);
   requests = λ items m i now kept. kept;
@@ -53,7 +53,7 @@ stops_kept_by w h stands shows = record {
   drew = λ k kept. kept;
 }
 
-pub stops_kept : (w : State) (h : List Item) (d : Deed w) → Stands w h → Shows w h → AreShownStops w.setup (nodes_by w d) (h ++ items_by w d)
+pub stops_kept : (w : State) (h : List Item) (d : NodeTransition w) → ReachedInvariant w h → ShownInvariant w h → AreShownStops w.setup (nodes_by w d) (h ++ items_by w d)
 stops_kept w h d stands shows = record {
   shown = λ n i why at is. each_by w (λ items m j. IsShownStop w (h ++ items) j) (stops_kept_by w h stands shows) d n i at why is;
 }

@@ -26,12 +26,12 @@ use Rattle.isolation_laws.specs.Words.{ClientAt, epoch_or_none, cell_with}
 use Rattle.isolation_laws.specs.Pending.{IsOpen}
 use Rattle.isolation_laws.specs.Cells.{AreRows}
 use Rattle.isolation_laws.specs.Reads.{IsReading, IsResolvedTo}
-use Rattle.isolation_laws.specs.Holds.{Holds}
+use Rattle.isolation_laws.specs.IsolationInvariant.{IsolationInvariant}
 use Rattle.isolation_laws.specs.Sound.{Sound}
 use Rattle.isolation_laws.proofs.OnceEach.{one_commit}
 use Rattle.isolation_laws.proofs.Stores.StoresStay.{swept_fills}
 use Rattle.machine.proofs.Inversions.InversionOfSessions.{work_open, write_may}
-use Rattle.cause_laws.specs.Shows.{Tells}
+use Rattle.cause_laws.specs.ShownInvariant.{Tells}
 use Rattle.cause_laws.specs.StoreCalls.{WriteMayBeMade, HealMayBeMade, ReadsFetched, ReadMayGoOn, SweepMayStep}
 
 -- ---- the only shadow that a cell may have
@@ -44,7 +44,7 @@ found_only rows h k t commit are stamped placed None is = tt
 found_only rows h k t commit are stamped placed (Some cell) is = shadow_only rows h k t commit cell are stamped placed is cell.shadow refl
 
 -- a placed commit is
-pub only_shadow : (w : State) (h : List Item) (k t commit : ℕ) → Holds w h → Committed h t commit → HasOnly w.rows k t commit
+pub only_shadow : (w : State) (h : List Item) (k t commit : ℕ) → IsolationInvariant w h → Committed h t commit → HasOnly w.rows k t commit
 only_shadow w h k t commit holds placed = found_only w.rows h k t commit holds.cells.rows_are holds.isolated.stamped placed (looked w.rows k t) refl
 
 -- ---- write
@@ -55,7 +55,7 @@ bare_with t (Some value) = refl
 is_bare : (rows : List Row) (k t : ℕ) (found : Option Cell) → looked rows k t ≡ found → IfSome found (λ cell. cell.shadow ≡ None) → IsBare rows k t
 is_bare rows k t found is bare = subst (λ (o : Option Cell). IfSome o (λ cell. cell.shadow ≡ None)) (sym is) bare
 
-open_bare : (w : State) (h : List Item) (session key : ℕ) (c : Client) → Holds w h → ClientAt w.clients session c → work_refusal c.entry.state (is_reading c) ≡ None → (start : Option ℕ) → c.entry.start ≡ start → IfSome start (λ t. IsBare w.rows key t)
+open_bare : (w : State) (h : List Item) (session key : ℕ) (c : Client) → IsolationInvariant w h → ClientAt w.clients session c → work_refusal c.entry.state (is_reading c) ≡ None → (start : Option ℕ) → c.entry.start ≡ start → IfSome start (λ t. IsBare w.rows key t)
 open_bare w h session key c holds at go None begun = tt
 open_bare w h session key c holds at go (Some t) begun =
     let live : IsOpen w.clients t = record {
@@ -68,7 +68,7 @@ open_bare w h session key c holds at go (Some t) begun =
       | inr gone ↦ is_bare w.rows key t None gone.0 tt
     ]
 
-pub writes_bare : (w : State) (h : List Item) → Tells w h → WriteMayBeMade w
+pub writes_bare : (w : State) (h : List Item) → ExplainedInvariant w h → WriteMayBeMade w
 writes_bare w h tells session key c at go =
     open_bare w h session key c tells.stands.holds at (write_may (work_refusal c.entry.state (is_reading c)) (key_refusal c.entry.keys key) go) c.entry.start refl
 
@@ -78,12 +78,12 @@ offered phase.Open false heal offer is = is
 offered phase.Open true heal offer is = absurd (none-some offer is)
 offered _ reading heal offer is = absurd (none-some offer is)
 
-offer_only : (w : State) (h : List Item) (session : ℕ) (c : Client) → Holds w h → ClientAt w.clients session c → (offer : Option (ℕ × ℕ × ℕ)) → offer_of c ≡ offer → IfSome offer (λ o. HasOnly w.rows o.0 o.1 o.2)
+offer_only : (w : State) (h : List Item) (session : ℕ) (c : Client) → IsolationInvariant w h → ClientAt w.clients session c → (offer : Option (ℕ × ℕ × ℕ)) → offer_of c ≡ offer → IfSome offer (λ o. HasOnly w.rows o.0 o.1 o.2)
 offer_only w h session c holds at None is = tt
 offer_only w h session c holds at (Some offer) is =
     only_shadow w h offer.0 offer.1 offer.2 holds (holds.under_way.heals.placed session offer.0 offer.1 offer.2 c at (offered c.entry.state (is_reading c) c.heal offer is))
 
-pub heals_only : (w : State) (h : List Item) → Tells w h → HealMayBeMade w
+pub heals_only : (w : State) (h : List Item) → ExplainedInvariant w h → HealMayBeMade w
 heals_only w h tells session c at = offer_only w h session c tells.stands.holds at (offer_of c) refl
 
 -- ---- reads
@@ -103,7 +103,7 @@ reading_fetched w h b e r is = record {
   marks = marks_old w h r.key b r.every e r.cell.version r.epoch r.point (sym is.epoch_is) is.resolved;
 }
 
-pub reads_fetched : (w : State) (h : List Item) → Tells w h → ReadMayGoOn w
+pub reads_fetched : (w : State) (h : List Item) → ExplainedInvariant w h → ReadMayGoOn w
 reads_fetched w h tells session c r at reads =
     let reading = tells.stands.holds.reads.reading.reads session c r at reads in
     reading_fetched w h reading.0 reading.1 r reading.3
@@ -118,10 +118,10 @@ sweep_asks : (w : State) → Sound w → (sweep : Option Sweeping) → w.sweep �
 sweep_asks w sound None is_open = tt
 sweep_asks w sound (Some s) is_open = sound.sweeps.asks s is_open
 
-sweep_keeps : (w : State) (h : List Item) → Holds w h → (sweep : Option Sweeping) → w.sweep ≡ sweep → IfSome sweep (λ s. KeepsShadowNext (sweep_ask s) w.rows)
+sweep_keeps : (w : State) (h : List Item) → IsolationInvariant w h → (sweep : Option Sweeping) → w.sweep ≡ sweep → IfSome sweep (λ s. KeepsShadowNext (sweep_ask s) w.rows)
 sweep_keeps w h holds None is_open = tt
 sweep_keeps w h holds (Some s) is_open =
     keeps_next w.rows (sweep_ask s) (λ k t commit next. only_shadow w h k t commit holds (swept_fills w h s (ask.Shadow k t commit) holds is_open next k t commit refl))
 
-pub sweeps_ask : (w : State) (h : List Item) → Tells w h → SweepMayStep w
+pub sweeps_ask : (w : State) (h : List Item) → ExplainedInvariant w h → SweepMayStep w
 sweeps_ask w h tells = record { asks = sweep_asks w tells.stands.sound w.sweep refl; shadow = sweep_keeps w h tells.stands.holds w.sweep refl }

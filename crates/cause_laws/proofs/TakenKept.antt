@@ -11,11 +11,11 @@ use Rattle.system_parts.specs.InstanceSteps.{instance_renewed}
 use Rattle.machine.specs.State.{State}
 use Rattle.machine.specs.Events.Take.{rules_of, instance_of, take_item}
 use Rattle.isolation_laws.specs.Words.{InstanceAt}
-use Rattle.isolation_laws.specs.Sound.{Stands}
+use Rattle.isolation_laws.specs.Sound.{ReachedInvariant}
 use Rattle.cause_rules.specs.Posts.{takes_for, since_take, TookLast, LeasedUntil, StandsSince}
 use Rattle.cause_laws.specs.Nodes.{AreTaken}
-use Rattle.cause_laws.specs.Shows.{Shows}
-use Rattle.cause_laws.proofs.Deeds.{Deed, OfRenewed, Granted, Renewed, fault_if, renewed_to, nodes_by, items_by}
+use Rattle.cause_laws.specs.ShownInvariant.{ShownInvariant}
+use Rattle.cause_laws.proofs.NodeTransitions.{NodeTransition, OfRenewed, Granted, Renewed, fault_if, renewed_to, nodes_by, items_by}
 use Rattle.cause_laws.proofs.PostWords.{NoTakes, NoCrashes, since_take_on, took_on, leased_on, stands_on, last_take_new, since_take_new}
 use Rattle.cause_laws.proofs.PostItems.{calm_no_takes}
 use Rattle.cause_laws.proofs.PostMoves.{calm_by, KeptBy, each_by}
@@ -72,7 +72,7 @@ taken_renewed w h k within taken =
     }
 
 -- ---- all
-taken_kept_by : (w : State) (h : List Item) → Stands w h → Shows w h → KeptBy w (λ items n i. IsTaken (h ++ items) n i)
+taken_kept_by : (w : State) (h : List Item) → ReachedInvariant w h → ShownInvariant w h → KeptBy w (λ items n i. IsTaken (h ++ items) n i)
 taken_kept_by w h stands shows = record {
   told = λ items m i at takes crashes. taken_told w h items m i shows.taken at takes crashes;
   requests = λ items m i now kept. record { took = kept.took; leased = kept.leased; stands = kept.stands };
@@ -83,7 +83,7 @@ taken_kept_by w h stands shows = record {
   drew = λ k kept. record { took = kept.took; leased = kept.leased; stands = kept.stands };
 }
 
-pub taken_kept : (w : State) (h : List Item) (d : Deed w) → Stands w h → Shows w h → AreTaken (nodes_by w d) (h ++ items_by w d)
+pub taken_kept : (w : State) (h : List Item) (d : NodeTransition w) → ReachedInvariant w h → ShownInvariant w h → AreTaken (nodes_by w d) (h ++ items_by w d)
 taken_kept w h d stands shows =
     let all = each_by w (λ items n i. IsTaken (h ++ items) n i) (taken_kept_by w h stands shows) d in
     record {

@@ -11,12 +11,12 @@ use Rattle.history_book.specs.declared.item.Item.TheVariants as item
 use Rattle.system_parts.specs.Instance.{InstanceEntry}
 use Rattle.machine.specs.State.{State}
 use Rattle.machine.specs.Events.Take.{rules_of, take_item}
-use Rattle.isolation_laws.specs.Sound.{Stands}
+use Rattle.isolation_laws.specs.Sound.{ReachedInvariant}
 use Rattle.machine.proofs.Lookups.{set_cases}
 use Rattle.cause_rules.specs.Posts.{HasNone}
 use Rattle.cause_laws.specs.Nodes.{AreVacant}
-use Rattle.cause_laws.specs.Shows.{Shows}
-use Rattle.cause_laws.proofs.Deeds.{Deed, OfRested, OfTook, OfRenewed, OfWidened, OfStopped, OfCrashed, OfAsked, OfAccepted, OfDrew, OfSettled, OfTold, OfEnded, OfLearned, Granted, Crashed, granted_nodes, took_items, fault_if, now_at, nodes_by, items_by}
+use Rattle.cause_laws.specs.ShownInvariant.{ShownInvariant}
+use Rattle.cause_laws.proofs.NodeTransitions.{NodeTransition, OfRested, OfTook, OfRenewed, OfWidened, OfStopped, OfCrashed, OfAsked, OfAccepted, OfDrew, OfSettled, OfTold, OfEnded, OfLearned, Granted, Crashed, granted_nodes, took_items, fault_if, now_at, nodes_by, items_by}
 use Rattle.cause_laws.proofs.PostWords.{since_take_new, none_on, none_crashed}
 use Rattle.cause_laws.proofs.PostItems.{AllCalm, calm_one, calm_no_takes, crash_no_takes}
 use Rattle.cause_laws.proofs.PostMoves.{losses_calm, calm_by, take_no_takes}
@@ -63,7 +63,7 @@ module _ (w : State) (h : List Item) (vacant : AreVacant w.nodes h) where
         | inr old ↦ none_on h items n (crash_no_takes n k.node k.i.term k.told calm) (vacant.none n old.1)
       ]
 
-  none_by : (d : Deed w) (n : ℕ) → slice_get (nodes_by w d) n ≡ Some None → HasNone (h ++ items_by w d) n
+  none_by : (d : NodeTransition w) (n : ℕ) → slice_get (nodes_by w d) n ≡ Some None → HasNone (h ++ items_by w d) n
   none_by (OfRested k) n empty = calmly k.items n (calm_by w (OfRested k) refl) empty
   none_by (OfTook k) n empty = taking k k.failed refl n empty
   none_by (OfRenewed k) n empty = set _ k.node _ n (calm_by w (OfRenewed k) refl) empty
@@ -78,5 +78,5 @@ module _ (w : State) (h : List Item) (vacant : AreVacant w.nodes h) where
   none_by (OfEnded k) n empty = set _ k.it.node _ n (calm_by w (OfEnded k) refl) empty
   none_by (OfLearned k) n empty = calmly _ n (calm_by w (OfLearned k) refl) empty
 
-pub vacant_kept : (w : State) (h : List Item) (d : Deed w) → Stands w h → Shows w h → AreVacant (nodes_by w d) (h ++ items_by w d)
+pub vacant_kept : (w : State) (h : List Item) (d : NodeTransition w) → ReachedInvariant w h → ShownInvariant w h → AreVacant (nodes_by w d) (h ++ items_by w d)
 vacant_kept w h d stands shows = record { none = none_by w h shows.vacant d }

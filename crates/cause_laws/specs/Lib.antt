@@ -6,4 +6,4 @@ pub mod Requests
 pub mod Reads
 pub mod Nodes
 pub mod Stores
-pub mod Shows
+pub mod ShownInvariant

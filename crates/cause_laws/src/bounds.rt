@@ -6,7 +6,7 @@ ghost use Rattle.port_io.specs.declared.weather.Fate.{Fate};
 ghost use Rattle.machine.specs.declared.event.Event.{Event};
 ghost use Rattle.machine.specs.State.{State, opening};
 ghost use Rattle.machine.specs.Machine.{IsSteadyAt, reading_of, stepped};
-ghost use Rattle.cause_laws.specs.Shows.{Tells};
+ghost use Rattle.cause_laws.specs.ShownInvariant.{Tells};
 ghost use Rattle.cause_laws.specs.Bounds.{Bounded};
 
 /// The numbers of the opening state are in bounds.
@@ -16,6 +16,6 @@ pub fn bounded_at_first()
 
 /// Every event keeps them so, whatever the fate of its store call, where its reading is steady.
 pub fn events_keep_bounds()
-    ensures { (w : State) (h : List Item) (event : Event) (fate : Fate) → Tells w h → Bounded w → IsSteadyAt w.setup.skew w.seen (reading_of event) →
+    ensures { (w : State) (h : List Item) (event : Event) (fate : Fate) → ExplainedInvariant w h → Bounded w → IsSteadyAt w.setup.skew w.seen (reading_of event) →
         Bounded (stepped w event fate).state }
 {}

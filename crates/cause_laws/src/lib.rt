@@ -11,9 +11,9 @@ ghost use Rattle.machine.specs.declared.event.Event.{Event};
 ghost use Rattle.machine.specs.State.{State, opening};
 ghost use Rattle.machine.specs.Machine.{Move, Steady, IsSteadyAt, reading_of, stepped, history_after};
 ghost use Rattle.cause_rules.specs.Explained.{Explained};
-ghost use Rattle.isolation_laws.specs.Sound.{Stands};
+ghost use Rattle.isolation_laws.specs.Sound.{ReachedInvariant};
 ghost use Rattle.cause_laws.specs.Due.{AreDue};
-ghost use Rattle.cause_laws.specs.Shows.{Tells};
+ghost use Rattle.cause_laws.specs.ShownInvariant.{Tells};
 
 mod bounds;
 mod record_calls;
@@ -43,16 +43,16 @@ pub fn always_explained()
 
 /// All facts hold of the opening state and no history: those of isolation, and that the history shows the state.
 pub fn told_at_first()
-    ensures { (setup : SetupNumbers) → AreInRange setup → Tells (opening setup) [] }
+    ensures { (setup : SetupNumbers) → AreInRange setup → ExplainedInvariant (opening setup) [] }
 {}
 
 /// Every event keeps all of them, whatever the fate of its store call.
 pub fn events_keep_what_is_told()
-    ensures { (w : State) (h : List Item) (event : Event) (fate : Fate) → Tells w h → IsSteadyAt w.setup.skew w.seen (reading_of event) →
-        Tells (stepped w event fate).state (h ++ (stepped w event fate).items) }
+    ensures { (w : State) (h : List Item) (event : Event) (fate : Fate) → ExplainedInvariant w h → IsSteadyAt w.setup.skew w.seen (reading_of event) →
+        ExplainedInvariant (stepped w event fate).state (h ++ (stepped w event fate).items) }
 {}
 
 /// A refusal says what is the case: where an event refuses with a cause, the state is as the cause tells.
 pub fn refusals_are_due()
-    ensures { (w : State) (h : List Item) (event : Event) (fate : Fate) → Stands w h → AreDue w (stepped w event fate).items }
+    ensures { (w : State) (h : List Item) (event : Event) (fate : Fate) → ReachedInvariant w h → AreDue w (stepped w event fate).items }
 {}

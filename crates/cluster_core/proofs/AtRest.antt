@@ -10,7 +10,7 @@ use Rattle.system_parts.specs.Pairs.{Pairs}
 use Rattle.isolation_laws.specs.Words.{cell_with, HasRecord}
 use Rattle.isolation_laws.specs.Cells.{AreShadowed}
 use Rattle.machine.specs.State.{State}
-use Rattle.isolation_laws.specs.Sound.{Stands}
+use Rattle.isolation_laws.specs.Sound.{ReachedInvariant}
 use Rattle.cell_compaction.specs.Rest.{IsWritten, StandsAtRest}
 
 -- a cell that is written is bare or has the commit as shadow; and where it is bare, the table has the record
@@ -24,7 +24,7 @@ wrote_some : (t : ℕ) (shadow : Option ℕ) (wrote : Option (List ℕ)) (cell :
 wrote_some t shadow None cell is = absurd (none-some cell (sym is))
 wrote_some t shadow (Some value) cell is = (value, refl)
 
-pub stores_at_rest : (w : State) (h : List Item) → Stands w h → StandsAtRest h w.rows w.pairs
+pub stores_at_rest : (w : State) (h : List Item) → ReachedInvariant w h → StandsAtRest h w.rows w.pairs
 stores_at_rest w h stands =
     let cells = stands.holds.cells in
     record {

@@ -11,7 +11,7 @@ use Rattle.system_parts.specs.Instance.{InstanceEntry, held_of}
 use Rattle.machine.specs.State.{State}
 use Rattle.isolation_laws.specs.Words.{InstanceAt, HeldBy, Begun}
 use Rattle.isolation_laws.specs.Pending.{Taken, Has, InFlight, HeldPending}
-use Rattle.isolation_laws.specs.Holds.{Holds}
+use Rattle.isolation_laws.specs.IsolationInvariant.{IsolationInvariant}
 use Rattle.machine.proofs.Lookups.{held_by, commit_own}
 use Rattle.isolation_laws.proofs.OnceEach.{begun_once}
 use Rattle.cluster_core.specs.Room.{unless_direct, start_by, start_to_place}
@@ -33,7 +33,7 @@ unless_same : (direct : Bool) (u t : ℕ) → unless_direct direct u ≡ Some t 
 unless_same true u t is = absurd (none-some t is)
 unless_same false u t is = same_Some u t is
 
-in_flight_by : (w : State) (h : List Item) (n s t : ℕ) (i : InstanceEntry) (held : Held) (request : Request) (p : Progress) → Holds w h → InstanceAt w.nodes n i → held_of i s ≡ Some held → held.request ≡ request → held.progress ≡ p → start_by i.direct request p ≡ Some t → IsInFlight w.nodes n s t
+in_flight_by : (w : State) (h : List Item) (n s t : ℕ) (i : InstanceEntry) (held : Held) (request : Request) (p : Progress) → IsolationInvariant w h → InstanceAt w.nodes n i → held_of i s ≡ Some held → held.request ≡ request → held.progress ≡ p → start_by i.direct request p ≡ Some t → IsInFlight w.nodes n s t
 in_flight_by w h n s t i held (Begin r) p holds at has asks stands is = absurd (none-some t is)
 in_flight_by w h n s t i held (Commit r u keys) Asked holds at has asks stands is = absurd (none-some t is)
 in_flight_by w h n s t i held (Commit r u keys) Accepted holds at has asks stands is =
@@ -67,19 +67,19 @@ in_flight_by w h n s t i held (Commit r u keys) (Drawn c) holds at has asks stan
 in_flight_by w h n s t i held (Commit r u keys) (Settled c by) holds at has asks stands is = absurd (none-some t is)
 in_flight_by w h n s t i held (Commit r u keys) (Handed c) holds at has asks stands is = absurd (none-some t is)
 
-in_flight_as : (w : State) (h : List Item) (n s t : ℕ) (i : InstanceEntry) (found : Option Held) → Holds w h → InstanceAt w.nodes n i → held_of i s ≡ found → start_to_place i.direct found ≡ Some t → IsInFlight w.nodes n s t
+in_flight_as : (w : State) (h : List Item) (n s t : ℕ) (i : InstanceEntry) (found : Option Held) → IsolationInvariant w h → InstanceAt w.nodes n i → held_of i s ≡ found → start_to_place i.direct found ≡ Some t → IsInFlight w.nodes n s t
 in_flight_as w h n s t i None holds at has is = absurd (none-some t is)
 in_flight_as w h n s t i (Some held) holds at has is = in_flight_by w h n s t i held held.request held.progress holds at has refl refl is
 
-in_flight : (w : State) (h : List Item) (n s t : ℕ) → Holds w h → StartsAt w.nodes n s t → IsInFlight w.nodes n s t
+in_flight : (w : State) (h : List Item) (n s t : ℕ) → IsolationInvariant w h → StartsAt w.nodes n s t → IsInFlight w.nodes n s t
 in_flight w h n s t holds k = in_flight_as w h n s t k.i (held_of k.i s) holds k.at refl k.starts
 
-begun_in : (w : State) (h : List Item) (n s t : ℕ) → Holds w h → (k : IsInFlight w.nodes n s t) → Begun h s t
+begun_in : (w : State) (h : List Item) (n s t : ℕ) → IsolationInvariant w h → (k : IsInFlight w.nodes n s t) → Begun h s t
 begun_in w h n s t holds k =
     subst (λ r. Begun h r t) k.session_is (subst (λ u. Begun h k.coming.session u) k.start_is (holds.requests.pending.begun k.coming (inl k.pending)))
 
 -- two of them with one start are one
-pub one_start : (w : State) (h : List Item) (n s m r t : ℕ) → Holds w h → StartsAt w.nodes n s t → StartsAt w.nodes m r t → (n ≡ m) × (s ≡ r)
+pub one_start : (w : State) (h : List Item) (n s m r t : ℕ) → IsolationInvariant w h → StartsAt w.nodes n s t → StartsAt w.nodes m r t → (n ≡ m) × (s ≡ r)
 one_start w h n s m r t holds a b =
     let here = in_flight w h n s t holds a in
     let there = in_flight w h m r t holds b in

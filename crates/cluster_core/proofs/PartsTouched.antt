@@ -10,7 +10,7 @@ use Rattle.machine.specs.Machine.{with_post, with_client, with_reading, on_clien
 use Rattle.event_parts.specs.Made.{Makes}
 use Rattle.event_parts.specs.declared.stopped.Stopped.{Stopped}
 use Rattle.cluster_core.specs.Seen.{seen_made}
-use Rattle.cluster_core.specs.Whole.{effect_of}
+use Rattle.cluster_core.specs.ClusterModel.{effect_of}
 use Rattle.cluster_core.proofs.PutBack.{put_back, put_back_seen, same_post, same_client, same_both}
 
 -- a node and all clients

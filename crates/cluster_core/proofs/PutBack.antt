@@ -14,7 +14,7 @@ use Rattle.event_parts.specs.Made.{Leaves, Makes, AsksNone}
 use Rattle.event_parts.specs.declared.stopped.Stopped.{Stopped}
 use Rattle.event_parts.specs.declared.stopped.Stopped.TheVariants.{Refused, StoreFault, NoMemory}
 use Rattle.cluster_core.specs.Seen.{seen_made}
-use Rattle.cluster_core.specs.Whole.{effect_of}
+use Rattle.cluster_core.specs.ClusterModel.{effect_of}
 
 pub put_back : {P : Type 0} → (effect : Effect P) (whole : P → State) (old now : P) (w v : State) (before after : List Item) (result : Result Unit Stopped) → whole old ≡ w → v ≡ whole now → Makes effect old now before after result → Makes (effect_of (step_by effect whole)) w v before after result
 put_back effect whole old now w v before after (Ok _) at is made = record { parts = is ∙ ap whole made.parts; items = made.items; stop = made.stop }

@@ -25,9 +25,9 @@ use Rattle.event_parts.specs.declared.stopped.Stopped.TheVariants.{Refused, Stor
 use Rattle.event_parts.specs.Served.{is_to_decide, is_to_put, is_to_answer, SpendsIf, places_after, NeverLacksIf}
 use Rattle.node_events.specs.Reserved.{ReservesFive, HeldHasPlace, KeepPlaces}
 use Rattle.node_events.proofs.Places.{used_keeps}
-use Rattle.isolation_laws.specs.Holds.{Holds}
+use Rattle.isolation_laws.specs.IsolationInvariant.{IsolationInvariant}
 use Rattle.machine.proofs.Lookups.{instance_set}
-use Rattle.cluster_core.specs.Whole.{Whole}
+use Rattle.cluster_core.specs.ClusterModel.{ClusterModel}
 use Rattle.cluster_core.specs.Room.{start_by, start_to_place, AreRoomy, ArePlacesKept}
 use Rattle.cluster_core.specs.Served.{held_found, held_in, direct_in, is_served, ReservesFor, KeepsRoom, Spends, Reserves, LeavesRoom}
 use Rattle.cluster_core.proofs.Needs.{all_longer}
@@ -106,14 +106,14 @@ starts_in nodes n s None stamps at is = absurd (none-some stamps is)
 starts_in nodes n s (Some None) stamps at is = absurd (none-some stamps is)
 starts_in nodes n s (Some (Some i)) stamps at is = record { i = i; at = at; starts = start_of_place i.direct (held_of i s) stamps is }
 
-put_places : (w : State) (h : List Item) (n s : ℕ) (fate : Fate) (places : Places) (stamps : ℕ × ℕ) → Holds w h → ArePlacesKept w.nodes places → to_place (held_in w n s) ≡ Some stamps → ArePlacesKept (stepped w (event.Put n s) fate).state.nodes (set.remove places stamps.0)
+put_places : (w : State) (h : List Item) (n s : ℕ) (fate : Fate) (places : Places) (stamps : ℕ × ℕ) → IsolationInvariant w h → ArePlacesKept w.nodes places → to_place (held_in w n s) ≡ Some stamps → ArePlacesKept (stepped w (event.Put n s) fate).state.nodes (set.remove places stamps.0)
 put_places w h n s fate places stamps holds kept is = λ m r t j at starts.
     let own = starts_in w.nodes n s (slice_get w.nodes n) stamps refl is in
     let old = put_old w n s fate (slice_get w.nodes n) stamps refl is m r t (record { i = j; at = at; starts = starts }) in
     let other : t ≢ stamps.0 = λ same. let one = one_start w h m r n s stamps.0 holds (subst (λ u. StartsAt w.nodes m r u) same old.0) own in old.1 one.0 one.1 in
     used_keeps places stamps.0 t other (kept m r t old.0.i old.0.at old.0.starts)
 
-put_kept : (w : State) (h : List Item) (n s : ℕ) (fate : Fate) (places now : Places) (stamps : Option (ℕ × ℕ)) → Holds w h → ArePlacesKept w.nodes places → to_place (held_in w n s) ≡ stamps → now ≡ places_after stamps places → ArePlacesKept (stepped w (event.Put n s) fate).state.nodes now
+put_kept : (w : State) (h : List Item) (n s : ℕ) (fate : Fate) (places now : Places) (stamps : Option (ℕ × ℕ)) → IsolationInvariant w h → ArePlacesKept w.nodes places → to_place (held_in w n s) ≡ stamps → now ≡ places_after stamps places → ArePlacesKept (stepped w (event.Put n s) fate).state.nodes now
 put_kept w h n s fate places now None holds kept is same = kept_after _ now _ 0 w.nodes _ places (put_became h now w n s fate) kept (same_places places now same)
 put_kept w h n s fate places now (Some stamps) holds kept is used = subst (ArePlacesKept (stepped w (event.Put n s) fate).state.nodes) (sym used) (put_places w h n s fate places stamps holds kept is)
 
@@ -123,7 +123,7 @@ pub record IsKept (nodes : List (Option InstanceEntry)) (h : List Item) (spare :
   pub roomy : AreRoomy nodes h spare
   pub kept : ArePlacesKept nodes places
 
-plain_kept : (old now : Whole) (e : Event) (fate : Fate) → is_plain e ≡ true → IsKept old.state.nodes old.history old.spare old.places → KeepsRoom old now → IsKept (stepped old.state e fate).state.nodes (old.history ++ (stepped old.state e fate).items) now.spare now.places
+plain_kept : (old now : ClusterModel) (e : Event) (fate : Fate) → is_plain e ≡ true → IsKept old.state.nodes old.history old.spare old.places → KeepsRoom old now → IsKept (stepped old.state e fate).state.nodes (old.history ++ (stepped old.state e fate).items) now.spare now.places
 plain_kept old now e fate plain k room =
     let became = plain_became (old.history ++ (stepped old.state e fate).items) now.places old.state e fate plain in
     record {
@@ -131,7 +131,7 @@ plain_kept old now e fate plain k room =
       kept = kept_after _ now.places 0 0 _ _ old.places became k.kept (same_places old.places now.places room.places);
     }
 
-accept_kept : (old now : Whole) (n s reading : ℕ) (fate : Fate) (result : Result Unit Stopped) → IsKept old.state.nodes old.history old.spare old.places → result ≡ ended (stepped old.state (event.Accept n s reading) fate).stop → Reserves (direct_in old.state n) (held_in old.state n s) old now result → IsKept (stepped old.state (event.Accept n s reading) fate).state.nodes (old.history ++ (stepped old.state (event.Accept n s reading) fate).items) now.spare now.places
+accept_kept : (old now : ClusterModel) (n s reading : ℕ) (fate : Fate) (result : Result Unit Stopped) → IsKept old.state.nodes old.history old.spare old.places → result ≡ ended (stepped old.state (event.Accept n s reading) fate).stop → Reserves (direct_in old.state n) (held_in old.state n s) old now result → IsKept (stepped old.state (event.Accept n s reading) fate).state.nodes (old.history ++ (stepped old.state (event.Accept n s reading) fate).items) now.spare now.places
 accept_kept old now n s reading fate result k is room =
     let place = λ (none : (stepped old.state (event.Accept n s reading) fate).stop ≡ None). subst (λ (r : Result Unit Stopped). OnOk r (HeldHasPlace (direct_in old.state n) now.places (held_in old.state n s))) (is ∙ ap ended none) room.place in
     let became = accept_became (old.history ++ (stepped old.state (event.Accept n s reading) fate).items) now.places old.state n s reading fate place in
@@ -140,7 +140,7 @@ accept_kept old now n s reading fate result k is room =
       kept = kept_after _ now.places 0 _ _ _ old.places became k.kept room.places;
     }
 
-decide_kept : (old now : Whole) (n s : ℕ) (fate : Fate) → IsKept old.state.nodes old.history old.spare old.places → now.history ≡ old.history ++ (stepped old.state (event.Decide n s) fate).items → Spends (is_to_decide (held_in old.state n s)) None old now → IsKept (stepped old.state (event.Decide n s) fate).state.nodes (old.history ++ (stepped old.state (event.Decide n s) fate).items) now.spare now.places
+decide_kept : (old now : ClusterModel) (n s : ℕ) (fate : Fate) → IsKept old.state.nodes old.history old.spare old.places → now.history ≡ old.history ++ (stepped old.state (event.Decide n s) fate).items → Spends (is_to_decide (held_in old.state n s)) None old now → IsKept (stepped old.state (event.Decide n s) fate).state.nodes (old.history ++ (stepped old.state (event.Decide n s) fate).items) now.spare now.places
 decide_kept old now n s fate k told room =
     let became = decide_became (old.history ++ (stepped old.state (event.Decide n s) fate).items) now.places old.state n s fate in
     record {
@@ -148,7 +148,7 @@ decide_kept old now n s fate k told room =
       kept = kept_after _ now.places _ 0 _ _ old.places became k.kept (same_places old.places now.places room.places);
     }
 
-answer_kept : (old now : Whole) (n s : ℕ) (fate : Fate) → IsKept old.state.nodes old.history old.spare old.places → now.history ≡ old.history ++ (stepped old.state (event.Answer n s) fate).items → Spends (is_to_answer (held_in old.state n s)) None old now → IsKept (stepped old.state (event.Answer n s) fate).state.nodes (old.history ++ (stepped old.state (event.Answer n s) fate).items) now.spare now.places
+answer_kept : (old now : ClusterModel) (n s : ℕ) (fate : Fate) → IsKept old.state.nodes old.history old.spare old.places → now.history ≡ old.history ++ (stepped old.state (event.Answer n s) fate).items → Spends (is_to_answer (held_in old.state n s)) None old now → IsKept (stepped old.state (event.Answer n s) fate).state.nodes (old.history ++ (stepped old.state (event.Answer n s) fate).items) now.spare now.places
 answer_kept old now n s fate k told room =
     let became = answer_became (old.history ++ (stepped old.state (event.Answer n s) fate).items) now.places old.state n s fate in
     record {
@@ -156,7 +156,7 @@ answer_kept old now n s fate k told room =
       kept = kept_after _ now.places _ 0 _ _ old.places became k.kept (same_places old.places now.places room.places);
     }
 
-put_all_kept : (old now : Whole) (n s : ℕ) (fate : Fate) → Holds old.state old.history → IsKept old.state.nodes old.history old.spare old.places → now.history ≡ old.history ++ (stepped old.state (event.Put n s) fate).items → Spends (is_to_put (held_in old.state n s)) (to_place (held_in old.state n s)) old now → IsKept (stepped old.state (event.Put n s) fate).state.nodes (old.history ++ (stepped old.state (event.Put n s) fate).items) now.spare now.places
+put_all_kept : (old now : ClusterModel) (n s : ℕ) (fate : Fate) → IsolationInvariant old.state old.history → IsKept old.state.nodes old.history old.spare old.places → now.history ≡ old.history ++ (stepped old.state (event.Put n s) fate).items → Spends (is_to_put (held_in old.state n s)) (to_place (held_in old.state n s)) old now → IsKept (stepped old.state (event.Put n s) fate).state.nodes (old.history ++ (stepped old.state (event.Put n s) fate).items) now.spare now.places
 put_all_kept old now n s fate holds k told room =
     let became = put_became old.history now.places old.state n s fate in
     record {
@@ -164,7 +164,7 @@ put_all_kept old now n s fate holds k told room =
       kept = put_kept old.state old.history n s fate old.places now.places (to_place (held_in old.state n s)) holds k.kept refl room.places;
     }
 
-pub made_kept : (old now : Whole) (e : Event) (fate : Fate) (result : Result Unit Stopped) → Holds old.state old.history → IsKept old.state.nodes old.history old.spare old.places → now.history ≡ old.history ++ (stepped old.state e fate).items → result ≡ ended (stepped old.state e fate).stop → LeavesRoom e old now result → IsKept (stepped old.state e fate).state.nodes (old.history ++ (stepped old.state e fate).items) now.spare now.places
+pub made_kept : (old now : ClusterModel) (e : Event) (fate : Fate) (result : Result Unit Stopped) → IsolationInvariant old.state old.history → IsKept old.state.nodes old.history old.spare old.places → now.history ≡ old.history ++ (stepped old.state e fate).items → result ≡ ended (stepped old.state e fate).stop → LeavesRoom e old now result → IsKept (stepped old.state e fate).state.nodes (old.history ++ (stepped old.state e fate).items) now.spare now.places
 made_kept old now (event.Accept n s reading) fate result holds k told is room = accept_kept old now n s reading fate result k is room
 made_kept old now (event.Decide n s) fate result holds k told is room = decide_kept old now n s fate k told room
 made_kept old now (event.Put n s) fate result holds k told is room = put_all_kept old now n s fate holds k told room
@@ -175,10 +175,10 @@ made_kept old now e fate result holds k told is room = plain_kept old now e fate
 more_room : (nodes : List (Option InstanceEntry)) (h : List Item) (before now : ℕ) (places given : Places) → IsKept nodes h before places → before ≤ now → KeepPlaces places given → IsKept nodes h now given
 more_room nodes h before now places given k more keep = record { roomy = omega (arith, k.roomy, more); kept = λ n s t i at is. keep t (k.kept n s t i at is) }
 
-same_room : (old now : Whole) → IsKept old.state.nodes old.history old.spare old.places → KeepsRoom old now → IsKept old.state.nodes old.history now.spare now.places
+same_room : (old now : ClusterModel) → IsKept old.state.nodes old.history old.spare old.places → KeepsRoom old now → IsKept old.state.nodes old.history now.spare now.places
 same_room old now k room = more_room old.state.nodes old.history old.spare now.spare old.places now.places k (omega (arith, room.spare)) (same_places old.places now.places room.places)
 
-spent_none : (served : Bool) (old now : Whole) → now.history ≡ old.history → SpendsIf served old.spare old.history now.spare now.history → now.spare ≡ old.spare
+spent_none : (served : Bool) (old now : ClusterModel) → now.history ≡ old.history → SpendsIf served old.spare old.history now.spare now.history → now.spare ≡ old.spare
 spent_none true old now same all = omega (arith, ap length same, all)
 spent_none false old now same all = all
 
@@ -190,7 +190,7 @@ unserved_places : (stamps : Option (ℕ × ℕ)) (places now : Places) → Never
 unserved_places None places now never is = is
 unserved_places (Some stamps) places now never is = absurd never
 
-pub lacked_kept : (old now : Whole) (e : Event) → IsKept old.state.nodes old.history old.spare old.places → now.history ≡ old.history → NeverLacksIf (is_served old.state e) (Err NoMemory) → LeavesRoom e old now (Err NoMemory) → IsKept old.state.nodes old.history now.spare now.places
+pub lacked_kept : (old now : ClusterModel) (e : Event) → IsKept old.state.nodes old.history old.spare old.places → now.history ≡ old.history → NeverLacksIf (is_served old.state e) (Err NoMemory) → LeavesRoom e old now (Err NoMemory) → IsKept old.state.nodes old.history now.spare now.places
 lacked_kept old now (event.Accept n s reading) k same never room = more_room old.state.nodes old.history old.spare now.spare old.places now.places k (reserved_none (held_in old.state n s) old.spare now.spare room.spare) room.places
 lacked_kept old now (event.Decide n s) k same never room = same_room old now k (record { spare = spent_none (is_to_decide (held_in old.state n s)) old now same room.spare; places = room.places })
 lacked_kept old now (event.Put n s) k same never room = same_room old now k (record { spare = spent_none (is_to_put (held_in old.state n s)) old now same room.spare; places = unserved_places (to_place (held_in old.state n s)) old.places now.places never room.places })

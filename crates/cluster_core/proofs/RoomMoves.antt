@@ -8,7 +8,7 @@ use Rattle.machine.specs.declared.event.Event.{Event}
 use Rattle.machine.specs.declared.event.Event.TheVariants as event
 use Rattle.event_parts.specs.declared.stopped.Stopped.{Stopped}
 use Rattle.event_parts.specs.Served.{is_to_decide, is_to_put, is_to_answer, SpendsIf}
-use Rattle.cluster_core.specs.Whole.{Whole}
+use Rattle.cluster_core.specs.ClusterModel.{ClusterModel}
 use Rattle.cluster_core.specs.Served.{held_in, is_served, ReservesFor, KeepsRoom, LeavesRoom, most_reserved}
 use Rattle.cluster_core.proofs.RoomKept.{five_or_none}
 
@@ -20,10 +20,10 @@ spends_at_most : (served : Bool) (before now : ℕ) (history later : List Item) 
 spends_at_most true before now history later grown all = omega (arith, grown, all)
 spends_at_most false before now history later grown same = omega (arith, same)
 
-keeps : (old now : Whole) → KeepsRoom old now → now.spare ≤ old.spare + 0
+keeps : (old now : ClusterModel) → KeepsRoom old now → now.spare ≤ old.spare + 0
 keeps old now room = omega (arith, room.spare)
 
-pub room_rises : (old now : Whole) (e : Event) (result : Result Unit Stopped) → length old.history ≤ length now.history → LeavesRoom e old now result → now.spare ≤ old.spare + most_reserved e
+pub room_rises : (old now : ClusterModel) (e : Event) (result : Result Unit Stopped) → length old.history ≤ length now.history → LeavesRoom e old now result → now.spare ≤ old.spare + most_reserved e
 room_rises old now (event.Accept n s reading) result grown room = reserves_at_most (held_in old.state n s) result old.spare now.spare room.spare
 room_rises old now (event.Decide n s) result grown room = spends_at_most (is_to_decide (held_in old.state n s)) old.spare now.spare old.history now.history grown room.spare
 room_rises old now (event.Put n s) result grown room = spends_at_most (is_to_put (held_in old.state n s)) old.spare now.spare old.history now.history grown room.spare
@@ -35,7 +35,7 @@ spends_all true before now history later is all = all
 spends_all false before now history later is same = absurd (cc)
 
 -- what an event that serves a request appends is taken out of the room
-pub served_spends : (old now : Whole) (e : Event) (result : Result Unit Stopped) → is_served old.state e ≡ true → LeavesRoom e old now result → now.spare + length now.history ≡ old.spare + length old.history
+pub served_spends : (old now : ClusterModel) (e : Event) (result : Result Unit Stopped) → is_served old.state e ≡ true → LeavesRoom e old now result → now.spare + length now.history ≡ old.spare + length old.history
 served_spends old now (event.Decide n s) result is room = spends_all (is_to_decide (held_in old.state n s)) old.spare now.spare old.history now.history is room.spare
 served_spends old now (event.Put n s) result is room = spends_all (is_to_put (held_in old.state n s)) old.spare now.spare old.history now.history is room.spare
 served_spends old now (event.Answer n s) result is room = spends_all (is_to_answer (held_in old.state n s)) old.spare now.spare old.history now.history is room.spare

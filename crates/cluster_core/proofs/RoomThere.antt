@@ -18,7 +18,7 @@ use Rattle.machine.specs.declared.event.Event.{Event}
 use Rattle.machine.specs.declared.event.Event.TheVariants as event
 use Rattle.event_parts.specs.Served.{decides_at, is_to_decide, is_to_put, answers_at, is_to_answer, HasRoomIf, HasPlaceFor}
 use Rattle.isolation_laws.specs.Words.{InstanceAt}
-use Rattle.cluster_core.specs.Whole.{Whole}
+use Rattle.cluster_core.specs.ClusterModel.{ClusterModel}
 use Rattle.cluster_core.specs.Room.{spent, need_by, need, needs_of, AreRoomy, ArePlacesKept}
 use Rattle.cluster_core.specs.Served.{held_found, held_in, HasRoomFor}
 use Rattle.cluster_core.proofs.Needs.{once_at_most, besides_at_most, one_within, held_within}
@@ -91,7 +91,7 @@ place_in : (nodes : List (Option InstanceEntry)) (places : Places) (n s : ℕ) (
 place_in nodes places n s None kept is = tt
 place_in nodes places n s (Some stamps) kept is = let own = starts_in nodes n s (slice_get nodes n) stamps refl is in kept n s stamps.0 own.i own.at own.starts
 
-pub room_is_there : (w : Whole) (e : Event) → IsKept w.state.nodes w.history w.spare w.places → HasRoomFor w e
+pub room_is_there : (w : ClusterModel) (e : Event) → IsKept w.state.nodes w.history w.spare w.places → HasRoomFor w e
 room_is_there w (event.Decide n s) k = room_in w.state.nodes w.history w.spare n s 1 (is_to_decide (held_in w.state n s)) k.roomy (decide_need w.history (held_in w.state n s))
 room_is_there w (event.Put n s) k = (room_in w.state.nodes w.history w.spare n s 2 (is_to_put (held_in w.state n s)) k.roomy (put_need w.history (held_in w.state n s)), place_in w.state.nodes w.places n s (to_place (held_in w.state n s)) k.kept refl)
 room_is_there w (event.Answer n s) k = room_in w.state.nodes w.history w.spare n s 1 (is_to_answer (held_in w.state n s)) k.roomy (answer_need w.history (held_in w.state n s))

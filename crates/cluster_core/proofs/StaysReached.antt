@@ -23,28 +23,28 @@ use Rattle.cause_laws.proofs.RecordCalls.{extensions_fit}
 use Rattle.cause_laws.proofs.RequestCalls.{begins_ask, commits_ask, requests_wait}
 use Rattle.cause_laws.proofs.StoreCalls.{heals_only, writes_bare, sweeps_ask}
 use Rattle.cause_laws.proofs.StepCalls.{steps_ask}
-use Rattle.cluster_core.specs.Whole.{Whole, MakesStep, step_under}
+use Rattle.cluster_core.specs.ClusterModel.{ClusterModel, MakesStep, step_under}
 use Rattle.cluster_core.specs.Required.{CanMake, MayExtend}
 use Rattle.cluster_core.specs.Served.{LeavesRoom, NeverLacksIf, is_served}
 use Rattle.cluster_core.proofs.RoomKept.{IsKept, made_kept, lacked_kept}
 use Rattle.cluster_core.proofs.RoomThere.{kept_first}
 use Rattle.cluster_core.specs.Reached.{IsReached}
 
-same_whole : (w : Whole) (state : State) (history : List Item) → w.state ≡ state → w.history ≡ history → IsReached (record { state = state; history = history; spare = w.spare; places = w.places }) → IsReached w
+same_whole : (w : ClusterModel) (state : State) (history : List Item) → w.state ≡ state → w.history ≡ history → IsReached (record { state = state; history = history; spare = w.spare; places = w.places }) → IsReached w
 same_whole w state history at told reached =
     subst (λ (s : State). IsReached (record { state = s; history = w.history; spare = w.spare; places = w.places })) (sym at) (subst (λ (h : List Item). IsReached (record { state = state; history = h; spare = w.spare; places = w.places })) (sym told) reached)
 
 -- a state that is reached keeps what its requests need
-pub kept_in : (w : Whole) → IsReached w → IsKept w.state.nodes w.history w.spare w.places
+pub kept_in : (w : ClusterModel) → IsReached w → IsKept w.state.nodes w.history w.spare w.places
 kept_in w reached = record { roomy = reached.roomy; kept = reached.places_kept }
 
-pub reached_first : (setup : SetupNumbers) (w : Whole) → AreInRange setup → w.state ≡ opening setup → w.history ≡ [] → IsReached w
+pub reached_first : (setup : SetupNumbers) (w : ClusterModel) → AreInRange setup → w.state ≡ opening setup → w.history ≡ [] → IsReached w
 reached_first setup w fit at none =
     let kept = kept_first setup [] w.spare w.places in
     same_whole w (opening setup) [] at none (record { told = tells_at_first setup fit; bounded = bounded_first setup; roomy = kept.roomy; places_kept = kept.kept })
 
 -- the event as the call made it
-after_event : (old now : Whole) (e : Event) (fate : Fate) (result : Result Unit Stopped) → IsReached old → IsSteadyAt old.state.setup.skew old.state.seen (reading_of e) → now.state ≡ (stepped old.state e fate).state → now.history ≡ old.history ++ (stepped old.state e fate).items → result ≡ ended (stepped old.state e fate).stop → LeavesRoom e old now result → IsReached now
+after_event : (old now : ClusterModel) (e : Event) (fate : Fate) (result : Result Unit Stopped) → IsReached old → IsSteadyAt old.state.setup.skew old.state.seen (reading_of e) → now.state ≡ (stepped old.state e fate).state → now.history ≡ old.history ++ (stepped old.state e fate).items → result ≡ ended (stepped old.state e fate).stop → LeavesRoom e old now result → IsReached now
 after_event old now e fate result reached steady at told is room =
     let kept = made_kept old now e fate result reached.told.stands.holds (kept_in old reached) told is room in
     same_whole now (stepped old.state e fate).state (old.history ++ (stepped old.state e fate).items) at told (record {
@@ -54,7 +54,7 @@ after_event old now e fate result reached steady at told is room =
       places_kept = kept.kept;
     })
 
-pub reached_after : (ahead : Store → ℕ → Fate) (old now : Whole) (e : Event) (result : Result Unit Stopped) → IsReached old → IsSteadyAt old.state.setup.skew old.state.seen (reading_of e) → MakesStep (step_under ahead old.state e) old now result → LeavesRoom e old now result → NeverLacksIf (is_served old.state e) result → IsReached now
+pub reached_after : (ahead : Store → ℕ → Fate) (old now : ClusterModel) (e : Event) (result : Result Unit Stopped) → IsReached old → IsSteadyAt old.state.setup.skew old.state.seen (reading_of e) → MakesStep (step_under ahead old.state e) old now result → LeavesRoom e old now result → NeverLacksIf (is_served old.state e) result → IsReached now
 reached_after ahead old now e (Ok _) reached steady made room served = after_event old now e (fate_ahead (asks old.state e) ahead) (Ok tt) reached steady made.parts made.items (sym (ap ended made.stop)) room
 reached_after ahead old now e (Err (Refused why)) reached steady made room served = after_event old now e (fate_ahead (asks old.state e) ahead) (Err (Refused why)) reached steady made.parts made.items (sym (ap ended made.stop)) room
 reached_after ahead old now e (Err (StoreFault store)) reached steady made room served = after_event old now e (fate_ahead (asks old.state e) ahead) (Err (StoreFault store)) reached steady made.parts made.items (sym (ap ended made.stop)) room
@@ -70,7 +70,7 @@ covers w node may (Some i) at = λ own. (may node (Some i) at).covered
 sweeps : (w : State) (s : Option Sweeping) → w.sweep ≡ s → SweepMayStep w → IfSome s (λ x. KeepsShadowNext (sweep_ask x) w.rows)
 sweeps w s is may = rw (sym is) may.shadow
 
-pub calls_may_be_made : (w : Whole) (e : Event) → IsReached w → IsSteadyAt w.state.setup.skew w.state.seen (reading_of e) → CanMake w.state e
+pub calls_may_be_made : (w : ClusterModel) (e : Event) → IsReached w → IsSteadyAt w.state.setup.skew w.state.seen (reading_of e) → CanMake w.state e
 calls_may_be_made w (event.Take node reading) reached steady = steady.0
 calls_may_be_made w (event.Renew node reading) reached steady = steady.0
 calls_may_be_made w (event.Extend node) reached steady = covers w.state node (extensions_fit w.state w.history reached.told)

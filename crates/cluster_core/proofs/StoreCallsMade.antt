@@ -23,7 +23,7 @@ use Rattle.machine.specs.Events.Heal.{heal_on}
 use Rattle.event_parts.specs.Made.{Makes, fate_ahead}
 use Rattle.event_parts.specs.declared.stopped.Stopped.{Stopped}
 use Rattle.cluster_core.specs.Seen.{seen_made}
-use Rattle.cluster_core.specs.Whole.{effect_of, step_under}
+use Rattle.cluster_core.specs.ClusterModel.{effect_of, step_under}
 use Rattle.cluster_core.proofs.PutBack.{put_back, put_back_seen, same_post, same_client}
 use Rattle.cluster_core.proofs.Fates.{by_fate, take_fate, renew_fate, extend_fate, put_fate, write_fate, fetch_fate, heal_fate}
 

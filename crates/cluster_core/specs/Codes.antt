@@ -15,7 +15,7 @@ use Rattle.system_parts.specs.Instance.{InstanceEntry}
 use Rattle.oracle_core.specs.contracts.instance.Instance as instances
 use Rattle.machine.specs.State.{Client, State}
 use Rattle.event_parts.specs.contracts.client.Client as clients
-use Rattle.cluster_core.specs.Whole.{Whole}
+use Rattle.cluster_core.specs.ClusterModel.{ClusterModel}
 
 abbrev pub Sizes : Type 0
 Sizes = ℕ × (ℕ × (ℕ × (ℕ × (ℕ × (ℕ × (ℕ × (ℕ × (ℕ × (ℕ × (Bool × Bool))))))))))
@@ -44,6 +44,6 @@ abbrev pub state_code : Coded State
 state_code =
     code_by StateParts parts_code (λ w. (w.setup, (w.seen, (w.clients, (w.nodes, (w.sweep, (w.rows, (w.pairs, w.master)))))))) (λ p. record { setup = p.0; seen = p.1.0; clients = p.1.1.0; nodes = p.1.1.1.0; sweep = p.1.1.1.1.0; rows = p.1.1.1.1.1.0; pairs = p.1.1.1.1.1.1.0; master = p.1.1.1.1.1.1.1 }) (λ _. refl)
 
-abbrev pub whole_code : Coded Whole
+abbrev pub whole_code : Coded ClusterModel
 whole_code =
     code_by (State × (List Item × (ℕ × Places))) (coded× state_code (coded× (coded_list items.the_row.coded) (coded× coded_ℕ places_code))) (λ w. (w.state, (w.history, (w.spare, w.places)))) (λ p. record { state = p.0; history = p.1.0; spare = p.1.1.0; places = p.1.1.1 }) (λ _. refl)

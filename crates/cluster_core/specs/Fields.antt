@@ -2,10 +2,10 @@
 use Rattle.std.specs.Prelude.{◌≡◌, vec_len}
 use Rattle.stamp_base.specs.Setups.{numbers_of}
 use Rattle.machine.specs.Events.Take.{rules_of}
-use Rattle.cluster_core.specs.Whole.{Whole}
-use Rattle.cluster_core.specs.declared.engine.Engine.TheInside.{Inside}
+use Rattle.cluster_core.specs.ClusterModel.{ClusterModel}
+use Rattle.cluster_core.specs.declared.engine.ClusterState.TheInside.{Inside}
 
-abbrev pub whole_of : Inside → Whole
+abbrev pub whole_of : Inside → ClusterModel
 whole_of e = record {
   state = record {
     setup = numbers_of e.setup;

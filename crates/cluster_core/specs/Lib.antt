@@ -1,4 +1,4 @@
-pub mod Whole
+pub mod ClusterModel
 pub mod Room
 pub mod Served
 pub mod Codes

@@ -11,7 +11,7 @@ use Rattle.event_parts.specs.declared.stopped.Stopped.{Stopped}
 use Rattle.event_parts.specs.Served.{is_to_decide, is_to_put, is_to_answer, HasRoomIf, HasPlaceFor, SpendsIf, places_after}
 pub use Rattle.event_parts.specs.Served.{NeverLacks, NeverLacksIf}
 use Rattle.node_events.specs.Reserved.{ReservesFive, is_direct, HeldHasPlace, KeepPlaces}
-use Rattle.cluster_core.specs.Whole.{Whole}
+use Rattle.cluster_core.specs.ClusterModel.{ClusterModel}
 
 abbrev pub held_found : Option (Option InstanceEntry) → ℕ → Option Held
 held_found None session = None
@@ -38,19 +38,19 @@ is_served w (event.Answer node session) = is_to_answer (held_in w node session)
 is_served w _ = false
 
 -- there is room for what such an event appends, and a place for a commit that is to be placed
-abbrev pub HasRoomFor : Whole → Event → Type 0
+abbrev pub HasRoomFor : ClusterModel → Event → Type 0
 HasRoomFor w (event.Decide node session) = HasRoomIf (is_to_decide (held_in w.state node session)) 1 w.spare
 HasRoomFor w (event.Put node session) = HasRoomIf (is_to_put (held_in w.state node session)) 2 w.spare × HasPlaceFor (to_place (held_in w.state node session)) w.places
 HasRoomFor w (event.Answer node session) = HasRoomIf (is_to_answer (held_in w.state node session)) 1 w.spare
 HasRoomFor w _ = Unit {0}
 
 -- ---- what an event leaves
-pub record KeepsRoom (old now : Whole) : Type 0 where
+pub record KeepsRoom (old now : ClusterModel) : Type 0 where
   pub spare : now.spare ≡ old.spare
   pub places : now.places ≡ old.places
 
 -- what a served request appends was reserved, and a commit that was placed has used up its place
-pub record Spends (served : Bool) (stamps : Option (ℕ × ℕ)) (old now : Whole) : Type 0 where
+pub record Spends (served : Bool) (stamps : Option (ℕ × ℕ)) (old now : ClusterModel) : Type 0 where
   pub spare : SpendsIf served old.spare old.history now.spare now.history
   pub places : now.places ≡ places_after stamps old.places
 
@@ -60,12 +60,12 @@ ReservesFor None result before now = (before ≤ now) × (now ≤ before + 5)
 ReservesFor (Some held) result before now = ReservesFive result before now
 
 -- and a commit that the oracle is to place has a place
-pub record Reserves (direct : Bool) (held : Option Held) (old now : Whole) (result : Result Unit Stopped) : Type 0 where
+pub record Reserves (direct : Bool) (held : Option Held) (old now : ClusterModel) (result : Result Unit Stopped) : Type 0 where
   pub spare : ReservesFor held result old.spare now.spare
   pub place : OnOk result (HeldHasPlace direct now.places held)
   pub places : KeepPlaces old.places now.places
 
-abbrev pub LeavesRoom : Event → Whole → Whole → Result Unit Stopped → Type 0
+abbrev pub LeavesRoom : Event → ClusterModel → ClusterModel → Result Unit Stopped → Type 0
 LeavesRoom (event.Accept node session reading) old now result = Reserves (direct_in old.state node) (held_in old.state node session) old now result
 LeavesRoom (event.Decide node session) old now result = Spends (is_to_decide (held_in old.state node session)) None old now
 LeavesRoom (event.Put node session) old now result = Spends (is_to_put (held_in old.state node session)) (to_place (held_in old.state node session)) old now

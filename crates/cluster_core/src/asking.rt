@@ -7,11 +7,11 @@ ghost use Rattle.machine.specs.Events.Put.{put_asks, to_place};
 ghost use Rattle.event_parts.specs.Served.{HasPlaceFor};
 ghost use Rattle.cluster_core.specs.Served.{HasRoomFor, held_in};
 
-use crate::Engine;
+use crate::ClusterState;
 use machine::Event;
 use stamp_base::{NoMemory, NodeNo, SessionNo, Store};
 
-impl Engine {
+impl ClusterState {
     /// The store that the event asks, if it asks any.
     pub fn store_of(&self, event: &Event) -> Option<Store>
         ensures { result ≡ asks self.now.state event.now }

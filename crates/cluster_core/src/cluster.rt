@@ -9,9 +9,9 @@ ghost use Rattle.machine.specs.Machine.{IsSteadyAt, reading_of, asks};
 ghost use Rattle.machine.specs.Readers as read;
 ghost use Rattle.event_parts.specs.Made.{Asks};
 ghost use Rattle.cluster_core.specs.Served.{LeavesRoom, NeverLacksIf, is_served};
-ghost use Rattle.cluster_core.specs.Whole.{MakesStep, step_under};
+ghost use Rattle.cluster_core.specs.ClusterModel.{MakesStep, step_under};
 
-use crate::Engine;
+use crate::ClusterState;
 use event_parts::Stopped;
 use history_book::Item;
 use machine::{Doing, Event};
@@ -26,15 +26,15 @@ use system_parts::Place;
 /// reads it is serial.
 #[derive(Drop)]
 pub struct Cluster {
-    pub(crate) engine: Engine,
+    pub(crate) engine: ClusterState,
 }
 
 impl Model for Cluster {
-    ghost use Rattle.cluster_core.specs.Whole.{Whole};
+    ghost use Rattle.cluster_core.specs.ClusterModel.{ClusterModel};
     ghost use Rattle.cluster_core.specs.Codes.{whole_code};
     ghost use Rattle.cluster_core.specs.Reached.{IsReached};
 
-    ghost Value = { Whole };
+    ghost Value = { ClusterModel };
 
     ghost coded = { whole_code };
 
@@ -52,7 +52,7 @@ impl Cluster {
         ensures spare { IfOk result (λ made. made.spare ≡ 0) }
     {
         Ok(Cluster {
-            engine: Engine::open(alloc, setup)?,
+            engine: ClusterState::open(alloc, setup)?,
         })
     }
 

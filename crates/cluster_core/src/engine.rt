@@ -4,7 +4,7 @@ ghost use Rattle.stamp_base.specs.Setups.{numbers_of};
 ghost use Rattle.machine.specs.State.{opening, client_new};
 ghost use Rattle.machine.specs.Machine.{asks};
 ghost use Rattle.event_parts.specs.Made.{Asks};
-ghost use Rattle.cluster_core.specs.Whole.{MakesStep, step_under};
+ghost use Rattle.cluster_core.specs.ClusterModel.{MakesStep, step_under};
 ghost use Rattle.cluster_core.specs.Required.{CanMake};
 ghost use Rattle.cluster_core.specs.Seen.{seen_made};
 ghost use Rattle.cluster_core.specs.Served.{HasRoomFor, LeavesRoom, NeverLacksIf, is_served};
@@ -24,7 +24,7 @@ use takeover_core::Post;
 
 /// The setup, the clients, the nodes' instances, the open sweep, the stores, and the history.
 #[derive(Drop)]
-pub struct Engine {
+pub struct ClusterState {
     pub(crate) alloc: Global,
     pub(crate) setup: Setup,
     // The greatest reading that was handed in.
@@ -40,11 +40,11 @@ pub struct Engine {
     pub(crate) book: Book,
 }
 
-impl Model for Engine {
-    ghost use Rattle.cluster_core.specs.Whole.{Whole};
+impl Model for ClusterState {
+    ghost use Rattle.cluster_core.specs.ClusterModel.{ClusterModel};
     ghost use Rattle.cluster_core.specs.Codes.{whole_code};
 
-    ghost Value = { Whole };
+    ghost Value = { ClusterModel };
 
     ghost coded = { whole_code };
 
@@ -55,14 +55,14 @@ impl Model for Engine {
     ghost invariant = { IsFitted };
 }
 
-impl Engine {
+impl ClusterState {
     /// The record is free, the stores are empty, no node has an instance, all sessions are free, and the history is empty.
-    pub fn open(alloc: Global, setup: Setup) -> Result<Engine, NoMemory>
+    pub fn open(alloc: Global, setup: Setup) -> Result<ClusterState, NoMemory>
         ensures state { IfOk result (λ made. made.state ≡ opening (numbers_of setup)) }
         ensures history { IfOk result (λ made. made.history ≡ []) }
         ensures spare { IfOk result (λ made. made.spare ≡ 0) }
     {
-        Ok(Engine {
+        Ok(ClusterState {
             alloc,
             setup,
             seen: 0,

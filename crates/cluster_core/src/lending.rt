@@ -4,7 +4,7 @@ ghost use Rattle.std.specs.Prelude.{◌≡◌, length, slice_get, slice_index_or
 ghost use Rattle.machine.specs.Events.Take.{rules_of};
 ghost use Rattle.machine.specs.Machine.{with_client, with_post};
 
-use crate::Engine;
+use crate::ClusterState;
 use cell_store::Cells;
 use commit_table::Table;
 use event_parts::Client;
@@ -15,7 +15,7 @@ use stamp_base::{NodeNo, SessionNo};
 use std::mem;
 use takeover_core::Post;
 
-impl Engine {
+impl ClusterState {
     /// The client is the session's from now on, and stands for the one that was.
     pub fn swap_client(&mut self, session: SessionNo, client: &mut Client)
         ensures state { self.new.state ≡ with_client self.old.state session client.old }
@@ -88,7 +88,7 @@ impl Engine {
     pub fn into_items(self) -> Vec<Item>
         ensures { result.items ≡ self.history }
     {
-        let Engine { book, .. } = self;
+        let ClusterState { book, .. } = self;
         book.into_items()
     }
 }

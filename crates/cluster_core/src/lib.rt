@@ -16,6 +16,6 @@ mod sweep_events;
 mod transaction_events;
 
 pub use cluster::Cluster;
-pub use engine::Engine;
+pub use engine::ClusterState;
 pub use event_parts::Stopped;
 pub use stores::Stores;

@@ -3,14 +3,14 @@ ghost use Rattle.std.specs.Prelude.{◌≡◌, ◌≤◌, length, Some};
 ghost use Rattle.machine.specs.Readers as read;
 ghost use Rattle.cluster_core.specs.Holders.{holds_commit, standing_held, standing_of};
 
-use crate::Engine;
+use crate::ClusterState;
 use event_parts::Client;
 use machine::Doing;
 use stamp_base::{NodeNo, SessionNo, Term};
 use system_parts::{Held, Place, Request, State};
 use takeover_core::Post;
 
-impl Engine {
+impl ClusterState {
     /// The greatest reading that was handed in, at first 0.
     pub fn seen(&self) -> u64
         ensures { result ≡ self.now.state.seen }

@@ -1,18 +1,18 @@
 // The events of a node and the master record.
 ghost use Rattle.machine.specs.Machine.{asks};
 ghost use Rattle.event_parts.specs.Made.{Asks};
-ghost use Rattle.cluster_core.specs.Whole.{MakesStep, step_under};
+ghost use Rattle.cluster_core.specs.ClusterModel.{MakesStep, step_under};
 ghost use Rattle.cluster_core.specs.Served.{LeavesRoom};
 ghost use Rattle.cluster_core.specs.Required.{CanMake};
 
-use crate::Engine;
+use crate::ClusterState;
 use crate::engine::seen_after;
 use event_parts::Stopped;
 use machine::Event;
 use port_io::Weather;
 use stamp_base::NodeNo;
 
-impl Engine {
+impl ClusterState {
     /// The node takes the record.
     pub(crate) fn take<W: Weather>(
         &mut self,

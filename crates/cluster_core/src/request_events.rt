@@ -2,18 +2,18 @@
 ghost use Rattle.port_io.specs.declared.weather.Fate.TheVariants.{Works};
 ghost use Rattle.machine.specs.Machine.{stepped, asks};
 ghost use Rattle.event_parts.specs.Made.{Asks};
-ghost use Rattle.cluster_core.specs.Whole.{MakesStep, step_under};
+ghost use Rattle.cluster_core.specs.ClusterModel.{MakesStep, step_under};
 ghost use Rattle.cluster_core.specs.Served.{HasRoomFor, LeavesRoom, NeverLacksIf, is_served};
 ghost use Rattle.cluster_core.specs.Required.{CanMake};
 
-use crate::Engine;
+use crate::ClusterState;
 use crate::engine::seen_after;
 use event_parts::Stopped;
 use machine::Event;
 use port_io::Weather;
 use stamp_base::{NodeNo, SessionNo};
 
-impl Engine {
+impl ClusterState {
     /// The node's instance ends.
     pub(crate) fn crash(&mut self, node: NodeNo) -> Result<(), Stopped>
         requires { CanMake self.old.state (Event.Crash node) }

@@ -2,7 +2,7 @@
 ghost use Rattle.std.specs.Prelude.{◌≡◌};
 ghost use Rattle.cell_compaction.specs.Rest.{StandsAtRest};
 
-use crate::{Cluster, Engine};
+use crate::{Cluster, ClusterState};
 use cell_store::Cells;
 use commit_table::Table;
 use history_book::Book;
@@ -24,7 +24,7 @@ impl Cluster {
         ensures at_rest { StandsAtRest self.history self.state.rows self.state.pairs }
     {
         let Cluster { engine } = self;
-        let Engine {
+        let ClusterState {
             cells,
             table,
             book,

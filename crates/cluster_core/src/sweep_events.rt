@@ -2,17 +2,17 @@
 ghost use Rattle.port_io.specs.declared.weather.Fate.TheVariants.{Works};
 ghost use Rattle.machine.specs.Machine.{stepped, asks};
 ghost use Rattle.event_parts.specs.Made.{Asks};
-ghost use Rattle.cluster_core.specs.Whole.{MakesStep, step_under};
+ghost use Rattle.cluster_core.specs.ClusterModel.{MakesStep, step_under};
 ghost use Rattle.cluster_core.specs.Served.{LeavesRoom};
 ghost use Rattle.cluster_core.specs.Required.{CanMake};
 
-use crate::Engine;
+use crate::ClusterState;
 use event_parts::Stopped;
 use machine::Event;
 use port_io::Weather;
 use stamp_base::{NodeNo, TxnId};
 
-impl Engine {
+impl ClusterState {
     /// The janitor begins to sweep a transaction, by the epoch of the node's instance.
     pub(crate) fn sweep_open(&mut self, node: NodeNo, txn: TxnId) -> Result<(), Stopped>
         ensures made { MakesStep (stepped self.old.state (Event.SweepOpen node txn) Works) self.old self.new result }

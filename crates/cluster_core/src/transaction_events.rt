@@ -2,17 +2,17 @@
 ghost use Rattle.port_io.specs.declared.weather.Fate.TheVariants.{Works};
 ghost use Rattle.machine.specs.Machine.{stepped, asks};
 ghost use Rattle.event_parts.specs.Made.{Asks};
-ghost use Rattle.cluster_core.specs.Whole.{MakesStep, step_under};
+ghost use Rattle.cluster_core.specs.ClusterModel.{MakesStep, step_under};
 ghost use Rattle.cluster_core.specs.Served.{LeavesRoom};
 ghost use Rattle.cluster_core.specs.Required.{CanMake};
 
-use crate::Engine;
+use crate::ClusterState;
 use event_parts::Stopped;
 use machine::Event;
 use port_io::Weather;
 use stamp_base::{KeyNo, SessionNo, Value};
 
-impl Engine {
+impl ClusterState {
     /// The session writes a value at a key.
     pub(crate) fn write<W: Weather>(
         &mut self,

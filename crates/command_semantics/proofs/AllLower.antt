@@ -13,12 +13,12 @@ use Rattle.machine.specs.State.{State}
 use Rattle.machine.specs.Machine.{stepped}
 use Rattle.script_data.specs.declared.line.Verb.{Verb}
 use Rattle.script_data.specs.declared.line.Verb.TheVariants as verb
-use Rattle.isolation_laws.specs.Sound.{Stands}
-use Rattle.command_semantics.specs.declared.point.Halt.{Halt}
-use Rattle.command_semantics.specs.declared.point.Halt.TheVariants.{NoStamp, NotYet, Refused, Faulted}
+use Rattle.isolation_laws.specs.Sound.{ReachedInvariant}
+use Rattle.command_semantics.specs.declared.point.Interruption.{Interruption}
+use Rattle.command_semantics.specs.declared.point.Interruption.TheVariants.{NoStamp, NotYet, Refused, Faulted}
 use Rattle.command_semantics.specs.declared.point.Point.{Point}
 use Rattle.command_semantics.specs.declared.point.Point.TheVariants.{Opens, Drives, Extends, Finishes, Reads, Steps, Over}
-use Rattle.command_semantics.specs.Halts.{halt_of, unless_halted, after_write, after_serving, after_extending, after_stepping, after_opening, follows}
+use Rattle.command_semantics.specs.Interruptions.{halt_of, unless_halted, after_write, after_serving, after_extending, after_stepping, after_opening, follows}
 use Rattle.command_semantics.specs.Views.{view_of}
 use Rattle.command_semantics.specs.Next.{opens_alone, sweep_next, janitor_opens, janitor_next}
 use Rattle.command_semantics.specs.Left.{one_left, sweep_left, janitor_left}
@@ -27,32 +27,32 @@ use Rattle.command_semantics.proofs.Sweeping.{sweep_open_lowers, sweep_first, sw
 use Rattle.command_semantics.proofs.Lowering.{session_lowers}
 
 -- ---- a run never opens again
-unless_none : (at : Point) (halt : Option Halt) → one_left at ≡ 0 → one_left (unless_halted at halt) ≡ 0
+unless_none : (at : Point) (halt : Option Interruption) → one_left at ≡ 0 → one_left (unless_halted at halt) ≡ 0
 unless_none at None none = none
 unless_none at (Some halt) none = refl
 
-write_none : (halt : Option Halt) → one_left (after_write halt) ≡ 0
+write_none : (halt : Option Interruption) → one_left (after_write halt) ≡ 0
 write_none None = refl
 write_none (Some NoStamp) = refl
 write_none (Some NotYet) = refl
 write_none (Some Refused) = refl
 write_none (Some Faulted) = refl
 
-serving_none : (halt : Option Halt) → one_left (after_serving halt) ≡ 0
+serving_none : (halt : Option Interruption) → one_left (after_serving halt) ≡ 0
 serving_none None = refl
 serving_none (Some NoStamp) = refl
 serving_none (Some NotYet) = refl
 serving_none (Some Refused) = refl
 serving_none (Some Faulted) = refl
 
-stepping_none : (halt : Option Halt) → one_left (after_stepping halt) ≡ 0
+stepping_none : (halt : Option Interruption) → one_left (after_stepping halt) ≡ 0
 stepping_none None = refl
 stepping_none (Some NoStamp) = refl
 stepping_none (Some NotYet) = refl
 stepping_none (Some Refused) = refl
 stepping_none (Some Faulted) = refl
 
-opened_once : (line : Verb) (halt : Option Halt) → one_left (after_opening line halt) ≡ 0
+opened_once : (line : Verb) (halt : Option Interruption) → one_left (after_opening line halt) ≡ 0
 opened_once (verb.Begin target) halt = unless_none Drives halt refl
 opened_once (verb.Commit target) halt = unless_none Drives halt refl
 opened_once (verb.Submit target) halt = unless_none Drives halt refl
@@ -64,14 +64,14 @@ opened_once verb.Finish halt = stepping_none halt
 opened_once (verb.Sweep node txn) halt = unless_none Steps halt refl
 opened_once _ halt = refl
 
-extending_none : (halt : Option Halt) → one_left (after_extending halt) ≡ 0
+extending_none : (halt : Option Interruption) → one_left (after_extending halt) ≡ 0
 extending_none None = refl
 extending_none (Some NoStamp) = refl
 extending_none (Some NotYet) = refl
 extending_none (Some Refused) = refl
 extending_none (Some Faulted) = refl
 
-pub followed_once : (line : Verb) (at : Point) (halt : Option Halt) → one_left (follows line at halt) ≡ 0
+pub followed_once : (line : Verb) (at : Point) (halt : Option Interruption) → one_left (follows line at halt) ≡ 0
 followed_once line Opens halt = opened_once line halt
 followed_once line Drives halt = serving_none halt
 followed_once line Extends halt = extending_none halt
@@ -81,7 +81,7 @@ followed_once line Steps halt = stepping_none halt
 followed_once line Over halt = refl
 
 -- ---- lines of one event
-alone_lowers : (line : Verb) (at : Point) (halt : Option Halt) (first : Option Event) (e : Event) → opens_alone first at ≡ Some e → one_left (follows line at halt) < one_left at
+alone_lowers : (line : Verb) (at : Point) (halt : Option Interruption) (first : Option Event) (e : Event) → opens_alone first at ≡ Some e → one_left (follows line at halt) < one_left at
 alone_lowers line Opens halt first e is = omega (arith, opened_once line halt)
 alone_lowers line _ halt first e is = absurd (none-some e is)
 
@@ -90,14 +90,14 @@ abbrev JanitorLowers : State → Verb → Point → Event → Fate → Type 0
 JanitorLowers w line at e fate = janitor_left (stepped w e fate).state line (follows line at (halt_of (stepped w e fate).stop)) < janitor_left w line at
 
 -- a step of a sweep that stops ends the run
-ends_so : (w : State) (line : Verb) (halt : Option Halt) (bound : ℕ) → janitor_left w line (unless_halted Steps halt) < bound → janitor_left w line (after_stepping halt) < bound
+ends_so : (w : State) (line : Verb) (halt : Option Interruption) (bound : ℕ) → janitor_left w line (unless_halted Steps halt) < bound → janitor_left w line (after_stepping halt) < bound
 ends_so w line None bound less = less
 ends_so w line (Some NoStamp) bound less = less
 ends_so w line (Some NotYet) bound less = less
 ends_so w line (Some Refused) bound less = less
 ends_so w line (Some Faulted) bound less = less
 
-janitor_opened : (w : State) (h : List Item) (line : Verb) (fate : Fate) (e : Event) → Stands w h → janitor_opens line ≡ Some e → JanitorLowers w line Opens e fate
+janitor_opened : (w : State) (h : List Item) (line : Verb) (fate : Fate) (e : Event) → ReachedInvariant w h → janitor_opens line ≡ Some e → JanitorLowers w line Opens e fate
 janitor_opened w h (verb.Sweep node txn) fate e stands is = subst (λ (x : Event). JanitorLowers w (verb.Sweep node txn) Opens x fate) (same_Some (event.SweepOpen node txn) e is) (sweep_open_lowers w node txn (verb.Sweep node txn) fate)
 janitor_opened w h verb.Finish fate e stands is = subst (λ (x : Event). JanitorLowers w verb.Finish Opens x fate) (same_Some event.SweepStep e is) (ends_so (stepped w event.SweepStep fate).state verb.Finish (halt_of (stepped w event.SweepStep fate).stop) (1 + sweep_left w.rows w.sweep) (sweep_first w h verb.Finish fate stands))
 janitor_opened w h (verb.OpenSweep node txn) fate e stands is = omega arith
@@ -106,11 +106,11 @@ janitor_opened w h (verb.Post name) fate e stands is = omega arith
 janitor_opened w h (verb.Await name) fate e stands is = omega arith
 janitor_opened w h _ fate e stands is = absurd (none-some e is)
 
-swept_on : (w : State) (h : List Item) (line : Verb) (fate : Fate) (e : Event) → Stands w h → (sweep : Option Sweeping) → w.sweep ≡ sweep → sweep_next (is_some sweep) ≡ Some e → JanitorLowers w line Steps e fate
+swept_on : (w : State) (h : List Item) (line : Verb) (fate : Fate) (e : Event) → ReachedInvariant w h → (sweep : Option Sweeping) → w.sweep ≡ sweep → sweep_next (is_some sweep) ≡ Some e → JanitorLowers w line Steps e fate
 swept_on w h line fate e stands None is go = absurd (none-some e go)
 swept_on w h line fate e stands (Some s) is go = subst (λ (x : Event). JanitorLowers w line Steps x fate) (same_Some event.SweepStep e go) (ends_so (stepped w event.SweepStep fate).state line (halt_of (stepped w event.SweepStep fate).stop) (sweep_left w.rows w.sweep) (sweep_lowers w h line fate s stands is))
 
-janitor_lowers : (w : State) (h : List Item) (line : Verb) (at : Point) (fate : Fate) (e : Event) → Stands w h → janitor_next line (view_of w Janitor) at ≡ Some e → JanitorLowers w line at e fate
+janitor_lowers : (w : State) (h : List Item) (line : Verb) (at : Point) (fate : Fate) (e : Event) → ReachedInvariant w h → janitor_next line (view_of w Janitor) at ≡ Some e → JanitorLowers w line at e fate
 janitor_lowers w h line Opens fate e stands is = janitor_opened w h line fate e stands is
 janitor_lowers w h line Steps fate e stands is = swept_on w h line fate e stands w.sweep refl is
 janitor_lowers w h line _ fate e stands is = absurd (none-some e is)

@@ -17,8 +17,8 @@ use Rattle.machine.specs.Events.Write.{write_asks}
 use Rattle.machine.specs.Events.Fetch.{fetch_asks}
 use Rattle.machine.specs.Events.Step.{step_asks}
 use Rattle.machine.specs.Events.Heal.{heal_asks}
-use Rattle.isolation_laws.specs.Sound.{Stands}
-use Rattle.cause_laws.specs.Shows.{Shows}
+use Rattle.isolation_laws.specs.Sound.{ReachedInvariant}
+use Rattle.cause_laws.specs.ShownInvariant.{ShownInvariant}
 use Rattle.command_semantics.specs.Next.{Clocks}
 use Rattle.command_semantics.specs.SoFar.{ReadsClocks}
 use Rattle.command_semantics.proofs.ReadItems.{Made, made_none, made_one, post_made, client_made, node_made, session_made, both_made}
@@ -27,7 +27,7 @@ use Rattle.command_semantics.proofs.MadeOfRequests.{Expires, Accepts, accept_on_
 use Rattle.command_semantics.proofs.MadeOfSessions.{crash_on_made, ask_begin_on_made, ask_commit_on_made, abort_on_made, vanish_on_made, write_on_made, fetch_on_made}
 use Rattle.command_semantics.proofs.MadeOfSteps.{heal_on_made, step_on_made, sweep_open_on_made, sweep_step_on_made}
 
-pub all_made : (clocks : Clocks) (w : State) (h : List Item) (e : Event) (fate : Fate) → Stands w h → Shows w h → ReadsClocks clocks None e → Made clocks (asks w e) fate (stepped w e fate).items ⊎ Expires clocks h (stepped w e fate).items
+pub all_made : (clocks : Clocks) (w : State) (h : List Item) (e : Event) (fate : Fate) → ReachedInvariant w h → ShownInvariant w h → ReadsClocks clocks None e → Made clocks (asks w e) fate (stepped w e fate).items ⊎ Expires clocks h (stepped w e fate).items
 all_made clocks w h (event.Tick to) fate stands shows reads = absurd reads
 all_made clocks w h (event.Note actor note) fate stands shows reads = inl (made_one clocks None fate (item.Note actor note) tt)
 all_made clocks w h (event.Take node reading) fate stands shows reads = inl (post_made clocks fate w (with_reading w reading) node _ take_asks (λ post at. take_on_made clocks w node reading fate post reads.1) (slice_get w.nodes node) refl)

@@ -20,8 +20,8 @@ use Rattle.isolation_laws.specs.Words.{ClientAt}
 use Rattle.command_semantics.specs.Next.{finish_next, placing_next, idle_next, read_next, steps_next}
 use Rattle.machine.specs.Effect.{refused}
 use Rattle.machine.specs.declared.event.Doing.TheVariants as doing
-use Rattle.command_semantics.specs.Halts.{refused_by}
-use Rattle.command_semantics.specs.declared.point.Halt.TheVariants.{Refused}
+use Rattle.command_semantics.specs.Interruptions.{refused_by}
+use Rattle.command_semantics.specs.declared.point.Interruption.TheVariants.{Refused}
 use Rattle.command_semantics.proofs.Working.{HasWork}
 use Rattle.command_semantics.proofs.Stepping.{stores_step}
 

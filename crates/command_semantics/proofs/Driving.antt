@@ -27,7 +27,7 @@ use Rattle.machine.specs.Events.Answer.{answer_request, answer_on}
 use Rattle.machine.specs.Readers.{holder_from, place_held, place_of, is_commit, asks_commit}
 use Rattle.script_data.specs.declared.line.Verb.{Verb}
 use Rattle.isolation_laws.specs.Words.{ClientAt}
-use Rattle.isolation_laws.specs.Sound.{Stands}
+use Rattle.isolation_laws.specs.Sound.{ReachedInvariant}
 use Rattle.machine.proofs.Lookups.{held_by}
 use Rattle.command_semantics.specs.declared.point.Point.{Point}
 use Rattle.command_semantics.specs.Next.{Clocks, serves}
@@ -43,7 +43,7 @@ use Rattle.command_semantics.proofs.Working.{PlaceWork}
 use Rattle.command_semantics.proofs.Stepping.{FewerAsks, placed_step, place_is, place_settles}
 
 -- a request that stands somewhere can be served: its client is there
-pub serving_at : (w : State) (h : List Item) (s : ℕ) (request : ℕ × Place) → Stands w h → place_of w s ≡ Some request → Serving w h s request
+pub serving_at : (w : State) (h : List Item) (s : ℕ) (request : ℕ × Place) → ReachedInvariant w h → place_of w s ≡ Some request → Serving w h s request
 serving_at w h s request stands at =
     let served : Served w s request = is_served_at w s request at in
     let i : InstanceEntry = served.holder.i in
@@ -70,7 +70,7 @@ served_by clocks w h node s verb fate held (Begin asker) (progress.Handed commit
 served_by clocks w h node s verb fate held (Commit asker start keys) (progress.Settled commit by) asks stands k is = answer_commit_lowers w h node s fate verb k asker start commit keys by (ap (λ (x : Held). x.request) is ∙ asks) (ap (λ (x : Held). x.progress) is ∙ stands)
 served_by clocks w h node s verb fate held (Commit asker start keys) (progress.Handed commit) asks stands k is = answer_handed_lowers w h node s fate verb k asker start commit keys (ap (λ (x : Held). x.request) is ∙ asks) (ap (λ (x : Held). x.progress) is ∙ stands)
 
-pub serves_lower : (clocks : Clocks) (w : State) (h : List Item) (s : ℕ) (request : ℕ × Place) (verb : Verb) (fate : Fate) → Stands w h → place_of w s ≡ Some request → Lowers w s verb (stepped w (serves clocks s request.0 (asks_commit w s) request.1) fate)
+pub serves_lower : (clocks : Clocks) (w : State) (h : List Item) (s : ℕ) (request : ℕ × Place) (verb : Verb) (fate : Fate) → ReachedInvariant w h → place_of w s ≡ Some request → Lowers w s verb (stepped w (serves clocks s request.0 (asks_commit w s) request.1) fate)
 serves_lower clocks w h s request verb fate stands at =
     let first : Serving w h s request = serving_at w h s request stands at in
     let held : Held = first.served.held in

@@ -13,10 +13,10 @@ use Rattle.script_data.specs.declared.line.Line.{Line}
 use Rattle.script_data.specs.declared.line.Verb.{Verb}
 use Rattle.script_data.specs.Data.{ScriptData}
 use Rattle.isolation_laws.proofs.AlwaysHolds.{facts_stay, stands_at_first}
-use Rattle.command_semantics.specs.declared.point.Halt.{Halt}
+use Rattle.command_semantics.specs.declared.point.Interruption.{Interruption}
 use Rattle.command_semantics.specs.declared.point.Point.{Point}
 use Rattle.command_semantics.specs.declared.point.Point.TheVariants.{Opens}
-use Rattle.command_semantics.specs.Halts.{halt_of, follows}
+use Rattle.command_semantics.specs.Interruptions.{halt_of, follows}
 use Rattle.command_semantics.specs.Views.{view_of}
 use Rattle.command_semantics.specs.Next.{Clocks}
 use Rattle.command_semantics.specs.Left.{one_left}
@@ -45,7 +45,7 @@ tick_after : (line : Verb) (at : Point) → one_left at ≡ 0 → tick_ahead at 
 tick_after line Opens none = absurd (cc)
 tick_after line _ none = refl
 
-tick_gone : (line : Verb) (at : Point) (halt : Option Halt) → tick_ahead (follows line at halt) line ≡ 0
+tick_gone : (line : Verb) (at : Point) (halt : Option Interruption) → tick_ahead (follows line at halt) line ≡ 0
 tick_gone line at halt = tick_after line (follows line at halt) (followed_once line at halt)
 
 on_time : (P : State → List Item → Type 0) (script : ScriptData) (line : Line) (most : ℕ) (r : Run) → Going P script line most r → OnTime (clocks_of script r.played) script.setup.skew r.played.state.seen

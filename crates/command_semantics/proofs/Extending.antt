@@ -26,7 +26,7 @@ use Rattle.machine.specs.Machine.{Step, step_by, with_post, at_post, stepped}
 use Rattle.machine.specs.Events.Extend.{extend_by, extend_on}
 use Rattle.machine.specs.Events.Take.{rules_of}
 use Rattle.script_data.specs.declared.line.Verb.{Verb}
-use Rattle.command_semantics.specs.Halts.{halt_of, after_extending}
+use Rattle.command_semantics.specs.Interruptions.{halt_of, after_extending}
 use Rattle.command_semantics.specs.Left.{of_client, client_ends, lacks_stamps, place_left, drive_left, session_left}
 use Rattle.command_semantics.proofs.Clients.{settles_within}
 use Rattle.command_semantics.proofs.Holders.{drives_on}

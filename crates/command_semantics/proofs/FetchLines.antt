@@ -25,7 +25,7 @@ use Rattle.machine.specs.Machine.{Step, step_by, with_client, at_client, stepped
 use Rattle.machine.specs.Events.Fetch.{fetch_recall, marks_every, keeps_read, reads_refusal, client_fetched, found_of, client_read, read_items, fetch_open, fetch_on}
 use Rattle.script_data.specs.declared.line.Verb.TheVariants as verb
 use Rattle.isolation_laws.specs.Words.{ClientAt}
-use Rattle.isolation_laws.specs.Sound.{Stands}
+use Rattle.isolation_laws.specs.Sound.{ReachedInvariant}
 use Rattle.machine.proofs.Lookups.{set_found}
 use Rattle.command_semantics.specs.Answers.{RefusesLine, IsFetch, IsRefusal, read_begun}
 use Rattle.command_semantics.proofs.Fitting.{fit_at}
@@ -101,6 +101,6 @@ done_by w s key fate c phase.Open true start epoch at is has sees = inl (refusal
 done_by w s key fate c phase.Open false start epoch at is has sees = room_done w s key fate c start epoch (keeps_read w.setup c key) (has_key c.reads key || nat_lt (length c.reads) KEY_LIMIT) at is has sees
 done_by w s key fate c _ reading start epoch at is has sees = inl (refusal_line s key _ tt)
 
-pub fetch_done : (w : State) (h : List Item) (s key : ℕ) (fate : Fate) (c : Client) → Stands w h → Fit w → ClientAt w.clients s c → FetchDone s key (stepped w (event.Fetch s key) fate)
+pub fetch_done : (w : State) (h : List Item) (s key : ℕ) (fate : Fate) (c : Client) → ReachedInvariant w h → Fit w → ClientAt w.clients s c → FetchDone s key (stepped w (event.Fetch s key) fate)
 fetch_done w h s key fate c stands fit at =
     subst (λ (there : Option Client). FetchDone s key (at_client w there (λ d. step_by (fetch_on w.setup s key fate d w.rows) (λ (p : Client). with_client w s p)))) (sym at) (done_by w s key fate c c.entry.state (is_reading c) c.entry.start c.entry.epoch at refl (starts w h s c stands at) (fit_at w.clients s c fit.epochs at))

@@ -10,7 +10,7 @@ use Rattle.system_parts.specs.Instance.{InstanceEntry, held_of, place_of_progres
 use Rattle.machine.specs.State.{Client, State}
 use Rattle.machine.specs.Readers.{held_at, first_holder, holder_from, holder_of, place_held, place_of, is_commit, commit_held, asks_commit}
 use Rattle.isolation_laws.specs.Words.{InstanceAt}
-use Rattle.isolation_laws.specs.Sound.{Stands}
+use Rattle.isolation_laws.specs.Sound.{ReachedInvariant}
 use Rattle.machine.proofs.Lookups.{set_found, instance_changed, held_by}
 use Rattle.command_semantics.specs.Left.{of_client, client_settles, client_ends, lacks_stamps, lacks_at, place_left, request_left, drive_left_by, drive_left}
 
@@ -72,7 +72,7 @@ is_served_at w s request at = served_by w s request (holder_of w s) refl at
 -- ---- after the holder has changed
 -- the node holds the session's request alone, and has this instance now
 pub record Changed (w left : State) (h : List Item) (node s : ℕ) (now : InstanceEntry) : Type 0 where
-  pub stands : Stands w h
+  pub stands : ReachedInvariant w h
   pub held : Held
   pub holder : Holder w.nodes node s held
   pub nodes : left.nodes ≡ slice_set w.nodes node (Some now)

@@ -20,10 +20,10 @@ use Rattle.script_data.specs.declared.line.Target.TheVariants as target
 use Rattle.script_data.specs.declared.line.Verb.{Verb}
 use Rattle.script_data.specs.declared.line.Verb.TheVariants as verb
 use Rattle.script_data.specs.Data.{ScriptData}
-use Rattle.isolation_laws.specs.Sound.{Stands}
+use Rattle.isolation_laws.specs.Sound.{ReachedInvariant}
 use Rattle.command_semantics.specs.declared.point.Point.{Point}
 use Rattle.command_semantics.specs.declared.point.Point.TheVariants.{Opens, Drives, Extends, Finishes, Reads, Steps, Over}
-use Rattle.command_semantics.specs.Halts.{halt_of, follows}
+use Rattle.command_semantics.specs.Interruptions.{halt_of, follows}
 use Rattle.command_semantics.specs.Views.{view_of}
 use Rattle.command_semantics.specs.Master.{last_master}
 use Rattle.command_semantics.specs.Next.{Clocks, target_node, read_next, next}
@@ -55,7 +55,7 @@ run_keeps P script line most J keeps each (suc n) r going now = on_by P script l
 
 -- the facts hold, the parts are there, and so are the nodes that have taken the record
 abbrev pub IsFit : State → List Item → Type 0
-IsFit w h = Stands w h × Fit w × TakesFit w.setup.nodes h
+IsFit w h = ReachedInvariant w h × Fit w × TakesFit w.setup.nodes h
 
 going_master : (script : ScriptData) (line : Line) (most : ℕ) (r : Run) → Going IsFit script line most r → (clocks_of script r.played).master < r.played.state.setup.nodes
 going_master script line most r going = last_fits r.played.state.setup.nodes r.played.items going.has.2
@@ -78,11 +78,11 @@ begins_not asks actor who line items differ k = subst (λ (xs : List Item). AllN
 abbrev pub asks_by : Clocks → Target → ℕ → Type 0
 asks_by clocks to node = node ≡ target_node clocks to
 
-first_not : (actor : Actor) (clocks : Clocks) (w : State) (h : List Item) (line : Line) (e : Event) (fate : Fate) → Stands w h → Fit w → ActorFits w.setup line.actor → VerbFits w.setup line.verb → clocks.master < w.setup.nodes → (has_opening line.actor line.verb ≡ true → line.actor ≡ actor → ⊥) → (has : Bool) → has_opening line.actor line.verb ≡ has → next clocks line.actor line.verb Opens (view_of w line.actor) ≡ Some e → AllNot actor (stepped w e fate).items
+first_not : (actor : Actor) (clocks : Clocks) (w : State) (h : List Item) (line : Line) (e : Event) (fate : Fate) → ReachedInvariant w h → Fit w → ActorFits w.setup line.actor → VerbFits w.setup line.verb → clocks.master < w.setup.nodes → (has_opening line.actor line.verb ≡ true → line.actor ≡ actor → ⊥) → (has : Bool) → has_opening line.actor line.verb ≡ has → next clocks line.actor line.verb Opens (view_of w line.actor) ≡ Some e → AllNot actor (stepped w e fate).items
 first_not actor clocks w h line e fate stands fit in_range fits master differ false none is = plain_not actor (stepped w e fate).items (events_plain w e fate (first_opens_none clocks line.actor line.verb (view_of w line.actor) e none is))
 first_not actor clocks w h line e fate stands fit in_range fits master differ true opening is = begins_not (asks_by clocks) actor line.actor line.verb (stepped w e fate).items (differ opening) (line_answered (asks_by clocks) clocks w h line.actor line.verb (view_of w line.actor) e fate stands fit in_range fits master (λ to. refl) opening is)
 
-pub any_not : (actor : Actor) (clocks : Clocks) (w : State) (h : List Item) (line : Line) (at : Point) (e : Event) (fate : Fate) → Stands w h → Fit w → ActorFits w.setup line.actor → VerbFits w.setup line.verb → clocks.master < w.setup.nodes → (has_opening line.actor line.verb ≡ true → line.actor ≡ actor → ⊥) → next clocks line.actor line.verb at (view_of w line.actor) ≡ Some e → AllNot actor (stepped w e fate).items
+pub any_not : (actor : Actor) (clocks : Clocks) (w : State) (h : List Item) (line : Line) (at : Point) (e : Event) (fate : Fate) → ReachedInvariant w h → Fit w → ActorFits w.setup line.actor → VerbFits w.setup line.verb → clocks.master < w.setup.nodes → (has_opening line.actor line.verb ≡ true → line.actor ≡ actor → ⊥) → next clocks line.actor line.verb at (view_of w line.actor) ≡ Some e → AllNot actor (stepped w e fate).items
 any_not actor clocks w h line Opens e fate stands fit in_range fits master differ is = first_not actor clocks w h line e fate stands fit in_range fits master differ (has_opening line.actor line.verb) refl is
 any_not actor clocks w h line Drives e fate stands fit in_range fits master differ is = later_plain clocks w line.actor actor line.verb Drives (view_of w line.actor) e fate tt is
 any_not actor clocks w h line Extends e fate stands fit in_range fits master differ is = later_plain clocks w line.actor actor line.verb Extends (view_of w line.actor) e fate tt is

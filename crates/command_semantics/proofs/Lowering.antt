@@ -21,11 +21,11 @@ use Rattle.machine.specs.Readers.{client_doing, doing_at, doing_of, place_of, as
 use Rattle.script_data.specs.declared.line.Verb.{Verb}
 use Rattle.script_data.specs.declared.line.Verb.TheVariants as verb
 use Rattle.isolation_laws.specs.Words.{ClientAt}
-use Rattle.isolation_laws.specs.Sound.{Stands}
-use Rattle.command_semantics.specs.declared.point.Halt.{Halt}
+use Rattle.isolation_laws.specs.Sound.{ReachedInvariant}
+use Rattle.command_semantics.specs.declared.point.Interruption.{Interruption}
 use Rattle.command_semantics.specs.declared.point.Point.{Point}
 use Rattle.command_semantics.specs.declared.point.Point.TheVariants.{Opens, Drives, Extends, Finishes, Reads, Steps, Over}
-use Rattle.command_semantics.specs.Halts.{halt_of, after_serving, after_stepping, follows, refused_by}
+use Rattle.command_semantics.specs.Interruptions.{halt_of, after_serving, after_stepping, follows, refused_by}
 use Rattle.command_semantics.specs.Views.{view_of}
 use Rattle.command_semantics.specs.Next.{Clocks, target_node, serves, is_served, places, finish_next, placing_next, drive_next, extend_by, extend_next, idle_next, collect_next, read_next, steps_next, session_opens, session_next}
 use Rattle.command_semantics.specs.Left.{asks_left, steps_left, steps_due, keys_of, of_client, client_completes, client_reads, client_steps, drive_left, session_left}
@@ -35,7 +35,7 @@ use Rattle.command_semantics.proofs.Extending.{extend_lowers}
 use Rattle.command_semantics.proofs.Working.{CompleteWork, HasWork, completes, places_commit, has_work}
 use Rattle.command_semantics.proofs.Stepping.{StepsEnd, stores_step, LowersAt, steps_lower, reads_lower, completes_lower}
 use Rattle.command_semantics.proofs.Opening.{halted_less, begin_lowers, commit_lowers, write_lowers, abort_lowers, fetch_lowers}
-use Rattle.command_semantics.specs.declared.point.Halt.TheVariants.{Refused}
+use Rattle.command_semantics.specs.declared.point.Interruption.TheVariants.{Refused}
 use Rattle.command_semantics.proofs.Doings.{Finishing, finishing_by, Placing, placing_by, Stepping, stepping_by, ReadingOn, reading_by, idling_by, not_idle, step_refused, plainly_refused, refused_unhanded}
 use Rattle.command_semantics.proofs.Driving.{serving_at, serves_lower, undriven_at, completion_lowers, placing_lowers, finish_lowers}
 
@@ -44,7 +44,7 @@ abbrev pub SessionLowers : State → ℕ → Verb → Point → Event → Fate �
 SessionLowers w s verb point e fate = session_left (stepped w e fate).state s verb (follows verb point (halt_of (stepped w e fate).stop)) < session_left w s verb point
 
 -- ---- a completion
-finish_at : (w : State) (h : List Item) (s : ℕ) (verb : Verb) (fate : Fate) (e : Event) → Stands w h → (found : Option Client) → slice_get w.clients s ≡ found → finish_next s (doing_at found) ≡ Some e → SessionLowers w s verb Finishes e fate
+finish_at : (w : State) (h : List Item) (s : ℕ) (verb : Verb) (fate : Fate) (e : Event) → ReachedInvariant w h → (found : Option Client) → slice_get w.clients s ≡ found → finish_next s (doing_at found) ≡ Some e → SessionLowers w s verb Finishes e fate
 finish_at w h s verb fate e stands None at is = absurd (none-some e is)
 finish_at w h s verb fate e stands (Some c) at is =
     let k : Finishing s c.entry.state e = finishing_by s c.entry.state (is_reading c) e is in
@@ -54,37 +54,37 @@ finish_at w h s verb fate e stands (Some c) at is =
     subst (λ (x : Event). SessionLowers w s verb Finishes x fate) k.event_is (halted_less step.state s verb Finishes (halt_of step.stop) (session_left w s verb Finishes) less)
 
 -- a placing, or a completion, where no request is left
-settled_by : (w : State) (h : List Item) (s : ℕ) (verb : Verb) (fate : Fate) (c : Client) (e : Event) → Stands w h → place_of w s ≡ None → ClientAt w.clients s c → Placing s c.entry.state e ⊎ Finishing s c.entry.state e → Lowers w s verb (stepped w e fate)
+settled_by : (w : State) (h : List Item) (s : ℕ) (verb : Verb) (fate : Fate) (c : Client) (e : Event) → ReachedInvariant w h → place_of w s ≡ None → ClientAt w.clients s c → Placing s c.entry.state e ⊎ Finishing s c.entry.state e → Lowers w s verb (stepped w e fate)
 settled_by w h s verb fate c e stands none at (inl k) = subst (λ (x : Event). Lowers w s verb (stepped w x fate)) k.event_is (placing_lowers w s verb fate c (places_commit w h s c stands at k.state_is) at none)
 settled_by w h s verb fate c e stands none at (inr k) =
     let work : CompleteWork c = completes w h s c stands at k.undo k.state_is in
     subst (λ (x : Event). Lowers w s verb (stepped w x fate)) k.event_is (completion_lowers w s verb c (stepped w (event.Step s) fate) at none (completes_lower w s fate c work at))
 
-settled_at : (w : State) (h : List Item) (s : ℕ) (verb : Verb) (fate : Fate) (e : Event) (placed : Bool) → Stands w h → place_of w s ≡ None → (found : Option Client) → slice_get w.clients s ≡ found → placing_next s (doing_at found) placed ≡ Some e → Lowers w s verb (stepped w e fate)
+settled_at : (w : State) (h : List Item) (s : ℕ) (verb : Verb) (fate : Fate) (e : Event) (placed : Bool) → ReachedInvariant w h → place_of w s ≡ None → (found : Option Client) → slice_get w.clients s ≡ found → placing_next s (doing_at found) placed ≡ Some e → Lowers w s verb (stepped w e fate)
 settled_at w h s verb fate e placed stands none None at is = absurd (none-some e is)
 settled_at w h s verb fate e placed stands none (Some c) at is = settled_by w h s verb fate c e stands none at (placing_by s c.entry.state (is_reading c) placed e is)
 
 -- ---- a request that is driven
-served_if : (clocks : Clocks) (w : State) (h : List Item) (s : ℕ) (verb : Verb) (fate : Fate) (e : Event) (request : ℕ × Place) → Stands w h → place_of w s ≡ Some request → (served : Bool) → cond served (Some (serves clocks s request.0 (asks_commit w s) request.1)) None ≡ Some e → Lowers w s verb (stepped w e fate)
+served_if : (clocks : Clocks) (w : State) (h : List Item) (s : ℕ) (verb : Verb) (fate : Fate) (e : Event) (request : ℕ × Place) → ReachedInvariant w h → place_of w s ≡ Some request → (served : Bool) → cond served (Some (serves clocks s request.0 (asks_commit w s) request.1)) None ≡ Some e → Lowers w s verb (stepped w e fate)
 served_if clocks w h s verb fate e request stands at false is = absurd (none-some e is)
 served_if clocks w h s verb fate e request stands at true is = subst (λ (x : Event). Lowers w s verb (stepped w x fate)) (same_Some (serves clocks s request.0 (asks_commit w s) request.1) e is) (serves_lower clocks w h s request verb fate stands at)
 
-drive_at : (clocks : Clocks) (w : State) (h : List Item) (s : ℕ) (line verb : Verb) (fate : Fate) (e : Event) → Stands w h → (request : Option (ℕ × Place)) → place_of w s ≡ request → drive_next clocks s line (view_of w (Session s)) request ≡ Some e → Lowers w s verb (stepped w e fate)
+drive_at : (clocks : Clocks) (w : State) (h : List Item) (s : ℕ) (line verb : Verb) (fate : Fate) (e : Event) → ReachedInvariant w h → (request : Option (ℕ × Place)) → place_of w s ≡ request → drive_next clocks s line (view_of w (Session s)) request ≡ Some e → Lowers w s verb (stepped w e fate)
 drive_at clocks w h s line verb fate e stands None at is = settled_at w h s verb fate e (places line) stands at (slice_get w.clients s) refl is
 drive_at clocks w h s line verb fate e stands (Some request) at is = served_if clocks w h s verb fate e request stands at (is_served line request.1) is
 
-extend_at : (w : State) (h : List Item) (s : ℕ) (verb : Verb) (fate : Fate) (e : Event) (node : ℕ) (at : Place) → Stands w h → place_of w s ≡ Some (node, at) → extend_by node at ≡ Some e → SessionLowers w s verb Extends e fate
+extend_at : (w : State) (h : List Item) (s : ℕ) (verb : Verb) (fate : Fate) (e : Event) (node : ℕ) (at : Place) → ReachedInvariant w h → place_of w s ≡ Some (node, at) → extend_by node at ≡ Some e → SessionLowers w s verb Extends e fate
 extend_at w h s verb fate e node place.Accepted stands there is = subst (λ (x : Event). SessionLowers w s verb Extends x fate) (same_Some (event.Extend node) e is) (extend_lowers w h node s fate verb (serving_at w h s (node, place.Accepted) stands there))
 extend_at w h s verb fate e node place.Asked stands there is = absurd (none-some e is)
 extend_at w h s verb fate e node place.Drawn stands there is = absurd (none-some e is)
 extend_at w h s verb fate e node place.Settled stands there is = absurd (none-some e is)
 
-extends_at : (w : State) (h : List Item) (s : ℕ) (verb : Verb) (fate : Fate) (e : Event) → Stands w h → (request : Option (ℕ × Place)) → place_of w s ≡ request → extend_next request ≡ Some e → SessionLowers w s verb Extends e fate
+extends_at : (w : State) (h : List Item) (s : ℕ) (verb : Verb) (fate : Fate) (e : Event) → ReachedInvariant w h → (request : Option (ℕ × Place)) → place_of w s ≡ request → extend_next request ≡ Some e → SessionLowers w s verb Extends e fate
 extends_at w h s verb fate e stands None at is = absurd (none-some e is)
 extends_at w h s verb fate e stands (Some request) at is = extend_at w h s verb fate e request.0 request.1 stands at is
 
 -- ---- what is under way
-steps_at : (ends : StepsEnd) (w : State) (h : List Item) (s : ℕ) (verb : Verb) (fate : Fate) (e : Event) → Stands w h → (found : Option Client) → slice_get w.clients s ≡ found → steps_next s (doing_at found) ≡ Some e → SessionLowers w s verb Steps e fate
+steps_at : (ends : StepsEnd) (w : State) (h : List Item) (s : ℕ) (verb : Verb) (fate : Fate) (e : Event) → ReachedInvariant w h → (found : Option Client) → slice_get w.clients s ≡ found → steps_next s (doing_at found) ≡ Some e → SessionLowers w s verb Steps e fate
 steps_at ends w h s verb fate e stands None at is = absurd (none-some e is)
 steps_at ends w h s verb fate e stands (Some c) at is =
     let k : Stepping s c.entry.state (is_reading c) e = stepping_by s c.entry.state (is_reading c) e is in
@@ -97,7 +97,7 @@ read_by ends w s verb fate c at goes is_open (inr (inl k)) = let clash : phase.O
 read_by ends w s verb fate c at goes is_open (inr (inr (inr k))) = let clash : phase.Open ≡ phase.Placing = sym is_open ∙ k.placing in absurd (cc)
 read_by ends w s verb fate c at goes is_open (inr (inr (inl k))) = let clash : phase.Open ≡ phase.Completing k.undo = sym is_open ∙ k.completing in absurd (cc)
 
-reads_at : (ends : StepsEnd) (w : State) (h : List Item) (s : ℕ) (verb : Verb) (fate : Fate) (e : Event) → Stands w h → (found : Option Client) → slice_get w.clients s ≡ found → read_next s (doing_at found) ≡ Some e → SessionLowers w s verb Reads e fate
+reads_at : (ends : StepsEnd) (w : State) (h : List Item) (s : ℕ) (verb : Verb) (fate : Fate) (e : Event) → ReachedInvariant w h → (found : Option Client) → slice_get w.clients s ≡ found → read_next s (doing_at found) ≡ Some e → SessionLowers w s verb Reads e fate
 reads_at ends w h s verb fate e stands None at is = absurd (none-some e is)
 reads_at ends w h s verb fate e stands (Some c) at is =
     let k : ReadingOn s c.entry.state (is_reading c) e = reading_by s c.entry.state (is_reading c) e is in
@@ -124,14 +124,14 @@ completes_within c none =
     let full : client_steps c ≡ steps_left (keys_of c) (work_of c) = ap (λ (due : Option (ℕ × ℕ)). steps_due (keys_of c) due (steps_left (keys_of c) (work_of c))) none in
     omega (arith, full, work_within c.entry.state c.entry (keys_of c) c.under_way)
 
-first_by : (ends : StepsEnd) (w : State) (h : List Item) (s : ℕ) (verb : Verb) (fate : Fate) (c : Client) → Stands w h → ClientAt w.clients s c → (why : Option Cause) → step_refusal c.entry.state (is_reading c) ≡ why → LowersAt Steps (1 + client_steps c) s verb (stepped w (event.Step s) fate)
+first_by : (ends : StepsEnd) (w : State) (h : List Item) (s : ℕ) (verb : Verb) (fate : Fate) (c : Client) → ReachedInvariant w h → ClientAt w.clients s c → (why : Option Cause) → step_refusal c.entry.state (is_reading c) ≡ why → LowersAt Steps (1 + client_steps c) s verb (stepped w (event.Step s) fate)
 first_by ends w h s verb fate c stands at (Some why) is =
     let plain : refused_by why ≡ Refused = plainly_refused c.entry.state (is_reading c) why is in
     let less : of_client (slice_get (slice_set w.clients s c) s) client_completes < 1 + client_steps c = omega (arith, client_now w.clients s c c client_completes at, completes_within c (refused_unhanded c.entry.state (is_reading c) c.entry.start c.entry.commit why is)) in
-    subst (λ (step : Step). LowersAt Steps (1 + client_steps c) s verb step) (sym (step_refused w s fate c why at is)) (subst (λ (halt : Halt). session_left (record w { clients = slice_set w.clients s c }) s verb (after_stepping (Some halt)) < 1 + client_steps c) (sym plain) less)
+    subst (λ (step : Step). LowersAt Steps (1 + client_steps c) s verb step) (sym (step_refused w s fate c why at is)) (subst (λ (halt : Interruption). session_left (record w { clients = slice_set w.clients s c }) s verb (after_stepping (Some halt)) < 1 + client_steps c) (sym plain) less)
 first_by ends w h s verb fate c stands at None is = omega (arith, steps_lower ends w s verb fate c at is (has_work w h s c stands at is))
 
-first_step : (ends : StepsEnd) (w : State) (h : List Item) (s : ℕ) (verb : Verb) (fate : Fate) → Stands w h → (found : Option Client) → slice_get w.clients s ≡ found → LowersAt Steps (1 + of_client found client_steps) s verb (stepped w (event.Step s) fate)
+first_step : (ends : StepsEnd) (w : State) (h : List Item) (s : ℕ) (verb : Verb) (fate : Fate) → ReachedInvariant w h → (found : Option Client) → slice_get w.clients s ≡ found → LowersAt Steps (1 + of_client found client_steps) s verb (stepped w (event.Step s) fate)
 first_step ends w h s verb fate stands None at =
     let is : stepped w (event.Step s) fate ≡ at_client w None (λ d. stores_step w s (step_on s fate d w.rows w.pairs)) = ap (λ (found : Option Client). at_client w found (λ d. stores_step w s (step_on s fate d w.rows w.pairs))) at in
     subst (λ (step : Step). LowersAt Steps 1 s verb step) (sym is) (omega (arith, ap (λ (x : Option Client). of_client x client_steps) at))
@@ -141,27 +141,27 @@ first_step ends w h s verb fate stands (Some c) at = first_by ends w h s verb fa
 abbrev CollectLowers : State → ℕ → Step → Type 0
 CollectLowers w s step = session_left step.state s verb.Collect (after_serving (halt_of step.stop)) < 1 + drive_left w s
 
-idle_by : (w : State) (h : List Item) (s : ℕ) (fate : Fate) (c : Client) (e : Event) → Stands w h → ClientAt w.clients s c → place_of w s ≡ None → idle_next s (client_doing c) ≡ Some e → (why : Option Cause) → step_refusal c.entry.state (is_reading c) ≡ why → CollectLowers w s (stepped w (event.Step s) fate)
+idle_by : (w : State) (h : List Item) (s : ℕ) (fate : Fate) (c : Client) (e : Event) → ReachedInvariant w h → ClientAt w.clients s c → place_of w s ≡ None → idle_next s (client_doing c) ≡ Some e → (why : Option Cause) → step_refusal c.entry.state (is_reading c) ≡ why → CollectLowers w s (stepped w (event.Step s) fate)
 idle_by w h s fate c e stands at none idle None is = absurd (not_idle s c e (has_work w h s c stands at is) idle)
 idle_by w h s fate c e stands at none idle (Some why) is =
     let plain : refused_by why ≡ Refused = plainly_refused c.entry.state (is_reading c) why is in
     let now : of_client (slice_get (slice_set w.clients s c) s) client_completes ≡ client_completes c = client_now w.clients s c c client_completes at in
     let full : drive_left w s ≡ client_completes c = undriven_at w s c at none ∙ ap (λ (due : Option (ℕ × ℕ)). steps_due (keys_of c) due (client_completes c)) (refused_unhanded c.entry.state (is_reading c) c.entry.start c.entry.commit why is) in
     let less : of_client (slice_get (slice_set w.clients s c) s) client_completes < 1 + drive_left w s = omega (arith, now, full) in
-    subst (λ (step : Step). CollectLowers w s step) (sym (step_refused w s fate c why at is)) (subst (λ (halt : Halt). session_left (record w { clients = slice_set w.clients s c }) s verb.Collect (after_serving (Some halt)) < 1 + drive_left w s) (sym plain) less)
+    subst (λ (step : Step). CollectLowers w s step) (sym (step_refused w s fate c why at is)) (subst (λ (halt : Interruption). session_left (record w { clients = slice_set w.clients s c }) s verb.Collect (after_serving (Some halt)) < 1 + drive_left w s) (sym plain) less)
 
-idle_at : (w : State) (h : List Item) (s : ℕ) (fate : Fate) (e : Event) → Stands w h → place_of w s ≡ None → (found : Option Client) → slice_get w.clients s ≡ found → idle_next s (doing_at found) ≡ Some e → CollectLowers w s (stepped w (event.Step s) fate)
+idle_at : (w : State) (h : List Item) (s : ℕ) (fate : Fate) (e : Event) → ReachedInvariant w h → place_of w s ≡ None → (found : Option Client) → slice_get w.clients s ≡ found → idle_next s (doing_at found) ≡ Some e → CollectLowers w s (stepped w (event.Step s) fate)
 idle_at w h s fate e stands none None at is =
     let nothing_is : stepped w (event.Step s) fate ≡ at_client w None (λ d. stores_step w s (step_on s fate d w.rows w.pairs)) = ap (λ (found : Option Client). at_client w found (λ d. stores_step w s (step_on s fate d w.rows w.pairs))) at in
     subst (λ (step : Step). CollectLowers w s step) (sym nothing_is) (omega arith)
 idle_at w h s fate e stands none (Some c) at is = idle_by w h s fate c e stands at none is (step_refusal c.entry.state (is_reading c)) refl
 
-collect_at : (clocks : Clocks) (w : State) (h : List Item) (s : ℕ) (fate : Fate) (e : Event) → Stands w h → (request : Option (ℕ × Place)) → place_of w s ≡ request → collect_next clocks s (view_of w (Session s)) request ≡ Some e → CollectLowers w s (stepped w e fate)
+collect_at : (clocks : Clocks) (w : State) (h : List Item) (s : ℕ) (fate : Fate) (e : Event) → ReachedInvariant w h → (request : Option (ℕ × Place)) → place_of w s ≡ request → collect_next clocks s (view_of w (Session s)) request ≡ Some e → CollectLowers w s (stepped w e fate)
 collect_at clocks w h s fate e stands None at is = subst (λ (x : Event). CollectLowers w s (stepped w x fate)) (idling_by s (doing_of w s) e is) (idle_at w h s fate e stands at (slice_get w.clients s) refl is)
 collect_at clocks w h s fate e stands (Some request) at is = omega (arith, drive_at clocks w h s verb.Collect verb.Collect fate e stands (Some request) at is)
 
 -- ---- any line of a session
-opens_lower : (ends : StepsEnd) (clocks : Clocks) (w : State) (h : List Item) (s : ℕ) (line : Verb) (fate : Fate) (e : Event) → Stands w h → session_opens clocks s line (view_of w (Session s)) ≡ Some e → SessionLowers w s line Opens e fate
+opens_lower : (ends : StepsEnd) (clocks : Clocks) (w : State) (h : List Item) (s : ℕ) (line : Verb) (fate : Fate) (e : Event) → ReachedInvariant w h → session_opens clocks s line (view_of w (Session s)) ≡ Some e → SessionLowers w s line Opens e fate
 opens_lower ends clocks w h s (verb.Begin to) fate e stands is = subst (λ (x : Event). SessionLowers w s (verb.Begin to) Opens x fate) (same_Some (event.AskBegin s (target_node clocks to)) e is) (begin_lowers w s (target_node clocks to) (verb.Begin to) fate)
 opens_lower ends clocks w h s (verb.Commit to) fate e stands is = subst (λ (x : Event). SessionLowers w s (verb.Commit to) Opens x fate) (same_Some (event.AskCommit s (target_node clocks to)) e is) (commit_lowers w s (target_node clocks to) (verb.Commit to) fate)
 opens_lower ends clocks w h s (verb.Submit to) fate e stands is = subst (λ (x : Event). SessionLowers w s (verb.Submit to) Opens x fate) (same_Some (event.AskCommit s (target_node clocks to)) e is) (commit_lowers w s (target_node clocks to) (verb.Submit to) fate)
@@ -173,7 +173,7 @@ opens_lower ends clocks w h s verb.Collect fate e stands is = collect_at clocks 
 opens_lower ends clocks w h s (verb.Sweep node txn) fate e stands is = absurd (none-some e is)
 opens_lower ends clocks w h s _ fate e stands is = omega arith
 
-pub session_lowers : (ends : StepsEnd) (clocks : Clocks) (w : State) (h : List Item) (s : ℕ) (line : Verb) (point : Point) (fate : Fate) (e : Event) → Stands w h → session_next clocks s line (view_of w (Session s)) point ≡ Some e → SessionLowers w s line point e fate
+pub session_lowers : (ends : StepsEnd) (clocks : Clocks) (w : State) (h : List Item) (s : ℕ) (line : Verb) (point : Point) (fate : Fate) (e : Event) → ReachedInvariant w h → session_next clocks s line (view_of w (Session s)) point ≡ Some e → SessionLowers w s line point e fate
 session_lowers ends clocks w h s line Opens fate e stands is = opens_lower ends clocks w h s line fate e stands is
 session_lowers ends clocks w h s line Drives fate e stands is = drive_at clocks w h s line line fate e stands (place_of w s) refl is
 session_lowers ends clocks w h s line Extends fate e stands is = extends_at w h s line fate e stands (place_of w s) refl is

@@ -36,7 +36,7 @@ use Rattle.isolation_laws.specs.Words.{InstanceAt}
 use Rattle.machine.specs.Fits.{StopOf, AreStops}
 use Rattle.machine.proofs.Lookups.{held_by}
 use Rattle.cause_laws.specs.Due.{Serves}
-use Rattle.cause_laws.specs.Shows.{Shows}
+use Rattle.cause_laws.specs.ShownInvariant.{ShownInvariant}
 use Rattle.cause_laws.proofs.ShownOfRequests.{node_of}
 use Rattle.command_semantics.specs.Next.{Clocks, reading_at}
 use Rattle.command_semantics.proofs.ReadItems.{Made, none_read, one_read, made_one, made_fault, unchanged_fails, applied_fails, AnswersUntimed, made_refused, made_once}
@@ -75,17 +75,17 @@ accept_progress clocks fate h node session reading i held c progress.Asked reads
 accept_progress clocks fate h node session reading i held c _ reads asked = inl (made_refused clocks None fate (Node node) (cause.NoRequest session) tt)
 
 -- the node that holds a request is the one that its session asked last
-asked_there : (w : State) (h : List Item) (node session : ℕ) (i : InstanceEntry) (held : Held) → Shows w h → InstanceAt w.nodes node i → held_of i session ≡ Some held → its_node h session ≡ Some node
+asked_there : (w : State) (h : List Item) (node session : ℕ) (i : InstanceEntry) (held : Held) → ShownInvariant w h → InstanceAt w.nodes node i → held_of i session ≡ Some held → its_node h session ≡ Some node
 asked_there w h node session i held shows at has =
     let serves : Serves w session i held.request held.progress = record { node = node; at = at; holds = held_by i session held has } in
     node_of w h session i held.request held.progress shows serves
 
-accept_found : (clocks : Clocks) (fate : Fate) (w : State) (h : List Item) (node session reading : ℕ) (i : InstanceEntry) (c : Client) → Shows w h → InstanceAt w.nodes node i → reading ≡ reading_at clocks node → (found : Option Held) → held_of i session ≡ found → Accepts clocks fate h (accept_request node session reading i c found).items
+accept_found : (clocks : Clocks) (fate : Fate) (w : State) (h : List Item) (node session reading : ℕ) (i : InstanceEntry) (c : Client) → ShownInvariant w h → InstanceAt w.nodes node i → reading ≡ reading_at clocks node → (found : Option Held) → held_of i session ≡ found → Accepts clocks fate h (accept_request node session reading i c found).items
 accept_found clocks fate w h node session reading i c shows at reads None has = inl (made_refused clocks None fate (Node node) (cause.NoRequest session) tt)
 accept_found clocks fate w h node session reading i c shows at reads (Some held) has =
     subst (λ (f : Option Held). accepted_by clocks fate h node session reading held c (accept_held i session reading f)) (sym has) (accept_progress clocks fate h node session reading i held c held.progress reads (asked_there w h node session i held shows at has))
 
-pub accept_on_made : (clocks : Clocks) (fate : Fate) (w : State) (h : List Item) (node session reading : ℕ) (post : Option InstanceEntry) (c : Client) → Shows w h → slice_get w.nodes node ≡ Some post → reading ≡ reading_at clocks node → Accepts clocks fate h (accept_on node session reading post c).items
+pub accept_on_made : (clocks : Clocks) (fate : Fate) (w : State) (h : List Item) (node session reading : ℕ) (post : Option InstanceEntry) (c : Client) → ShownInvariant w h → slice_get w.nodes node ≡ Some post → reading ≡ reading_at clocks node → Accepts clocks fate h (accept_on node session reading post c).items
 accept_on_made clocks fate w h node session reading None c shows at reads = inl (made_refused clocks None fate (Node node) (cause.NoOracle node) tt)
 accept_on_made clocks fate w h node session reading (Some i) c shows at reads = accept_found clocks fate w h node session reading i c shows at reads (held_of i session) refl
 

@@ -17,7 +17,7 @@ use Rattle.machine.specs.Machine.{asks}
 use Rattle.script_data.specs.Data.{ScriptData}
 use Rattle.cause_rules.specs.Asks.{its_node}
 use Rattle.cause_laws.proofs.SinceWords.{last_told-push}
-use Rattle.cause_laws.specs.Shows.{Tells}
+use Rattle.cause_laws.specs.ShownInvariant.{Tells}
 use Rattle.command_semantics.specs.Next.{Clocks, reading_at}
 use Rattle.command_semantics.specs.Planned.{is_fault_of, times_told, times_from, time_by, time_or_start, shown, IsTimed}
 use Rattle.command_semantics.specs.Runs.{Played, calls_on, fate_by, fate_of, step_of, clocks_of, clock_after, played}
@@ -72,7 +72,7 @@ clock_stays : (clocks : Clocks) (clock : ℕ) (e : Event) → ReadsClocks clocks
 clock_stays clocks clock (event.Tick to) reads = absurd reads
 clock_stays clocks clock e reads = refl
 
-quiet_stays : (script : ScriptData) (ticks : List ℕ) (p : Played) (e : Event) → Tells p.state p.items → ReadsClocks (clocks_of script p) None e → PlannedSoFar script ticks p → PlannedSoFar script ticks (played script p e)
+quiet_stays : (script : ScriptData) (ticks : List ℕ) (p : Played) (e : Event) → ExplainedInvariant p.state p.items → ReadsClocks (clocks_of script p) None e → PlannedSoFar script ticks p → PlannedSoFar script ticks (played script p e)
 quiet_stays script ticks p e tells reads so_far =
     let clocks : Clocks = clocks_of script p in
     let asked : Option Store = asks p.state e in

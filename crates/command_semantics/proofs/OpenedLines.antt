@@ -20,7 +20,7 @@ use Rattle.script_data.specs.declared.line.Target.{Target}
 use Rattle.script_data.specs.declared.line.Target.TheVariants as target
 use Rattle.script_data.specs.declared.line.Verb.{Verb}
 use Rattle.script_data.specs.declared.line.Verb.TheVariants as verb
-use Rattle.isolation_laws.specs.Sound.{Stands}
+use Rattle.isolation_laws.specs.Sound.{ReachedInvariant}
 use Rattle.command_semantics.specs.declared.point.Point.TheVariants.{Opens}
 use Rattle.command_semantics.specs.declared.point.View.{View}
 use Rattle.command_semantics.specs.Next.{Clocks, reading_at, target_node, next}
@@ -101,18 +101,18 @@ begun w s n may fate fit in_range less here =
     let mine = client_at w s fit in_range in
     at_ask _ w _ (slice_get w.nodes n) (slice_get w.clients s) there.0 mine.0 there.1 mine.1 (weaken _ _ _ (begins_so s n may here) (ask_begin_begins s n mine.0 there.0))
 
-asked : (w : State) (h : List Item) (s n : ℕ) (may : ℕ → Type 0) (fate : Fate) → Stands w h → Fit w → s < 16 → n < w.setup.nodes → may n → Begins (λ x. IsAskCommit s may x ⊎ IsRefusal (Session s) x ⊎ IsReadOnly s x) (stepped w (event.AskCommit s n) fate).items
+asked : (w : State) (h : List Item) (s n : ℕ) (may : ℕ → Type 0) (fate : Fate) → ReachedInvariant w h → Fit w → s < 16 → n < w.setup.nodes → may n → Begins (λ x. IsAskCommit s may x ⊎ IsRefusal (Session s) x ⊎ IsReadOnly s x) (stepped w (event.AskCommit s n) fate).items
 asked w h s n may fate stands fit in_range less here =
     let there = post_at w n fit less in
     let mine = client_at w s fit in_range in
     at_ask _ w _ (slice_get w.nodes n) (slice_get w.clients s) there.0 mine.0 there.1 mine.1 (weaken _ _ _ (commits_so s n may here) (ask_commit_begins s n mine.0 there.0 (starts w h s mine.0 stands mine.1)))
 
-wrote : (asks : Target → ℕ → Type 0) (w : State) (h : List Item) (s key : ℕ) (value : List ℕ) (fate : Fate) → Stands w h → Fit w → s < 16 → Answered asks w (Session s) (verb.Write key value) (event.Write s key value) fate
+wrote : (asks : Target → ℕ → Type 0) (w : State) (h : List Item) (s key : ℕ) (value : List ℕ) (fate : Fate) → ReachedInvariant w h → Fit w → s < 16 → Answered asks w (Session s) (verb.Write key value) (event.Write s key value) fate
 wrote asks w h s key value fate stands fit in_range =
     let mine = client_at w s fit in_range in
     at_session _ w _ (slice_get w.clients s) mine.0 mine.1 (weaken _ _ _ (λ x. either _ _ _) (write_begins s key value fate mine.0 w.rows (starts w h s mine.0 stands mine.1)))
 
-fetches : (asks : Target → ℕ → Type 0) (w : State) (h : List Item) (s key : ℕ) (fate : Fate) → Stands w h → Fit w → s < 16 → Answered asks w (Session s) (verb.Fetch key) (event.Fetch s key) fate
+fetches : (asks : Target → ℕ → Type 0) (w : State) (h : List Item) (s key : ℕ) (fate : Fate) → ReachedInvariant w h → Fit w → s < 16 → Answered asks w (Session s) (verb.Fetch key) (event.Fetch s key) fate
 fetches asks w h s key fate stands fit in_range =
     let mine = client_at w s fit in_range in
     at_session _ w _ (slice_get w.clients s) mine.0 mine.1 (weaken _ _ _ (λ x. either _ _ _) (fetch_begins w.setup s key fate mine.0 w.rows (starts w h s mine.0 stands mine.1) (fit_at w.clients s mine.0 fit.epochs mine.1)))
@@ -129,7 +129,7 @@ by_event asks w actor line fate made e is answered = subst (λ (x : Event). Answ
 noted : (asks : Target → ℕ → Type 0) (w : State) (actor : Actor) (line : Verb) (said : Note) (fate : Fate) → IsAnswer asks actor line (item.Note actor said) → Answered asks w actor line (event.Note actor said) fate
 noted asks w actor line said fate answers = alone _ _ answers
 
-session_answered : (asks : Target → ℕ → Type 0) (clocks : Clocks) (w : State) (h : List Item) (s : ℕ) (line : Verb) (view : View) (e : Event) (fate : Fate) → Stands w h → Fit w → s < 16 → VerbFits w.setup line → clocks.master < w.setup.nodes → ((to : Target) → asks to (target_node clocks to)) → has_opening (Session s) line ≡ true → next clocks (Session s) line Opens view ≡ Some e → Answered asks w (Session s) line e fate
+session_answered : (asks : Target → ℕ → Type 0) (clocks : Clocks) (w : State) (h : List Item) (s : ℕ) (line : Verb) (view : View) (e : Event) (fate : Fate) → ReachedInvariant w h → Fit w → s < 16 → VerbFits w.setup line → clocks.master < w.setup.nodes → ((to : Target) → asks to (target_node clocks to)) → has_opening (Session s) line ≡ true → next clocks (Session s) line Opens view ≡ Some e → Answered asks w (Session s) line e fate
 session_answered asks clocks w h s (verb.Begin to) view e fate stands fit in_range fits master may opening is = by_event asks w (Session s) (verb.Begin to) fate (event.AskBegin s (target_node clocks to)) e is (begun w s (target_node clocks to) (asks to) fate fit in_range (target_fits w.setup clocks to fits master) (may to))
 session_answered asks clocks w h s (verb.AskBegin node) view e fate stands fit in_range fits master may opening is = by_event asks w (Session s) (verb.AskBegin node) fate (event.AskBegin s node) e is (begun w s node (λ n. n ≡ node) fate fit in_range fits refl)
 session_answered asks clocks w h s (verb.Commit to) view e fate stands fit in_range fits master may opening is = by_event asks w (Session s) (verb.Commit to) fate (event.AskCommit s (target_node clocks to)) e is (asked w h s (target_node clocks to) (asks to) fate stands fit in_range (target_fits w.setup clocks to fits master) (may to))
@@ -164,7 +164,7 @@ janitor_answered asks w clocks (verb.Post name) view e fate opening is = by_even
 janitor_answered asks w clocks (verb.Await name) view e fate opening is = by_event asks w Janitor (verb.Await name) fate (event.Note Janitor (note.Await name)) e is (noted asks w Janitor (verb.Await name) (note.Await name) fate (inl (refl, refl)))
 janitor_answered asks w clocks _ view e fate opening is = absurd (cc)
 
-pub line_answered : (asks : Target → ℕ → Type 0) (clocks : Clocks) (w : State) (h : List Item) (actor : Actor) (line : Verb) (view : View) (e : Event) (fate : Fate) → Stands w h → Fit w → ActorFits w.setup actor → VerbFits w.setup line → clocks.master < w.setup.nodes → ((to : Target) → asks to (target_node clocks to)) → has_opening actor line ≡ true → next clocks actor line Opens view ≡ Some e → Begins (IsAnswer asks actor line) (stepped w e fate).items
+pub line_answered : (asks : Target → ℕ → Type 0) (clocks : Clocks) (w : State) (h : List Item) (actor : Actor) (line : Verb) (view : View) (e : Event) (fate : Fate) → ReachedInvariant w h → Fit w → ActorFits w.setup actor → VerbFits w.setup line → clocks.master < w.setup.nodes → ((to : Target) → asks to (target_node clocks to)) → has_opening actor line ≡ true → next clocks actor line Opens view ≡ Some e → Begins (IsAnswer asks actor line) (stepped w e fate).items
 line_answered asks clocks w h Clock line view e fate stands fit in_range fits master may opening is = other_answered asks w clocks line view e fate opening is
 line_answered asks clocks w h (Node n) line view e fate stands fit in_range fits master may opening is = node_answered asks clocks w n line view e fate fit in_range opening is
 line_answered asks clocks w h (Session s) line view e fate stands fit in_range fits master may opening is = session_answered asks clocks w h s line view e fate stands fit in_range fits master may opening is

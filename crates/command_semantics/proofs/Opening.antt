@@ -30,16 +30,16 @@ use Rattle.machine.specs.Events.Abort.{abort_by, abort_on}
 use Rattle.machine.specs.Events.Fetch.{fetch_recall, marks_every, client_fetched, fetch_refused, client_read, fetch_open, fetch_on}
 use Rattle.machine.specs.Readers.{place_of}
 use Rattle.script_data.specs.declared.line.Verb.{Verb}
-use Rattle.command_semantics.specs.declared.point.Halt.{Halt}
-use Rattle.command_semantics.specs.declared.point.Halt.TheVariants.{NoStamp, NotYet, Refused, Faulted}
+use Rattle.command_semantics.specs.declared.point.Interruption.{Interruption}
+use Rattle.command_semantics.specs.declared.point.Interruption.TheVariants.{NoStamp, NotYet, Refused, Faulted}
 use Rattle.command_semantics.specs.declared.point.Point.{Point}
 use Rattle.command_semantics.specs.declared.point.Point.TheVariants.{Drives, Finishes, Reads}
-use Rattle.command_semantics.specs.Halts.{halt_of, unless_halted, after_write}
+use Rattle.command_semantics.specs.Interruptions.{halt_of, unless_halted, after_write}
 use Rattle.command_semantics.specs.Left.{cells_by, of_client, client_completes, client_ends, client_reads, client_fetches, lacks_at, place_left, drive_left_by, drive_left, session_left}
 use Rattle.command_semantics.proofs.Clients.{client_now, settles_within, client_left, no_client_left, aborted_left, added_long}
 
 -- a run that stopped has nothing left
-pub halted_less : (w : State) (s : ℕ) (verb : Verb) (at : Point) (halt : Option Halt) (bound : ℕ) → session_left w s verb at < bound → session_left w s verb (unless_halted at halt) < bound
+pub halted_less : (w : State) (s : ℕ) (verb : Verb) (at : Point) (halt : Option Interruption) (bound : ℕ) → session_left w s verb at < bound → session_left w s verb (unless_halted at halt) < bound
 halted_less w s verb at None bound less = less
 halted_less w s verb at (Some halt) bound less = omega (arith, less)
 
@@ -122,7 +122,7 @@ wrote_most s key value fate c rows (Some why) start = omega arith
 wrote_most s key value fate c rows None None = omega arith
 wrote_most s key value fate c rows None (Some start) = wrote_by s key start value fate c rows
 
-write_less : (w : State) (s : ℕ) (verb : Verb) (halt : Option Halt) → session_left w s verb (after_write halt) ≤ of_client (slice_get w.clients s) client_completes
+write_less : (w : State) (s : ℕ) (verb : Verb) (halt : Option Interruption) → session_left w s verb (after_write halt) ≤ of_client (slice_get w.clients s) client_completes
 write_less w s verb None = omega arith
 write_less w s verb (Some NoStamp) = omega arith
 write_less w s verb (Some NotYet) = omega arith

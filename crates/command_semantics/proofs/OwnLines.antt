@@ -14,11 +14,11 @@ use Rattle.machine.specs.Readers.{doing_of}
 use Rattle.script_data.specs.declared.line.Target.{Target}
 use Rattle.script_data.specs.declared.line.Verb.{Verb}
 use Rattle.script_data.specs.declared.line.Verb.TheVariants as verb
-use Rattle.isolation_laws.specs.Sound.{Stands}
+use Rattle.isolation_laws.specs.Sound.{ReachedInvariant}
 use Rattle.command_semantics.specs.declared.point.Point.{Point}
 use Rattle.command_semantics.specs.declared.point.Point.TheVariants.{Opens}
 use Rattle.command_semantics.specs.declared.point.View.{View}
-use Rattle.command_semantics.specs.Halts.{halt_of, follows}
+use Rattle.command_semantics.specs.Interruptions.{halt_of, follows}
 use Rattle.command_semantics.specs.Next.{Clocks, target_node, read_next, next}
 use Rattle.command_semantics.specs.Left.{one_left}
 use Rattle.command_semantics.specs.Answers.{IsAnswer, read_begun, has_opening}
@@ -58,7 +58,7 @@ AfterOpen asks actor line step = LineItems (IsAnswer asks actor line) actor line
 answered_line : (A : Item → Type 0) (actor : Actor) (line : Verb) (xs : List Item) → ((x : Item) → read_begun line x ≡ None) → Begins A xs → LineItems A actor line xs
 answered_line A actor line xs reads k = record { first = k.first; rest = k.rest; is = k.is; answers = k.answers; behind = subst (λ (begun : Option ℕ). Behind actor begun k.rest) (sym (reads k.first)) (plain_not actor k.rest k.plain) }
 
-fetch_opens : (asks : Target → ℕ → Type 0) (w : State) (h : List Item) (s key : ℕ) (fate : Fate) → Stands w h → Fit w → s < 16 → AfterOpen asks (Session s) (verb.Read key) (stepped w (event.Fetch s key) fate)
+fetch_opens : (asks : Target → ℕ → Type 0) (w : State) (h : List Item) (s key : ℕ) (fate : Fate) → ReachedInvariant w h → Fit w → s < 16 → AfterOpen asks (Session s) (verb.Read key) (stepped w (event.Fetch s key) fate)
 fetch_opens asks w h s key fate stands fit in_range =
     let mine = found w.clients s (subst (λ (m : ℕ). s < m) (sym fit.clients) in_range) in
     elim (fetch_done w h s key fate mine.0 stands fit mine.1) [
@@ -66,7 +66,7 @@ fetch_opens asks w h s key fate stands fit in_range =
       | inr on ↦ inr (record { s = s; key = key; actor_is = refl; verb_is = refl; begun = on.0 }, on.1)
     ]
 
-pub opens_line : (asks : Target → ℕ → Type 0) (clocks : Clocks) (w : State) (h : List Item) (actor : Actor) (line : Verb) (view : View) (e : Event) (fate : Fate) → Stands w h → Fit w → ActorFits w.setup actor → VerbFits w.setup line → clocks.master < w.setup.nodes → ((to : Target) → asks to (target_node clocks to)) → has_opening actor line ≡ true → next clocks actor line Opens view ≡ Some e → AfterOpen asks actor line (stepped w e fate)
+pub opens_line : (asks : Target → ℕ → Type 0) (clocks : Clocks) (w : State) (h : List Item) (actor : Actor) (line : Verb) (view : View) (e : Event) (fate : Fate) → ReachedInvariant w h → Fit w → ActorFits w.setup actor → VerbFits w.setup line → clocks.master < w.setup.nodes → ((to : Target) → asks to (target_node clocks to)) → has_opening actor line ≡ true → next clocks actor line Opens view ≡ Some e → AfterOpen asks actor line (stepped w e fate)
 opens_line asks clocks w h (Session s) (verb.Read key) view e fate stands fit in_range fits master may opening is = subst (λ (x : Event). AfterOpen asks (Session s) (verb.Read key) (stepped w x fate)) (same_Some (event.Fetch s key) e is) (fetch_opens asks w h s key fate stands fit in_range)
 opens_line asks clocks w h Clock (verb.Read key) view e fate stands fit in_range fits master may opening is = absurd (cc)
 opens_line asks clocks w h (Node n) (verb.Read key) view e fate stands fit in_range fits master may opening is = absurd (cc)

@@ -9,14 +9,14 @@ use Rattle.script_data.specs.declared.line.Line.{Line}
 use Rattle.script_data.specs.declared.line.Verb.{Verb}
 use Rattle.script_data.specs.declared.line.Verb.TheVariants as verb
 use Rattle.script_data.specs.Data.{ScriptData}
-use Rattle.cause_laws.specs.Shows.{Tells}
+use Rattle.cause_laws.specs.ShownInvariant.{Tells}
 use Rattle.cause_laws.proofs.AlwaysExplained.{tells_stay, tells_at_first}
-use Rattle.command_semantics.specs.declared.point.Halt.{Halt}
-use Rattle.command_semantics.specs.declared.point.Halt.TheVariants.{NoStamp, NotYet, Refused, Faulted}
+use Rattle.command_semantics.specs.declared.point.Interruption.{Interruption}
+use Rattle.command_semantics.specs.declared.point.Interruption.TheVariants.{NoStamp, NotYet, Refused, Faulted}
 use Rattle.command_semantics.specs.declared.point.Point.{Point}
 use Rattle.command_semantics.specs.declared.point.Point.TheVariants.{Opens, Drives, Extends, Finishes, Reads, Steps, Over}
 use Rattle.command_semantics.specs.declared.point.View.{View}
-use Rattle.command_semantics.specs.Halts.{halt_of, unless_halted, after_write, after_serving, after_extending, after_stepping, after_opening, follows}
+use Rattle.command_semantics.specs.Interruptions.{halt_of, unless_halted, after_write, after_serving, after_extending, after_stepping, after_opening, follows}
 use Rattle.command_semantics.specs.Views.{view_of}
 use Rattle.command_semantics.specs.Next.{Clocks, next}
 use Rattle.command_semantics.specs.Planned.{tick_by, with_tick, ticks_in}
@@ -30,7 +30,7 @@ use Rattle.command_semantics.specs.PlannedLaws.{ScriptsArePlanned}
 use Rattle.command_semantics.proofs.OneEvent.{planned_at_first, events_stay_planned, planned_in_the_end}
 use Rattle.command_semantics.proofs.LineClocks.{lines_read_clocks}
 
-tells_kept : Keeps Tells
+tells_kept : Keeps ExplainedInvariant
 tells_kept w h e fate tells steady = tells_stay w h e fate tells steady
 
 -- ---- the ticks of a run
@@ -43,39 +43,39 @@ abbrev IsPast : Point → Type 0
 IsPast Opens = ⊥
 IsPast _ = Unit {0}
 
-unless_past : (point : Point) (halt : Option Halt) → IsPast point → IsPast (unless_halted point halt)
+unless_past : (point : Point) (halt : Option Interruption) → IsPast point → IsPast (unless_halted point halt)
 unless_past point None past = past
 unless_past point (Some halt) past = tt
 
-write_past : (halt : Option Halt) → IsPast (after_write halt)
+write_past : (halt : Option Interruption) → IsPast (after_write halt)
 write_past None = tt
 write_past (Some NoStamp) = tt
 write_past (Some NotYet) = tt
 write_past (Some Refused) = tt
 write_past (Some Faulted) = tt
 
-serving_past : (halt : Option Halt) → IsPast (after_serving halt)
+serving_past : (halt : Option Interruption) → IsPast (after_serving halt)
 serving_past None = tt
 serving_past (Some NoStamp) = tt
 serving_past (Some NotYet) = tt
 serving_past (Some Refused) = tt
 serving_past (Some Faulted) = tt
 
-extending_past : (halt : Option Halt) → IsPast (after_extending halt)
+extending_past : (halt : Option Interruption) → IsPast (after_extending halt)
 extending_past None = tt
 extending_past (Some NoStamp) = tt
 extending_past (Some NotYet) = tt
 extending_past (Some Refused) = tt
 extending_past (Some Faulted) = tt
 
-stepping_past : (halt : Option Halt) → IsPast (after_stepping halt)
+stepping_past : (halt : Option Interruption) → IsPast (after_stepping halt)
 stepping_past None = tt
 stepping_past (Some NoStamp) = tt
 stepping_past (Some NotYet) = tt
 stepping_past (Some Refused) = tt
 stepping_past (Some Faulted) = tt
 
-opening_past : (line : Verb) (halt : Option Halt) → IsPast (after_opening line halt)
+opening_past : (line : Verb) (halt : Option Interruption) → IsPast (after_opening line halt)
 opening_past (verb.Begin target) halt = unless_past Drives halt tt
 opening_past (verb.Commit target) halt = unless_past Drives halt tt
 opening_past (verb.Submit target) halt = unless_past Drives halt tt
@@ -87,7 +87,7 @@ opening_past verb.Finish halt = stepping_past halt
 opening_past (verb.Sweep node txn) halt = unless_past Steps halt tt
 opening_past _ halt = tt
 
-follows_past : (line : Verb) (at : Point) (halt : Option Halt) → IsPast (follows line at halt)
+follows_past : (line : Verb) (at : Point) (halt : Option Interruption) → IsPast (follows line at halt)
 follows_past line Opens halt = opening_past line halt
 follows_past line Drives halt = serving_past halt
 follows_past line Extends halt = extending_past halt
@@ -109,7 +109,7 @@ ticked_on ticks _ line = refl
 abbrev RunPlanned : ScriptData → List ℕ → Line → Run → Type 0
 RunPlanned script ticks line r = PlannedSoFar script (ticked_by ticks r.point line) r.played
 
-run_planned_on : (script : ScriptData) (ticks : List ℕ) (line : Line) (most : ℕ) (r : Run) (e : Event) → Going Tells script line most r → RunPlanned script ticks line r → next_in script line r ≡ Some e → RunPlanned script ticks line (run_after script line r e)
+run_planned_on : (script : ScriptData) (ticks : List ℕ) (line : Line) (most : ℕ) (r : Run) (e : Event) → Going ExplainedInvariant script line most r → RunPlanned script ticks line r → next_in script line r ≡ Some e → RunPlanned script ticks line (run_after script line r e)
 run_planned_on script ticks line most r e going planned is =
     let reads : ReadsClocks (clocks_of script r.played) (tick_at r.point line.actor line.verb) e = lines_read_clocks (clocks_of script r.played) line.actor line.verb r.point (view_of r.played.state line.actor) e is in
     let after : PlannedSoFar script (ticks_with (ticked_by ticks r.point line) (tick_at r.point line.actor line.verb)) (run_after script line r e).played = events_stay_planned script (ticked_by ticks r.point line) (tick_at r.point line.actor line.verb) r.played e going.has reads planned in
@@ -121,11 +121,11 @@ on_by : (script : ScriptData) (ticks : List ℕ) (line : Line) (r : Run) (on : E
 on_by script ticks line r on now later None is = now
 on_by script ticks line r on now later (Some e) is = later e is
 
-run_planned : (script : ScriptData) (ticks : List ℕ) (line : Line) (most n : ℕ) (r : Run) → Going Tells script line most r → RunPlanned script ticks line r → RunPlanned script ticks line (run_for n script line r)
+run_planned : (script : ScriptData) (ticks : List ℕ) (line : Line) (most n : ℕ) (r : Run) → Going ExplainedInvariant script line most r → RunPlanned script ticks line r → RunPlanned script ticks line (run_for n script line r)
 unfolding run_for
 run_planned script ticks line most zero r going planned = planned
 run_planned script ticks line most (suc n) r going planned =
-    on_by script ticks line r (λ e. run_for n script line (run_after script line r e)) planned (λ e is. run_planned script ticks line most n (run_after script line r e) (goes_on Tells script line most r e tells_kept going is) (run_planned_on script ticks line most r e going planned is)) (next_in script line r) refl
+    on_by script ticks line r (λ e. run_for n script line (run_after script line r e)) planned (λ e is. run_planned script ticks line most n (run_after script line r e) (goes_on ExplainedInvariant script line most r e tells_kept going is) (run_planned_on script ticks line most r e going planned is)) (next_in script line r) refl
 
 -- a run that is over has ticked as its line says
 over_at_first : (clocks : Clocks) (actor : Actor) (line : Verb) (view : View) → next clocks actor line Opens view ≡ None → tick_by actor line ≡ None
@@ -141,7 +141,7 @@ pub ticks_on : (ticks rest : List ℕ) (tick : Option ℕ) → ticks_with ticks 
 ticks_on ticks rest None = refl
 ticks_on ticks rest (Some by) = append_assoc ticks (by ∷ []) rest
 
-lines_planned : EventsLowerWhatIsLeft → (script : ScriptData) (lines : List Line) (ticks : List ℕ) (p : Played) → IsReached script p → Tells p.state p.items → IsPlayable script p.clock lines → PlannedSoFar script ticks p → PlannedSoFar script (ticks ++ ticks_in lines) (lines_played script lines p)
+lines_planned : EventsLowerWhatIsLeft → (script : ScriptData) (lines : List Line) (ticks : List ℕ) (p : Played) → IsReached script p → ExplainedInvariant p.state p.items → IsPlayable script p.clock lines → PlannedSoFar script ticks p → PlannedSoFar script (ticks ++ ticks_in lines) (lines_played script lines p)
 unfolding lines_played ticks_of ticks_in
 lines_planned lowers script [] ticks p reached tells playable so_far = subst (λ (t : List ℕ). PlannedSoFar script t p) (sym (append-nil ticks)) so_far
 lines_planned lowers script (line ∷ lines) ticks p reached tells playable so_far =
@@ -149,10 +149,10 @@ lines_planned lowers script (line ∷ lines) ticks p reached tells playable so_f
     let rest : ℕ = ticks_of lines in
     let most : ℕ = p.clock + tick in
     let room : p.clock + (tick + rest) + script.setup.skew ≤ 2 ^ 61 = playable.ticks in
-    let run : Ended Tells script line most (line_run script line p) = line_ends lowers Tells script line p tells_kept reached tells playable.leads (omega (arith, room)) in
+    let run : Ended ExplainedInvariant script line most (line_run script line p) = line_ends lowers ExplainedInvariant script line p tells_kept reached tells playable.leads (omega (arith, room)) in
     let next_played : Played = (line_run script line p).played in
     let by_then : next_played.clock + tick_ahead (line_run script line p).point line.verb ≤ most = run.going.ahead in
-    let first : Going Tells script line most (opened p) = record { reached = reached; has = tells; leads = playable.leads; ahead = omega arith; room = omega (arith, room) } in
+    let first : Going ExplainedInvariant script line most (opened p) = record { reached = reached; has = tells; leads = playable.leads; ahead = omega arith; room = omega (arith, room) } in
     let planned : RunPlanned script ticks line (line_run script line p) = run_planned script ticks line most (left_in line (opened p)) (opened p) first so_far in
     let over : ticked_by ticks (line_run script line p).point line ≡ ticks_with ticks (tick_by line.actor line.verb) = over_ticked (clocks_of script next_played) ticks line (view_of next_played.state line.actor) (line_run script line p).point run.over in
     let after : PlannedSoFar script (ticks_with ticks (tick_by line.actor line.verb)) next_played = subst (λ (t : List ℕ). PlannedSoFar script t next_played) over planned in

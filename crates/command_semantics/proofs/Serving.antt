@@ -13,9 +13,9 @@ use Rattle.machine.specs.Machine.{Step, step_by, with_post, with_client, at_both
 use Rattle.machine.specs.Readers.{place_of}
 use Rattle.script_data.specs.declared.line.Verb.{Verb}
 use Rattle.isolation_laws.specs.Words.{InstanceAt, ClientAt}
-use Rattle.isolation_laws.specs.Sound.{Stands}
+use Rattle.isolation_laws.specs.Sound.{ReachedInvariant}
 use Rattle.machine.proofs.Lookups.{held_set}
-use Rattle.command_semantics.specs.Halts.{halt_of, after_serving}
+use Rattle.command_semantics.specs.Interruptions.{halt_of, after_serving}
 use Rattle.command_semantics.specs.Left.{of_client, client_completes, client_settles, client_ends, lacks_stamps, place_left, drive_left, session_left}
 use Rattle.command_semantics.proofs.Holders.{Served, Changed, drives_on, driven}
 use Rattle.command_semantics.proofs.Clients.{client_now, settles_most}
@@ -26,7 +26,7 @@ Lowers w s verb step = session_left step.state s verb (after_serving (halt_of st
 
 -- a request that is served: the state is reached, the node holds it, and its client is there
 pub record Serving (w : State) (h : List Item) (s : ℕ) (request : ℕ × Place) : Type 0 where
-  pub stands : Stands w h
+  pub stands : ReachedInvariant w h
   pub at : place_of w s ≡ Some request
   pub served : Served w s request
   pub c : Client

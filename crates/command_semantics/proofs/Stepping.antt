@@ -33,10 +33,10 @@ use Rattle.machine.specs.Events.Place.{place_by, place_on}
 use Rattle.machine.specs.Events.Step.{step_recall, placed_among, step_due, StepParts, read_step, settle_step, client_settled, complete_step, after_asks, work_by, work_of, step_at, step_on, step_by as step_unless}
 use Rattle.script_data.specs.declared.line.Verb.{Verb}
 use Rattle.isolation_laws.specs.Words.{ClientAt}
-use Rattle.command_semantics.specs.declared.point.Halt.{Halt}
+use Rattle.command_semantics.specs.declared.point.Interruption.{Interruption}
 use Rattle.command_semantics.specs.declared.point.Point.{Point}
 use Rattle.command_semantics.specs.declared.point.Point.TheVariants as point
-use Rattle.command_semantics.specs.Halts.{halt_of, unless_halted, after_serving, after_stepping}
+use Rattle.command_semantics.specs.Interruptions.{halt_of, unless_halted, after_serving, after_stepping}
 use Rattle.command_semantics.specs.Left.{asks_left, reads_left, steps_left, steps_due, keys_of, of_client, client_completes, client_settles, client_reads, client_steps, session_left}
 use Rattle.command_semantics.proofs.Clients.{client_now, undo_long, finish_long, aborted_left}
 use Rattle.command_semantics.proofs.Working.{ReadWork, SettleWork, CompleteWork, PlaceWork, HasWork}
@@ -51,7 +51,7 @@ abbrev pub stores_step : State → ℕ → Effect StepParts → Step
 stores_step w s effect = step_by effect (λ (p : StepParts). record (with_client w s p.0) { rows = p.1; pairs = p.2 })
 
 -- at this point of a line what is left after the step is less than a bound
-abbrev pub after_at : Point → Option Halt → Point
+abbrev pub after_at : Point → Option Interruption → Point
 after_at point.Steps halt = after_stepping halt
 after_at at halt = unless_halted at halt
 

@@ -23,11 +23,11 @@ use Rattle.machine.specs.Machine.{Step, step_by, at_post, stepped, on_swept}
 use Rattle.machine.specs.Events.SweepOpen.{sweep_open_on}
 use Rattle.machine.specs.Events.SweepStep.{still_open, sweep_met, sweep_lists, sweep_at, sweep_step_on}
 use Rattle.script_data.specs.declared.line.Verb.{Verb}
-use Rattle.isolation_laws.specs.Sound.{Stands}
+use Rattle.isolation_laws.specs.Sound.{ReachedInvariant}
 use Rattle.isolation_laws.specs.UnderWay.{IsSweptAt}
-use Rattle.command_semantics.specs.declared.point.Halt.{Halt}
+use Rattle.command_semantics.specs.declared.point.Interruption.{Interruption}
 use Rattle.command_semantics.specs.declared.point.Point.TheVariants.{Steps}
-use Rattle.command_semantics.specs.Halts.{halt_of, unless_halted}
+use Rattle.command_semantics.specs.Interruptions.{halt_of, unless_halted}
 use Rattle.command_semantics.specs.Left.{sweep_left_at, sweep_left, janitor_left}
 use Rattle.command_semantics.proofs.Clients.{undo_long, finish_long}
 
@@ -53,7 +53,7 @@ open_most : (rows : List Row) (s : Sweeping) (next : Option Ask) → sweep_left 
 open_most rows s None = omega arith
 open_most rows s (Some asked) = omega arith
 
-halted_sweep : (w : State) (verb : Verb) (halt : Option Halt) (bound : ℕ) → sweep_left w.rows w.sweep < bound → janitor_left w verb (unless_halted Steps halt) < bound
+halted_sweep : (w : State) (verb : Verb) (halt : Option Interruption) (bound : ℕ) → sweep_left w.rows w.sweep < bound → janitor_left w verb (unless_halted Steps halt) < bound
 halted_sweep w verb None bound less = less
 halted_sweep w verb (Some halt) bound less = omega (arith, less)
 
@@ -131,18 +131,18 @@ sweep_lowers_at w h verb fate txn epoch (Left []) knows asks = absurd (asks refl
 sweep_lowers_at w h verb fate txn epoch (Left (asked ∷ rest)) knows asks = left_by w txn epoch asked rest verb fate (left_no_keys w h txn asked rest knows)
 sweep_lowers_at w h verb fate txn epoch Undecided knows asks = absurd (asks refl)
 
-sweep_lowers_by : (w : State) (h : List Item) (verb : Verb) (fate : Fate) (sweep : Option Sweeping) → Stands w h → w.sweep ≡ sweep → SweepLowers (1 + sweep_left w.rows sweep) verb (on_swept w (sweep_step_on fate sweep w.rows w.pairs))
+sweep_lowers_by : (w : State) (h : List Item) (verb : Verb) (fate : Fate) (sweep : Option Sweeping) → ReachedInvariant w h → w.sweep ≡ sweep → SweepLowers (1 + sweep_left w.rows sweep) verb (on_swept w (sweep_step_on fate sweep w.rows w.pairs))
 sweep_lowers_by w h verb fate None stands is = omega arith
 sweep_lowers_by w h verb fate (Some s) stands is = omega (arith, sweep_lowers_at w h verb fate s.txn s.epoch s.point (stands.holds.under_way.sweeping.knows s is) (stands.sound.sweeps.asks s is))
 
 -- the first step of a line, also where no sweep is open
-pub sweep_first : (w : State) (h : List Item) (verb : Verb) (fate : Fate) → Stands w h → SweepLowers (1 + sweep_left w.rows w.sweep) verb (stepped w event.SweepStep fate)
+pub sweep_first : (w : State) (h : List Item) (verb : Verb) (fate : Fate) → ReachedInvariant w h → SweepLowers (1 + sweep_left w.rows w.sweep) verb (stepped w event.SweepStep fate)
 sweep_first w h verb fate stands = sweep_lowers_by w h verb fate w.sweep stands refl
 
 -- a step of an open sweep
-sweep_open_by : (w : State) (h : List Item) (verb : Verb) (fate : Fate) (s : Sweeping) (sweep : Option Sweeping) → Stands w h → w.sweep ≡ sweep → sweep ≡ Some s → SweepLowers (sweep_left w.rows sweep) verb (on_swept w (sweep_step_on fate sweep w.rows w.pairs))
+sweep_open_by : (w : State) (h : List Item) (verb : Verb) (fate : Fate) (s : Sweeping) (sweep : Option Sweeping) → ReachedInvariant w h → w.sweep ≡ sweep → sweep ≡ Some s → SweepLowers (sweep_left w.rows sweep) verb (on_swept w (sweep_step_on fate sweep w.rows w.pairs))
 sweep_open_by w h verb fate s None stands is there = absurd (cc)
 sweep_open_by w h verb fate s (Some open_now) stands is there = sweep_lowers_at w h verb fate open_now.txn open_now.epoch open_now.point (stands.holds.under_way.sweeping.knows open_now is) (stands.sound.sweeps.asks open_now is)
 
-pub sweep_lowers : (w : State) (h : List Item) (verb : Verb) (fate : Fate) (s : Sweeping) → Stands w h → w.sweep ≡ Some s → SweepLowers (sweep_left w.rows w.sweep) verb (stepped w event.SweepStep fate)
+pub sweep_lowers : (w : State) (h : List Item) (verb : Verb) (fate : Fate) (s : Sweeping) → ReachedInvariant w h → w.sweep ≡ Some s → SweepLowers (sweep_left w.rows w.sweep) verb (stepped w event.SweepStep fate)
 sweep_lowers w h verb fate s stands is = sweep_open_by w h verb fate s w.sweep stands refl is

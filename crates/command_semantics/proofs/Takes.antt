@@ -18,7 +18,7 @@ use Rattle.machine.specs.declared.event.Event.{Event}
 use Rattle.machine.specs.declared.event.Event.TheVariants as event
 use Rattle.machine.specs.State.{State}
 use Rattle.machine.specs.Machine.{Step, with_reading, stepped}
-use Rattle.isolation_laws.specs.Sound.{Stands}
+use Rattle.isolation_laws.specs.Sound.{ReachedInvariant}
 use Rattle.command_semantics.specs.Answers.{opener, IsTake, IsRenew, IsCrash, IsVanish, IsAskBegin, IsAskCommit, IsWrite, IsFetch, IsRefusal, IsReadOnly}
 use Rattle.command_semantics.specs.Master.{taken_by, is_node, takes, has_take, HasTake, last_master}
 use Rattle.command_semantics.proofs.AlwaysFit.{Fit}
@@ -179,7 +179,7 @@ StepTakes P step = TakesOf P step.items
 abbrev InSystem : State → ℕ → Type 0
 InSystem w n = n < w.setup.nodes
 
-events_take : (w : State) (h : List Item) (e : Event) (fate : Fate) → Stands w h → Fit w → TakesOf (InSystem w) (stepped w e fate).items
+events_take : (w : State) (h : List Item) (e : Event) (fate : Fate) → ReachedInvariant w h → Fit w → TakesOf (InSystem w) (stepped w e fate).items
 events_take w h (event.Tick to) fate stands fit = none_of (InSystem w)
 events_take w h (event.Note actor said) fate stands fit = none_of (InSystem w)
 events_take w h (event.Take node reading) fate stands fit = of_post (StepTakes (InSystem w)) (with_reading w reading) _ (slice_get w.nodes node) (none_of (InSystem w)) (λ post at. begins_in (InSystem w) (TakeAnswer node) _ (takes_own (InSystem w) node (subst (λ (k : ℕ). node < k) fit.nodes (within w.nodes node post at))) (take_begins w node reading fate post))
@@ -202,7 +202,7 @@ takes_of_both P h items before since n some = elim (or_cases (has_take h n) (has
   | inr there ↦ since n there
 ]
 
-pub takes_stay : (w : State) (h : List Item) (e : Event) (fate : Fate) → Stands w h → Fit w → TakesFit w.setup.nodes h → TakesFit (stepped w e fate).state.setup.nodes (h ++ (stepped w e fate).items)
+pub takes_stay : (w : State) (h : List Item) (e : Event) (fate : Fate) → ReachedInvariant w h → Fit w → TakesFit w.setup.nodes h → TakesFit (stepped w e fate).state.setup.nodes (h ++ (stepped w e fate).items)
 takes_stay w h e fate stands fit takes_fit = subst (λ (setup : SetupNumbers). TakesFit setup.nodes (h ++ (stepped w e fate).items)) (sym (leaves_parts w e fate).setup) (record {
   some = takes_fit.some;
   there = takes_of_both (λ n. n < w.setup.nodes) h (stepped w e fate).items takes_fit.there (events_take w h e fate stands fit);

@@ -24,7 +24,7 @@ use Rattle.machine.specs.Events.AskCommit.{commit_of, ask_commit_by, ask_commit_
 use Rattle.machine.specs.Events.Write.{write_open, write_on}
 use Rattle.machine.specs.Events.Fetch.{fetch_recall, keeps_read, reads_refusal, read_items, fetch_open, fetch_on}
 use Rattle.isolation_laws.specs.Words.{ClientAt}
-use Rattle.isolation_laws.specs.Sound.{Stands}
+use Rattle.isolation_laws.specs.Sound.{ReachedInvariant}
 use Rattle.command_semantics.specs.Answers.{IsRefusal, IsReadOnly, IsAskCommit, IsWrite, IsFetch}
 use Rattle.command_semantics.proofs.Plain.{AllPlain, one_plain, no_plain}
 use Rattle.command_semantics.proofs.Fitting.{EpochFits}
@@ -38,7 +38,7 @@ starts_by : (state : SessionState) (start : Option ℕ) → (IsTrue (has_transac
 starts_by phase.Open start begun = let t = begun refl in subst (λ (x : Option ℕ). HasNumber phase.Open x) (sym t.1) tt
 starts_by _ start begun = tt
 
-pub starts : (w : State) (h : List Item) (s : ℕ) (c : Client) → Stands w h → ClientAt w.clients s c → HasNumber c.entry.state c.entry.start
+pub starts : (w : State) (h : List Item) (s : ℕ) (c : Client) → ReachedInvariant w h → ClientAt w.clients s c → HasNumber c.entry.state c.entry.start
 starts w h s c stands at = starts_by c.entry.state c.entry.start (λ has. let begun = stands.holds.requests.have_begun.begun s c at has in (begun.0, begun.1))
 
 -- ---- a commit

@@ -13,7 +13,7 @@ use Rattle.machine.specs.State.{UnderWay, Nothing, Reads, Settles, Completes, Cl
 use Rattle.machine.specs.Clients.{is_reading, is_reading_by}
 use Rattle.machine.specs.Events.Step.{own_resolve, work_by, work_of}
 use Rattle.isolation_laws.specs.Words.{ClientAt}
-use Rattle.isolation_laws.specs.Sound.{Stands}
+use Rattle.isolation_laws.specs.Sound.{ReachedInvariant}
 use Rattle.machine.proofs.Lookups.{one_client}
 
 pub record ReadWork (c : Client) : Type 0 where
@@ -43,7 +43,7 @@ abbrev pub HasWork : Client → Type 0
 HasWork c = ReadWork c ⊎ SettleWork c ⊎ CompleteWork c ⊎ PlaceWork c
 
 -- ---- a read is that of an open transaction
-reads : (w : State) (h : List Item) (s : ℕ) (c : Client) (r : Reading) → Stands w h → ClientAt w.clients s c → c.under_way ≡ Reads r → ReadWork c
+reads : (w : State) (h : List Item) (s : ℕ) (c : Client) (r : Reading) → ReachedInvariant w h → ClientAt w.clients s c → c.under_way ≡ Reads r → ReadWork c
 reads w h s c r stands at is =
     let open_at = (stands.holds.reads.reading.reads s c r at is).2 in
     record { r = r; is_open = ap (λ (d : Client). d.entry.state) (one_client w.clients s c open_at.client at open_at.at) ∙ open_at.state_is; under_way = is }
@@ -57,7 +57,7 @@ due c is_open none start start_is (key ∷ keys) keys_are some = record {
   work = ap (λ (state : SessionState). work_by state c.entry c.under_way) is_open ∙ ap (λ (work : UnderWay). work_by phase.OpenOutcome c.entry work) none ∙ ap (λ (t : Option ℕ). own_resolve t c.entry.keys) start_is ∙ ap (λ (ks : List ℕ). own_resolve (Some start) ks) keys_are;
 }
 
-settles : (w : State) (h : List Item) (s : ℕ) (c : Client) → Stands w h → ClientAt w.clients s c → c.entry.state ≡ phase.OpenOutcome → SettleWork c
+settles : (w : State) (h : List Item) (s : ℕ) (c : Client) → ReachedInvariant w h → ClientAt w.clients s c → c.entry.state ≡ phase.OpenOutcome → SettleWork c
 settles w h s c stands at is_open = elim (stands.holds.under_way.settling.resolve s c at is_open) [
   | inl none ↦
       let begun = stands.holds.requests.have_begun.begun s c at (subst (λ (state : SessionState). IsTrue (has_transaction state)) (sym is_open) refl) in
@@ -78,7 +78,7 @@ no_undo : (t : ℕ) (left : List ℕ) → [] ≡ undo_asks t left → (left ≡ 
 no_undo t [] is some = some refl
 no_undo t (k ∷ ks) is some = cc
 
-completes_by : (w : State) (h : List Item) (s : ℕ) (c : Client) → Stands w h → ClientAt w.clients s c → (undo : Bool) → c.entry.state ≡ phase.Completing undo → (asks : List Ask) → c.under_way ≡ Completes asks → CompleteWork c
+completes_by : (w : State) (h : List Item) (s : ℕ) (c : Client) → ReachedInvariant w h → ClientAt w.clients s c → (undo : Bool) → c.entry.state ≡ phase.Completing undo → (asks : List Ask) → c.under_way ≡ Completes asks → CompleteWork c
 completes_by w h s c stands at undo is (asked ∷ asks) under_way = record { undo = undo; asked = asked; asks = asks; completing = is; under_way = under_way }
 completes_by w h s c stands at false is [] under_way =
     let finish = stands.holds.under_way.finishing.finish s c [] at is under_way in
@@ -88,7 +88,7 @@ completes_by w h s c stands at true is [] under_way =
     let undo = stands.holds.under_way.undoing.undo s begun.0 c [] at is begun.1 under_way in
     absurd (no_undo begun.0 undo.left undo.shape undo.some)
 
-pub completes : (w : State) (h : List Item) (s : ℕ) (c : Client) → Stands w h → ClientAt w.clients s c → (undo : Bool) → c.entry.state ≡ phase.Completing undo → CompleteWork c
+pub completes : (w : State) (h : List Item) (s : ℕ) (c : Client) → ReachedInvariant w h → ClientAt w.clients s c → (undo : Bool) → c.entry.state ≡ phase.Completing undo → CompleteWork c
 completes w h s c stands at false is =
     let busy = stands.holds.under_way.finishing.busy s c at is in
     completes_by w h s c stands at false is busy.0 busy.1
@@ -103,27 +103,27 @@ handed_is c start commit placing start_is commit_is =
     ∙ ap (λ (t : Option ℕ). handed_by phase.Placing t c.entry.commit) start_is
     ∙ ap (λ (drawn : Option ℕ). handed_by phase.Placing (Some start) drawn) commit_is
 
-pub places_commit : (w : State) (h : List Item) (s : ℕ) (c : Client) → Stands w h → ClientAt w.clients s c → c.entry.state ≡ phase.Placing → PlaceWork c
+pub places_commit : (w : State) (h : List Item) (s : ℕ) (c : Client) → ReachedInvariant w h → ClientAt w.clients s c → c.entry.state ≡ phase.Placing → PlaceWork c
 places_commit w h s c stands at is =
     let begun = stands.holds.requests.have_begun.begun s c at (subst (λ (state : SessionState). IsTrue (has_transaction state)) (sym is) refl) in
     let handed = stands.holds.under_way.handed.commit s c at is in
     record { start = begun.0; commit = handed.0; placing = is; handed = handed_is c begun.0 handed.0 is begun.1 handed.1 }
 
 -- ---- any of them
-by_state : (w : State) (h : List Item) (s : ℕ) (c : Client) → Stands w h → ClientAt w.clients s c → (state : SessionState) → c.entry.state ≡ state → step_refusal state false ≡ None → HasWork c
+by_state : (w : State) (h : List Item) (s : ℕ) (c : Client) → ReachedInvariant w h → ClientAt w.clients s c → (state : SessionState) → c.entry.state ≡ state → step_refusal state false ≡ None → HasWork c
 by_state w h s c stands at phase.OpenOutcome is go = inr (inl (settles w h s c stands at is))
 by_state w h s c stands at (phase.Completing undo) is go = inr (inr (inl (completes w h s c stands at undo is)))
 by_state w h s c stands at phase.Placing is go = inr (inr (inr (places_commit w h s c stands at is)))
 by_state w h s c stands at _ is go = absurd (cc)
 
-idle : (w : State) (h : List Item) (s : ℕ) (c : Client) → Stands w h → ClientAt w.clients s c → step_refusal c.entry.state (is_reading c) ≡ None → is_reading c ≡ false → HasWork c
+idle : (w : State) (h : List Item) (s : ℕ) (c : Client) → ReachedInvariant w h → ClientAt w.clients s c → step_refusal c.entry.state (is_reading c) ≡ None → is_reading c ≡ false → HasWork c
 idle w h s c stands at go none = by_state w h s c stands at c.entry.state refl (ap (λ (reading : Bool). step_refusal c.entry.state reading) (sym none) ∙ go)
 
-by_work : (w : State) (h : List Item) (s : ℕ) (c : Client) → Stands w h → ClientAt w.clients s c → step_refusal c.entry.state (is_reading c) ≡ None → (work : UnderWay) → c.under_way ≡ work → HasWork c
+by_work : (w : State) (h : List Item) (s : ℕ) (c : Client) → ReachedInvariant w h → ClientAt w.clients s c → step_refusal c.entry.state (is_reading c) ≡ None → (work : UnderWay) → c.under_way ≡ work → HasWork c
 by_work w h s c stands at go (Reads r) is = inl (reads w h s c r stands at is)
 by_work w h s c stands at go Nothing is = idle w h s c stands at go (ap is_reading_by is)
 by_work w h s c stands at go (Settles x) is = idle w h s c stands at go (ap is_reading_by is)
 by_work w h s c stands at go (Completes asks) is = idle w h s c stands at go (ap is_reading_by is)
 
-pub has_work : (w : State) (h : List Item) (s : ℕ) (c : Client) → Stands w h → ClientAt w.clients s c → step_refusal c.entry.state (is_reading c) ≡ None → HasWork c
+pub has_work : (w : State) (h : List Item) (s : ℕ) (c : Client) → ReachedInvariant w h → ClientAt w.clients s c → step_refusal c.entry.state (is_reading c) ≡ None → HasWork c
 has_work w h s c stands at go = by_work w h s c stands at go c.under_way refl

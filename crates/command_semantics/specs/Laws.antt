@@ -15,9 +15,9 @@ use Rattle.script_data.specs.declared.line.Verb.{Verb}
 use Rattle.script_data.specs.declared.line.Verb.TheVariants as verb
 use Rattle.script_data.specs.Data.{ScriptData}
 use Rattle.script_data.specs.Ticks.{ticks_of}
-use Rattle.isolation_laws.specs.Sound.{Stands}
+use Rattle.isolation_laws.specs.Sound.{ReachedInvariant}
 use Rattle.command_semantics.specs.declared.point.Point.{Point}
-use Rattle.command_semantics.specs.Halts.{halt_of, follows}
+use Rattle.command_semantics.specs.Interruptions.{halt_of, follows}
 use Rattle.command_semantics.specs.Views.{view_of}
 use Rattle.command_semantics.specs.Next.{Clocks, next}
 use Rattle.command_semantics.specs.Answers.{Answers}
@@ -27,7 +27,7 @@ use Rattle.command_semantics.specs.Runs.{Played, next_in, line_run, lines_played
 -- each event that a run makes lowers what is left, in every state that is reached, under every fate
 abbrev pub EventsLowerWhatIsLeft : Type 0
 EventsLowerWhatIsLeft =
-    (w : State) (h : List Item) (clocks : Clocks) (actor : Actor) (verb : Verb) (point : Point) (e : Event) (fate : Fate) → Stands w h → next clocks actor verb point (view_of w actor) ≡ Some e →
+    (w : State) (h : List Item) (clocks : Clocks) (actor : Actor) (verb : Verb) (point : Point) (e : Event) (fate : Fate) → ReachedInvariant w h → next clocks actor verb point (view_of w actor) ≡ Some e →
     left (stepped w e fate).state actor verb (follows verb point (halt_of (stepped w e fate).stop)) < left w actor verb point
 
 -- ---- what is asked of a script: its numbers are in range, no clock is ahead by more than the skew, and its ticks are few
@@ -38,7 +38,7 @@ pub record IsPlayable (script : ScriptData) (clock : ℕ) (lines : List Line) : 
 -- what was played is reached: all facts hold, by the setup of the script, and no reading was ahead of the clock by more than
 -- the skew
 pub record IsReached (script : ScriptData) (p : Played) : Type 0 where
-  pub stands : Stands p.state p.items
+  pub stands : ReachedInvariant p.state p.items
   pub setup : p.state.setup ≡ script.setup
   pub seen : p.state.seen ≤ p.clock + script.setup.skew
 

@@ -2,7 +2,7 @@ pub mod SoFar
 pub mod PlannedLaws
 pub mod Orders
 pub mod Clocks
-pub mod Halts
+pub mod Interruptions
 pub mod Views
 pub mod Master
 pub mod Next

@@ -3,7 +3,7 @@ use Rattle.std.specs.Prelude.{◌≡◌, ℕ, ◌+◌, ◌≤◌, ◌^◌, unwra
 use Rattle.stamp_base.specs.SetupNumbers.{AreInRange}
 use Rattle.machine.specs.declared.event.Event.{Event}
 use Rattle.script_data.specs.Data.{ScriptData}
-use Rattle.cause_laws.specs.Shows.{Tells}
+use Rattle.cause_laws.specs.ShownInvariant.{Tells}
 use Rattle.command_semantics.specs.Runs.{Played, clocks_of, played, opening_played}
 use Rattle.command_semantics.specs.Laws.{IsPlayable, IsReached}
 use Rattle.command_semantics.specs.Planned.{with_tick, ticks_in, Planned}
@@ -32,7 +32,7 @@ ticks_made (x ∷ xs) = with_tick x.tick (ticks_made xs)
 -- what was played is reached, and its history shows it
 pub record IsTold (script : ScriptData) (p : Played) : Type 0 where
   pub reached : IsReached script p
-  pub tells : Tells p.state p.items
+  pub tells : ExplainedInvariant p.state p.items
 
 -- so it stays with an event that reads the clocks: no clock is ahead by more than the skew, and the ticks are few
 abbrev pub EventsStayTold : Type 0

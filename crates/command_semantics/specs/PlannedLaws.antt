@@ -5,7 +5,7 @@ use Rattle.history_book.specs.declared.item.Actor.{Actor}
 use Rattle.machine.specs.declared.event.Event.{Event}
 use Rattle.script_data.specs.declared.line.Verb.{Verb}
 use Rattle.script_data.specs.Data.{ScriptData}
-use Rattle.cause_laws.specs.Shows.{Tells}
+use Rattle.cause_laws.specs.ShownInvariant.{Tells}
 use Rattle.command_semantics.specs.declared.point.Point.{Point}
 use Rattle.command_semantics.specs.declared.point.View.{View}
 use Rattle.command_semantics.specs.Next.{Clocks, next}
@@ -21,7 +21,7 @@ PlannedAtFirst = (script : ScriptData) → PlannedSoFar script [] (opening_playe
 -- an event keeps to the plan in every state that is reached, wherever it comes from
 abbrev pub EventsStayPlanned : Type 0
 EventsStayPlanned =
-    (script : ScriptData) (ticks : List ℕ) (tick : Option ℕ) (p : Played) (e : Event) → Tells p.state p.items → ReadsClocks (clocks_of script p) tick e → PlannedSoFar script ticks p →
+    (script : ScriptData) (ticks : List ℕ) (tick : Option ℕ) (p : Played) (e : Event) → ExplainedInvariant p.state p.items → ReadsClocks (clocks_of script p) tick e → PlannedSoFar script ticks p →
     PlannedSoFar script (ticks_with ticks tick) (played script p e)
 
 -- once the clock has ticked as the script's lines say, the history is the script's plan

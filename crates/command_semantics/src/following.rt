@@ -1,12 +1,12 @@
 // Where the run of a line stands after an event.
 ghost use Rattle.std.specs.Prelude.{◌≡◌};
-ghost use Rattle.command_semantics.specs.Halts as halts;
+ghost use Rattle.command_semantics.specs.Interruptions as halts;
 
-use crate::point::{Halt, Point};
+use crate::point::{Interruption, Point};
 use script_data::Verb;
 
 /// Where the run stands after an event that was made at this point, by how the event stopped, if it did.
-pub fn follows(verb: &Verb, point: Point, halt: Option<Halt>) -> Point
+pub fn follows(verb: &Verb, point: Point, halt: Option<Interruption>) -> Point
     ensures { result ≡ halts.follows verb.now point halt }
 {
     match point {
@@ -19,7 +19,7 @@ pub fn follows(verb: &Verb, point: Point, halt: Option<Halt>) -> Point
     }
 }
 
-fn after_opening(verb: &Verb, halt: Option<Halt>) -> Point
+fn after_opening(verb: &Verb, halt: Option<Interruption>) -> Point
     ensures { result ≡ halts.after_opening verb.now halt }
 {
     match verb {
@@ -36,7 +36,7 @@ fn after_opening(verb: &Verb, halt: Option<Halt>) -> Point
     }
 }
 
-fn unless_halted(point: Point, halt: Option<Halt>) -> Point
+fn unless_halted(point: Point, halt: Option<Interruption>) -> Point
     ensures { result ≡ halts.unless_halted point halt }
 {
     match halt {
@@ -45,41 +45,41 @@ fn unless_halted(point: Point, halt: Option<Halt>) -> Point
     }
 }
 
-fn after_write(halt: Option<Halt>) -> Point
+fn after_write(halt: Option<Interruption>) -> Point
     ensures { result ≡ halts.after_write halt }
 {
     match halt {
-        Some(Halt::Faulted) => Point::Finishes,
+        Some(Interruption::Faulted) => Point::Finishes,
         _ => Point::Over,
     }
 }
 
-fn after_serving(halt: Option<Halt>) -> Point
+fn after_serving(halt: Option<Interruption>) -> Point
     ensures { result ≡ halts.after_serving halt }
 {
     match halt {
-        None | Some(Halt::Faulted) => Point::Drives,
-        Some(Halt::NoStamp) => Point::Extends,
-        Some(Halt::NotYet) => Point::Over,
-        Some(Halt::Refused) => Point::Finishes,
+        None | Some(Interruption::Faulted) => Point::Drives,
+        Some(Interruption::NoStamp) => Point::Extends,
+        Some(Interruption::NotYet) => Point::Over,
+        Some(Interruption::Refused) => Point::Finishes,
     }
 }
 
-fn after_stepping(halt: Option<Halt>) -> Point
+fn after_stepping(halt: Option<Interruption>) -> Point
     ensures { result ≡ halts.after_stepping halt }
 {
     match halt {
         None => Point::Steps,
-        Some(Halt::Refused) => Point::Finishes,
+        Some(Interruption::Refused) => Point::Finishes,
         Some(_) => Point::Over,
     }
 }
 
-fn after_extending(halt: Option<Halt>) -> Point
+fn after_extending(halt: Option<Interruption>) -> Point
     ensures { result ≡ halts.after_extending halt }
 {
     match halt {
-        Some(Halt::Faulted) => Point::Over,
+        Some(Interruption::Faulted) => Point::Over,
         _ => Point::Drives,
     }
 }

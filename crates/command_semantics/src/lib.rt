@@ -17,4 +17,4 @@ pub use planned::{
     events_stay_planned, events_stay_told, lines_read_clocks, orders_are_planned, planned_at_first,
     planned_in_the_end, scripts_are_planned,
 };
-pub use point::{Halt, Point, View, refused};
+pub use point::{Interruption, Point, View, refused};

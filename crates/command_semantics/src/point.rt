@@ -1,5 +1,5 @@
 ghost use Rattle.std.specs.Prelude.{◌≡◌};
-ghost use Rattle.command_semantics.specs.Halts.{refused_by};
+ghost use Rattle.command_semantics.specs.Interruptions.{refused_by};
 
 use history_book::Cause;
 use machine::Doing;
@@ -27,7 +27,7 @@ pub enum Point {
 
 /// How an event of a run stopped short.
 #[derive(Clone, Copy, Debug, PartialEq, Eq)]
-pub enum Halt {
+pub enum Interruption {
     /// A request was refused its stamp, and stays.
     NoStamp,
     /// A begin was told to wait, and stays.
@@ -49,12 +49,12 @@ pub struct View {
 }
 
 /// How a run takes a refusal with this cause.
-pub fn refused(cause: &Cause) -> Halt
+pub fn refused(cause: &Cause) -> Interruption
     ensures { result ≡ refused_by cause.now }
 {
     match cause {
-        Cause::NoStamp { .. } => Halt::NoStamp,
-        Cause::NotYet { .. } => Halt::NotYet,
-        _ => Halt::Refused,
+        Cause::NoStamp { .. } => Interruption::NoStamp,
+        Cause::NotYet { .. } => Interruption::NotYet,
+        _ => Interruption::Refused,
     }
 }

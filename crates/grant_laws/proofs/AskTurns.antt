@@ -23,7 +23,7 @@ use Rattle.script_data.specs.Data.{ScriptData}
 use Rattle.isolation_laws.specs.Words.{InstanceAt, ClientAt}
 use Rattle.machine.proofs.Lookups.{set_found}
 use Rattle.command_semantics.specs.Runs.{Played, step_of, played}
-use Rattle.turn_rules.specs.declared.ahead.Ahead.TheVariants.{Makes}
+use Rattle.turn_rules.specs.declared.ahead.NextAction.TheVariants.{Makes}
 use Rattle.turn_rules.specs.declared.turn.Turn.TheVariants as turn
 use Rattle.turn_rules.specs.Carried.{Carried, own_ahead, made_by, carried}
 use Rattle.grant_laws.specs.Premises.{IsAtWork}

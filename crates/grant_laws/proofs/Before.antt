@@ -5,7 +5,7 @@ use Rattle.history_book.specs.declared.item.Item.{Item}
 use Rattle.script_data.specs.declared.line.Line.{Line}
 use Rattle.script_data.specs.Data.{ScriptData}
 use Rattle.script_data.specs.Ticks.{ticks_of}
-use Rattle.cause_laws.specs.Shows.{Tells}
+use Rattle.cause_laws.specs.ShownInvariant.{Tells}
 use Rattle.cause_laws.proofs.AlwaysExplained.{tells_stay, tells_at_first}
 use Rattle.command_semantics.specs.Runs.{Played, line_run, lines_played, opening_played, script_played}
 use Rattle.command_semantics.specs.Laws.{EventsLowerWhatIsLeft, IsPlayable, IsReached}
@@ -55,7 +55,7 @@ granted script line p x k appends =
 -- ---- what was played is reached, and its history shows it
 pub record Known (script : ScriptData) (p : Played) : Type 0 where
   pub reached : IsReached script p
-  pub tells : Tells p.state p.items
+  pub tells : ExplainedInvariant p.state p.items
   pub fit : Fit p.state
 
 before_playable : (script : ScriptData) (line : Line) (p : Played) (k : IsBefore script line p) → IsPlayable script 0 k.earlier
@@ -69,6 +69,6 @@ known_before lowers script line p k =
     let then : Played = lines_played script k.earlier first in
     let playable : IsPlayable script 0 k.earlier = before_playable script line p k in
     let reached : IsReached script first = opening_reached script k.in_range in
-    let shown : IsReached script then × Tells then.state then.items = lines_keep lowers Tells script k.earlier first (λ w h e fate tells steady. tells_stay w h e fate tells steady) reached (tells_at_first script.setup k.in_range) playable in
+    let shown : IsReached script then × ExplainedInvariant then.state then.items = lines_keep lowers ExplainedInvariant script k.earlier first (λ w h e fate tells steady. tells_stay w h e fate tells steady) reached (tells_at_first script.setup k.in_range) playable in
     let fit : IsReached script then × Fit then.state = lines_keep lowers (λ w h. Fit w) script k.earlier first (λ w h e fate fits steady. fit_stays w e fate fits) reached (fit_at_first script.setup) playable in
     subst (λ (q : Played). Known script q) (sym k.played) (record { reached = shown.0; tells = shown.1; fit = fit.1 })

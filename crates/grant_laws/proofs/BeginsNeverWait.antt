@@ -13,7 +13,7 @@ use Rattle.machine.specs.State.{State}
 use Rattle.isolation_laws.specs.Words.{InstanceAt}
 use Rattle.machine.proofs.Lookups.{held_by}
 use Rattle.cause_laws.specs.Requests.{WhereNodesPut}
-use Rattle.cause_laws.specs.Shows.{Tells}
+use Rattle.cause_laws.specs.ShownInvariant.{Tells}
 use Rattle.command_semantics.specs.Laws.{EventsLowerWhatIsLeft}
 use Rattle.grant_laws.specs.Laws.{DirectBeginsNeverWait}
 use Rattle.grant_laws.proofs.Before.{Known, known_before}
@@ -33,7 +33,7 @@ none_among (Some held ∷ others) start each =
     ap (λ (commit : Option ℕ). lesser (only_below start commit) (least_unsettled others start)) (each zero held refl)
     ∙ none_among others start (λ s later has. each (suc s) later has)
 
-none_at : (w : State) (h : List Item) (node start : ℕ) (i : InstanceEntry) → Tells w h → w.setup.direct ≡ true → InstanceAt w.nodes node i → least_unsettled i.requests start ≡ None
+none_at : (w : State) (h : List Item) (node start : ℕ) (i : InstanceEntry) → ExplainedInvariant w h → w.setup.direct ≡ true → InstanceAt w.nodes node i → least_unsettled i.requests start ≡ None
 none_at w h node start i tells is at = none_among i.requests start (λ s held has. none_by held.request held.progress (subst (λ (form : Bool). WhereNodesPut form held.request held.progress) is (tells.shows.put.each node s i held.request held.progress at (held_by i s held has))))
 
 pub direct_begins_never_wait : EventsLowerWhatIsLeft → DirectBeginsNeverWait

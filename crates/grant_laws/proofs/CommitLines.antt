@@ -28,7 +28,7 @@ use Rattle.script_data.specs.declared.line.Line.{Line}
 use Rattle.script_data.specs.declared.line.Verb.{Verb}
 use Rattle.script_data.specs.declared.line.Verb.TheVariants as verb
 use Rattle.command_semantics.specs.declared.point.Point.TheVariants.{Opens, Drives}
-use Rattle.command_semantics.specs.Halts.{halt_of, follows}
+use Rattle.command_semantics.specs.Interruptions.{halt_of, follows}
 use Rattle.command_semantics.specs.Laws.{EventsLowerWhatIsLeft}
 use Rattle.command_semantics.specs.Runs.{Played, fate_by, step_of, played, opened}
 use Rattle.grant_laws.specs.Granted.{line_of, reading_of, node_asked}

@@ -30,7 +30,7 @@ use Rattle.script_data.specs.declared.line.Line.{Line}
 use Rattle.script_data.specs.declared.line.Verb.{Verb}
 use Rattle.script_data.specs.Data.{ScriptData}
 use Rattle.command_semantics.specs.declared.point.Point.TheVariants.{Drives, Extends}
-use Rattle.command_semantics.specs.Halts.{halt_of, follows}
+use Rattle.command_semantics.specs.Interruptions.{halt_of, follows}
 use Rattle.command_semantics.specs.Next.{is_served, extend_next}
 use Rattle.command_semantics.specs.Runs.{Calls, Played, fate_by, fate_of, step_of, calls_after, one_more, played, next_in}
 use Rattle.grant_laws.specs.Granted.{line_of}

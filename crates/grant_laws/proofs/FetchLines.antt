@@ -33,7 +33,7 @@ use Rattle.script_data.specs.Data.{ScriptData}
 use Rattle.isolation_laws.specs.Words.{ClientAt}
 use Rattle.machine.proofs.Lookups.{set_found}
 use Rattle.command_semantics.specs.declared.point.Point.TheVariants.{Opens, Reads}
-use Rattle.command_semantics.specs.Halts.{halt_of, follows}
+use Rattle.command_semantics.specs.Interruptions.{halt_of, follows}
 use Rattle.command_semantics.specs.Laws.{EventsLowerWhatIsLeft}
 use Rattle.command_semantics.specs.Runs.{Calls, Played, one_more, calls_after, fate_by, fate_of, step_of, played, run_after, left_in, opened}
 use Rattle.command_semantics.proofs.ReadLines.{OfRead, over_recalls}

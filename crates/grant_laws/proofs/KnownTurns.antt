@@ -4,9 +4,9 @@ use Rattle.std.specs.Prelude.{fold}
 use Rattle.stamp_base.specs.SetupNumbers.{AreInRange}
 use Rattle.machine.specs.declared.event.Event.{Event}
 use Rattle.script_data.specs.Data.{ScriptData}
-use Rattle.cause_laws.specs.Shows.{Tells}
+use Rattle.cause_laws.specs.ShownInvariant.{Tells}
 use Rattle.cause_laws.proofs.AlwaysExplained.{tells_stay, tells_at_first}
-use Rattle.isolation_laws.specs.Sound.{Stands}
+use Rattle.isolation_laws.specs.Sound.{ReachedInvariant}
 use Rattle.command_semantics.specs.Laws.{IsPlayable}
 use Rattle.command_semantics.specs.Runs.{fate_of}
 use Rattle.turn_rules.specs.declared.turn.Turn.{Turn}
@@ -17,15 +17,15 @@ use Rattle.grant_laws.proofs.SettledCommits.{turn_steady}
 
 pub record KnownTurns (script : ScriptData) (c : Carried) : Type 0 where
   pub facts : Facts script c
-  pub tells : Tells c.played.state c.played.items
+  pub tells : ExplainedInvariant c.played.state c.played.items
 
 pub as_known : (script : ScriptData) (c : Carried) → KnownTurns script c → Known script c.played
 as_known script c k = record { reached = k.facts.reached; tells = k.tells; fit = k.facts.fit }
 
-pub known_stands : (script : ScriptData) (c : Carried) → KnownTurns script c → Stands c.played.state c.played.items
+pub known_stands : (script : ScriptData) (c : Carried) → KnownTurns script c → ReachedInvariant c.played.state c.played.items
 known_stands script c k = k.facts.reached.stands
 
-tells_by : (script : ScriptData) (c : Carried) (t : Turn) → IsPlayable script 0 script.lines → KnownTurns script c → (found : Option Event) → event_of script c t ≡ found → Tells (turned_by script c t found).played.state (turned_by script c t found).played.items
+tells_by : (script : ScriptData) (c : Carried) (t : Turn) → IsPlayable script 0 script.lines → KnownTurns script c → (found : Option Event) → event_of script c t ≡ found → ExplainedInvariant (turned_by script c t found).played.state (turned_by script c t found).played.items
 tells_by script c t playable k None is = k.tells
 tells_by script c t playable k (Some e) is = tells_stay c.played.state c.played.items e (fate_of script c.played e) k.tells (turn_steady script c t e playable k.facts is)
 

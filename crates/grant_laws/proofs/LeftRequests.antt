@@ -18,7 +18,7 @@ use Rattle.machine.specs.declared.event.Event.TheVariants as event
 use Rattle.machine.specs.Machine.{Step}
 use Rattle.machine.specs.Events.Answer.{answer_by, answer_request, answer_on}
 use Rattle.script_data.specs.Data.{ScriptData}
-use Rattle.isolation_laws.specs.Sound.{Stands}
+use Rattle.isolation_laws.specs.Sound.{ReachedInvariant}
 use Rattle.isolation_laws.specs.Words.{InstanceAt}
 use Rattle.machine.proofs.Lookups.{set_found, one_instance}
 use Rattle.command_semantics.specs.Laws.{IsPlayable}
@@ -55,7 +55,7 @@ waits_so node s start commit i c held has asks stands least =
     ∙ ap (λ (p : Progress). answer_by node s start c i (answer_if_ready i s held (Begin s) p).left (answer_if_ready i s held (Begin s) p).answer) stands
     ∙ ap (λ (found : Option ℕ). answer_by node s start c i (answer_begin i s held start found).left (answer_begin i s held start found).answer) least
 
-told_to_wait : (script : ScriptData) (c : Carried) (node s start commit : ℕ) (k : IsServed c.played node s (Begin s) (progress.Drawn start)) → Stands c.played.state c.played.items → least_unsettled k.oracle.requests start ≡ Some commit → ToldToWait script c node s start commit k
+told_to_wait : (script : ScriptData) (c : Carried) (node s start commit : ℕ) (k : IsServed c.played node s (Begin s) (progress.Drawn start)) → ReachedInvariant c.played.state c.played.items → least_unsettled k.oracle.requests start ≡ Some commit → ToldToWait script c node s start commit k
 told_to_wait script c node s start commit k stands least =
     let w : State = c.played.state in
     let e : Event = event.Answer node s in
@@ -77,11 +77,11 @@ pub early_answers_wait : EarlyAnswersWait
 early_answers_wait script turns node s start commit in_range playable k least = told_to_wait script (carried script turns) node s start commit k (known_stands script (carried script turns) (known_carried script turns in_range playable)) least
 
 -- ---- both
-waits_by : (script : ScriptData) (c : Carried) (node s start : ℕ) (k : IsServed c.played node s (Begin s) (progress.Drawn start)) (found : Option ℕ) → Stands c.played.state c.played.items → least_unsettled k.oracle.requests start ≡ found → found ≢ None → IsServed (turned script c (turn.Answer node s)).played node s (Begin s) (progress.Drawn start)
+waits_by : (script : ScriptData) (c : Carried) (node s start : ℕ) (k : IsServed c.played node s (Begin s) (progress.Drawn start)) (found : Option ℕ) → ReachedInvariant c.played.state c.played.items → least_unsettled k.oracle.requests start ≡ found → found ≢ None → IsServed (turned script c (turn.Answer node s)).played node s (Begin s) (progress.Drawn start)
 waits_by script c node s start k None stands is some = absurd (some refl)
 waits_by script c node s start k (Some commit) stands is some = (told_to_wait script c node s start commit k stands is).stays
 
-waits_on : (script : ScriptData) (c : Carried) (node s start : ℕ) (t : Turn) (k : IsServed c.played node s (Begin s) (progress.Drawn start)) → Stands c.played.state c.played.items → IfSome (event_of script c t) (λ e. touches node s e ≡ false) ⊎ AnswersEarly c node s start t → IsServed (turned script c t).played node s (Begin s) (progress.Drawn start)
+waits_on : (script : ScriptData) (c : Carried) (node s start : ℕ) (t : Turn) (k : IsServed c.played node s (Begin s) (progress.Drawn start)) → ReachedInvariant c.played.state c.played.items → IfSome (event_of script c t) (λ e. touches node s e ≡ false) ⊎ AnswersEarly c node s start t → IsServed (turned script c t).played node s (Begin s) (progress.Drawn start)
 waits_on script c node s start t k stands (inl leaves) = stays_by script c t node s (Begin s) (progress.Drawn start) (event_of script c t) leaves k
 waits_on script c node s start t k stands (inr early) =
     let some : least_unsettled k.oracle.requests start ≢ None = of_holder c.played node s (Begin s) (progress.Drawn start) (λ i. least_unsettled i.requests start ≢ None) k early.unsettled in

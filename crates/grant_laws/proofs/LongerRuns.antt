@@ -7,7 +7,7 @@ use Rattle.machine.specs.declared.event.Event.{Event}
 use Rattle.script_data.specs.declared.line.Line.{Line}
 use Rattle.script_data.specs.Data.{ScriptData}
 use Rattle.command_semantics.specs.declared.point.Point.{Point}
-use Rattle.command_semantics.specs.Halts.{halt_of, follows}
+use Rattle.command_semantics.specs.Interruptions.{halt_of, follows}
 use Rattle.command_semantics.specs.Runs.{Played, step_of, played, Run, next_in, run_after, left_in, going_on, run_for, opened, line_run, lines_played}
 use Rattle.grant_laws.specs.Granted.{Appends}
 

@@ -9,7 +9,7 @@ use Rattle.script_data.specs.Data.{ScriptData}
 use Rattle.command_semantics.specs.Runs.{step_of, played}
 use Rattle.turn_rules.specs.declared.turn.Turn.{Turn}
 use Rattle.turn_rules.specs.declared.turn.Turn.TheVariants as turn
-use Rattle.turn_rules.specs.declared.ahead.Ahead.TheVariants.{Makes}
+use Rattle.turn_rules.specs.declared.ahead.NextAction.TheVariants.{Makes}
 use Rattle.turn_rules.specs.Carried.{Carried, own_ahead, made_by, event_of, turned_by, turned, carried}
 use Rattle.turn_rules.specs.Laws.{TurnsKeepFacts}
 use Rattle.grant_laws.specs.Granted.{reading_of}

@@ -18,7 +18,7 @@ use Rattle.command_semantics.specs.Answers.{same_actor}
 use Rattle.command_semantics.specs.Next.{Clocks}
 use Rattle.command_semantics.specs.Views.{view_of}
 use Rattle.command_semantics.proofs.ScriptWalks.{actor_same}
-use Rattle.turn_rules.specs.declared.ahead.Ahead.TheVariants.{Makes}
+use Rattle.turn_rules.specs.declared.ahead.NextAction.TheVariants.{Makes}
 use Rattle.turn_rules.specs.declared.seat.Seat.{Seat}
 use Rattle.turn_rules.specs.declared.turn.Turn.{Turn}
 use Rattle.turn_rules.specs.declared.turn.Turn.TheVariants as turn

@@ -27,7 +27,7 @@ use Rattle.script_data.specs.declared.line.Verb.{Verb}
 use Rattle.script_data.specs.declared.line.Verb.TheVariants as verb
 use Rattle.script_data.specs.Data.{ScriptData}
 use Rattle.isolation_laws.specs.Pending.{Has, InFlight, is_placing, PlacingAt}
-use Rattle.isolation_laws.specs.Sound.{Stands}
+use Rattle.isolation_laws.specs.Sound.{ReachedInvariant}
 use Rattle.isolation_laws.specs.Words.{ClientAt, Marked}
 use Rattle.command_semantics.specs.declared.point.Point.TheVariants.{Drives}
 use Rattle.command_semantics.specs.Laws.{IsPlayable}
@@ -35,8 +35,8 @@ use Rattle.command_semantics.specs.Next.{placing_next}
 use Rattle.command_semantics.specs.Runs.{Played, fate_by, fate_of, step_of}
 use Rattle.command_semantics.proofs.Stepping.{place_is}
 use Rattle.command_semantics.proofs.Working.{PlaceWork, handed_is}
-use Rattle.turn_rules.specs.declared.ahead.Ahead.{Ahead}
-use Rattle.turn_rules.specs.declared.ahead.Ahead.TheVariants.{Makes}
+use Rattle.turn_rules.specs.declared.ahead.NextAction.{NextAction}
+use Rattle.turn_rules.specs.declared.ahead.NextAction.TheVariants.{Makes}
 use Rattle.turn_rules.specs.Waiting.{made_next, drive_ahead}
 use Rattle.turn_rules.specs.declared.turn.Turn.{Turn}
 use Rattle.turn_rules.specs.declared.turn.Turn.TheVariants as turn
@@ -77,7 +77,7 @@ place_tells script p s start commit k absent works =
     ∙ placed_so s start commit (fate_of script p e) k.client p.state.pairs absent fate
 
 -- nothing stands in the table for it, unless somebody has marked the transaction
-absent_by : (p : Played) (s start commit : ℕ) (k : IsPlacing p s start commit) (found : Option Mark) → Stands p.state p.items → (Marked p.state.pairs start → ⊥) → mark_of p.state.pairs start ≡ found → found ≡ None
+absent_by : (p : Played) (s start commit : ℕ) (k : IsPlacing p s start commit) (found : Option Mark) → ReachedInvariant p.state p.items → (Marked p.state.pairs start → ⊥) → mark_of p.state.pairs start ≡ found → found ≡ None
 absent_by p s start commit k None stands unmarked is = refl
 absent_by p s start commit k (Some InvalidMark) stands unmarked is = absurd (unmarked is)
 absent_by p s start commit k (Some (CommittedMark other)) stands unmarked is =
@@ -86,7 +86,7 @@ absent_by p s start commit k (Some (CommittedMark other)) stands unmarked is =
     absurd ((stands.holds.requests.pending.so_far q (inr placing)).1 other (stands.holds.cells.pairs_are.placed start other is))
 
 -- an own turn
-pub placing_carried : (script : ScriptData) (c : Carried) (aim s start commit : ℕ) → Stands c.played.state c.played.items → own_ahead script c (Session s) aim ≡ Makes (event.Step s) → IsPlacing c.played s start commit → (Marked c.played.state.pairs start → ⊥) → next_fate script c.played Table ≡ Works → (turned script c (turn.Own (Session s) aim)).played.items ≡ c.played.items ++ item.Placed start commit ∷ item.Committed s start commit ∷ []
+pub placing_carried : (script : ScriptData) (c : Carried) (aim s start commit : ℕ) → ReachedInvariant c.played.state c.played.items → own_ahead script c (Session s) aim ≡ Makes (event.Step s) → IsPlacing c.played s start commit → (Marked c.played.state.pairs start → ⊥) → next_fate script c.played Table ≡ Works → (turned script c (turn.Own (Session s) aim)).played.items ≡ c.played.items ++ item.Placed start commit ∷ item.Committed s start commit ∷ []
 placing_carried script c aim s start commit stands ahead k unmarked works =
     ap (λ (found : Option Event). (turned_by script c (turn.Own (Session s) aim) found).played.items) (ap made_by ahead)
     ∙ ap (λ (items : List Item). c.played.items ++ items) (place_tells script c.played s start commit k (absent_by c.played s start commit k (mark_of c.played.state.pairs start) stands unmarked refl) works)
@@ -117,7 +117,7 @@ left_placing script playable s start commit [] c known none k = k
 left_placing script playable s start commit (t ∷ turns) c known none k = left_placing script playable s start commit turns (turned script c t) (known_turned script c t playable known) none.1 (placing_stays script c t s start commit known none.0 k)
 
 -- ---- a commit line makes the step
-unheld : (w : State) (h : List Item) (s : ℕ) (c : Client) → Stands w h → ClientAt w.clients s c → c.entry.state ≡ phase.Placing → holder_of w s ≡ None
+unheld : (w : State) (h : List Item) (s : ℕ) (c : Client) → ReachedInvariant w h → ClientAt w.clients s c → c.entry.state ≡ phase.Placing → holder_of w s ≡ None
 unheld w h s c stands at is = holder_none_from 0 w.nodes s (λ m j there. none_held w h s c stands at (inr is) m j there)
 
 pub commit_lines_place : CommitLinesPlace
@@ -125,7 +125,7 @@ commit_lines_place script turns aim s start commit to in_range playable k placin
     let c : Carried = carried script turns in
     let w : State = c.played.state in
     let v : Verb = verb.Commit to in
-    let ahead : Option (ℕ × Held) → Ahead = λ (found : Option (ℕ × Held)). drive_ahead s v (record { doing = doing_of w s; request = place_held found; commit = commit_held found; sweeping = sweeping w }) (place_held found) in
+    let ahead : Option (ℕ × Held) → NextAction = λ (found : Option (ℕ × Held)). drive_ahead s v (record { doing = doing_of w s; request = place_held found; commit = commit_held found; sweeping = sweeping w }) (place_held found) in
     seat_makes script c aim (Session s) k.seat k.line v Drives k.sits k.present k.verb_is k.asked
     ∙ ap ahead (unheld w c.played.items s placing.client (known_stands script c (known_carried script turns in_range playable)) placing.session_is placing.in_work)
     ∙ ap (λ (found : Option Client). made_next (placing_next s (doing_at found) true)) placing.session_is

@@ -20,12 +20,12 @@ use Rattle.script_data.specs.Data.{ScriptData}
 use Rattle.command_semantics.specs.declared.point.Point.{Point}
 use Rattle.command_semantics.specs.declared.point.Point.TheVariants.{Reads}
 use Rattle.command_semantics.specs.declared.point.View.{View}
-use Rattle.command_semantics.specs.Halts.{halt_of, follows}
+use Rattle.command_semantics.specs.Interruptions.{halt_of, follows}
 use Rattle.command_semantics.specs.Next.{Clocks, read_next}
 use Rattle.command_semantics.specs.Runs.{Played, clocks_of, step_of, played}
 use Rattle.command_semantics.specs.Views.{view_of}
-use Rattle.turn_rules.specs.declared.ahead.Ahead.{Ahead}
-use Rattle.turn_rules.specs.declared.ahead.Ahead.TheVariants.{Makes}
+use Rattle.turn_rules.specs.declared.ahead.NextAction.{NextAction}
+use Rattle.turn_rules.specs.declared.ahead.NextAction.TheVariants.{Makes}
 use Rattle.turn_rules.specs.declared.seat.Seat.{Seat}
 use Rattle.turn_rules.specs.declared.turn.Turn.{Turn}
 use Rattle.turn_rules.specs.declared.turn.Turn.TheVariants as turn
@@ -81,7 +81,7 @@ seat_stays script c s start key r seat line mine present verb_is point_is k =
     ∙ ap (λ (at : Point). own_next clocks true (Session s) (verb.Read key) at (view_of c.played.state (Session s)) seat.unawaited) point_is
     ∙ makes_step clocks true seat.unawaited c.played s start key r k in
     ap (λ (left : List Line). passed clocks view left seat) (get_drop seat.place (lines_of script seat.actor) line present)
-    ∙ not_passed clocks view line _ seat (ap (λ (x : Ahead). is_passed x) ahead)
+    ∙ not_passed clocks view line _ seat (ap (λ (x : NextAction). is_passed x) ahead)
 
 -- the read line at which a seat stands
 pub record ReadLine (script : ScriptData) (seat : Seat) (key : ℕ) : Type 0 where

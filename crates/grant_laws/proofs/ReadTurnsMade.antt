@@ -27,7 +27,7 @@ use Rattle.grant_laws.proofs.OwnCarried.{own_plays}
 use Rattle.grant_laws.proofs.ReadLines.{IsReading, told_now, recall_now, StepsSo, steps_so}
 use Rattle.grant_laws.specs.Turns.{ReadsKey, AnswersOr, ReadsAreCarried, read_steps}
 use Rattle.stamp_base.specs.SetupNumbers.{AreInRange}
-use Rattle.turn_rules.specs.declared.ahead.Ahead.TheVariants.{Makes}
+use Rattle.turn_rules.specs.declared.ahead.NextAction.TheVariants.{Makes}
 use Rattle.turn_rules.specs.declared.turn.Turn.{Turn}
 use Rattle.turn_rules.specs.declared.turn.Turn.TheVariants as turn
 use Rattle.turn_rules.specs.Carried.{Carried, own_ahead, turned, carried, all_passed, at_first}

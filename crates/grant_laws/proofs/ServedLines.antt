@@ -25,7 +25,7 @@ use Rattle.machine.proofs.Lookups.{one_instance, one_client}
 use Rattle.command_semantics.specs.declared.point.Point.TheVariants.{Opens}
 use Rattle.command_semantics.specs.Laws.{IsPlayable}
 use Rattle.command_semantics.specs.Views.{view_of}
-use Rattle.turn_rules.specs.declared.ahead.Ahead.TheVariants.{Makes}
+use Rattle.turn_rules.specs.declared.ahead.NextAction.TheVariants.{Makes}
 use Rattle.turn_rules.specs.declared.turn.Turn.{Turn}
 use Rattle.turn_rules.specs.declared.turn.Turn.TheVariants as turn
 use Rattle.turn_rules.specs.Waiting.{own_next}

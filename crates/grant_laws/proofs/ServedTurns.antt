@@ -34,7 +34,7 @@ use Rattle.machine.specs.Events.Put.{to_place, to_place_by, put_by, put_commit, 
 use Rattle.machine.specs.Events.Answer.{answer_by, answer_request, answer_on}
 use Rattle.script_data.specs.Data.{ScriptData}
 use Rattle.isolation_laws.specs.Words.{InstanceAt, ClientAt, Marked}
-use Rattle.isolation_laws.specs.Sound.{Stands}
+use Rattle.isolation_laws.specs.Sound.{ReachedInvariant}
 use Rattle.isolation_laws.specs.Pending.{Has, InFlight, HeldPending}
 use Rattle.isolation_laws.specs.Requests.{WaitsFor}
 use Rattle.machine.proofs.Lookups.{set_found}
@@ -57,7 +57,7 @@ pub record Parts (p : Played) (node s : ℕ) (request : Request) (at : Progress)
   pub session_is : ClientAt p.state.clients s client
   pub within : s < length k.oracle.requests
 
-pub parts_of : (p : Played) (node s : ℕ) (request : Request) (at : Progress) (k : IsServed p node s request at) → Stands p.state p.items → Parts p node s request at k
+pub parts_of : (p : Played) (node s : ℕ) (request : Request) (at : Progress) (k : IsServed p node s request at) → ReachedInvariant p.state p.items → Parts p node s request at k
 parts_of p node s request at k stands =
     let waits : (c : Client) × ClientAt p.state.clients s c × WaitsFor request c = stands.holds.requests.requests.waits node s k.oracle request at k.node_has k.held in
     record { client = waits.0; session_is = waits.1; within = held_within k.oracle s k.held.held k.held.has }
@@ -137,7 +137,7 @@ begin_answers node s start i c held has asks stands settled =
 
 -- ---- the put
 -- nothing stands in the table for a commit in flight that nobody has marked
-pub unplaced_by : (p : Played) (node s start commit : ℕ) (keys : List ℕ) (k : IsServed p node s (Commit s start keys) (progress.Drawn commit)) (found : Option Mark) → Stands p.state p.items → (Marked p.state.pairs start → ⊥) → mark_of p.state.pairs start ≡ found → found ≡ None
+pub unplaced_by : (p : Played) (node s start commit : ℕ) (keys : List ℕ) (k : IsServed p node s (Commit s start keys) (progress.Drawn commit)) (found : Option Mark) → ReachedInvariant p.state p.items → (Marked p.state.pairs start → ⊥) → mark_of p.state.pairs start ≡ found → found ≡ None
 unplaced_by p node s start commit keys k None stands unmarked is = refl
 unplaced_by p node s start commit keys k (Some InvalidMark) stands unmarked is = absurd (unmarked is)
 unplaced_by p node s start commit keys k (Some (CommittedMark other)) stands unmarked is =

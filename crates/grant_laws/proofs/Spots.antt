@@ -22,11 +22,11 @@ use Rattle.script_data.specs.declared.line.Verb.{Verb}
 use Rattle.script_data.specs.Data.{ScriptData}
 use Rattle.isolation_laws.specs.Words.{InstanceAt, ClientAt}
 use Rattle.isolation_laws.specs.Requests.{WaitsFor}
-use Rattle.isolation_laws.specs.Sound.{Stands}
+use Rattle.isolation_laws.specs.Sound.{ReachedInvariant}
 use Rattle.machine.proofs.Lookups.{set_found, instance_changed, held_by, one_client}
 use Rattle.command_semantics.specs.declared.point.Point.{Point}
 use Rattle.command_semantics.specs.declared.point.Point.TheVariants.{Drives}
-use Rattle.command_semantics.specs.Halts.{halt_of, follows}
+use Rattle.command_semantics.specs.Interruptions.{halt_of, follows}
 use Rattle.command_semantics.specs.Next.{Clocks, serves, is_served, drive_next}
 use Rattle.command_semantics.specs.Runs.{Played, Calls, clocks_of, step_of, calls_after, clock_after, played, next_in}
 use Rattle.grant_laws.specs.Granted.{line_of}
@@ -160,11 +160,11 @@ not_waiting (Commit session start keys) c (inl is) (inr waits) = let clash : pha
 not_waiting (Commit session start keys) c (inr is) (inl waits) = let clash : phase.Free ≡ phase.Gone = sym is ∙ waits in cc
 not_waiting (Commit session start keys) c (inr is) (inr waits) = let clash : phase.Free ≡ phase.Committing = sym is ∙ waits.0 in cc
 
-not_held : (w : State) (h : List Item) (m s : ℕ) (j : InstanceEntry) (c : Client) (found : Option Held) → Stands w h → ClientAt w.clients s c → (c.entry.state ≡ phase.Open) ⊎ (c.entry.state ≡ phase.Free) → InstanceAt w.nodes m j → held_of j s ≡ found → found ≡ None
+not_held : (w : State) (h : List Item) (m s : ℕ) (j : InstanceEntry) (c : Client) (found : Option Held) → ReachedInvariant w h → ClientAt w.clients s c → (c.entry.state ≡ phase.Open) ⊎ (c.entry.state ≡ phase.Free) → InstanceAt w.nodes m j → held_of j s ≡ found → found ≡ None
 not_held w h m s j c None stands at idle here is = refl
 not_held w h m s j c (Some held) stands at idle here is =
     let waits : (d : Client) × ClientAt w.clients s d × WaitsFor held.request d = stands.holds.requests.requests.waits m s j held.request held.progress here (held_by j s held is) in
     absurd (not_waiting held.request c idle (subst (λ (d : Client). WaitsFor held.request d) (one_client w.clients s waits.0 c waits.1 at) waits.2))
 
-pub none_held : (w : State) (h : List Item) (s : ℕ) (c : Client) → Stands w h → ClientAt w.clients s c → (c.entry.state ≡ phase.Open) ⊎ (c.entry.state ≡ phase.Free) → (m : ℕ) (j : InstanceEntry) → InstanceAt w.nodes m j → held_of j s ≡ None
+pub none_held : (w : State) (h : List Item) (s : ℕ) (c : Client) → ReachedInvariant w h → ClientAt w.clients s c → (c.entry.state ≡ phase.Open) ⊎ (c.entry.state ≡ phase.Free) → (m : ℕ) (j : InstanceEntry) → InstanceAt w.nodes m j → held_of j s ≡ None
 none_held w h s c stands at idle m j here = not_held w h m s j c (held_of j s) stands at idle here refl

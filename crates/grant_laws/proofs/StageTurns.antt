@@ -38,7 +38,7 @@ use Rattle.machine.specs.Events.Extend.{extend_on, extend_asks}
 use Rattle.script_data.specs.Data.{ScriptData}
 use Rattle.isolation_laws.specs.Words.{InstanceAt, ClientAt, Marked}
 use Rattle.isolation_laws.specs.Requests.{WaitsFor}
-use Rattle.isolation_laws.specs.Sound.{Stands}
+use Rattle.isolation_laws.specs.Sound.{ReachedInvariant}
 use Rattle.machine.proofs.Lookups.{set_found, one_client}
 use Rattle.command_semantics.proofs.Serving.{node_step, on_both}
 use Rattle.command_semantics.specs.Runs.{fate_by, fate_of, step_of, played}
@@ -52,7 +52,7 @@ use Rattle.grant_laws.proofs.OwnCarried.{turn_adds}
 use Rattle.grant_laws.proofs.ServedTurns.{Parts, parts_of, served_so, by_request, tells_by, accepts_so, draws_so, commit_answers, begin_answers, unplaced_by, places_so}
 
 -- ---- the turns of the request stage
-accepts : (script : ScriptData) (c : Carried) (node s : ℕ) (request : Request) → Stands c.played.state c.played.items → (k : IsServed c.played node s request progress.Asked) → reading_of script c.played node < k.oracle.until → epoch_refusal k.oracle request ≡ None →
+accepts : (script : ScriptData) (c : Carried) (node s : ℕ) (request : Request) → ReachedInvariant c.played.state c.played.items → (k : IsServed c.played node s request progress.Asked) → reading_of script c.played node < k.oracle.until → epoch_refusal k.oracle request ≡ None →
     Serves script c (turn.Accept node s) (item.Accept s node k.oracle.term (reading_of script c.played node)) node s request progress.Accepted
 accepts script c node s request stands k leased above =
     let reading : ℕ = reading_of script c.played node in
@@ -71,7 +71,7 @@ accepts script c node s request stands k leased above =
     let tells : (step_of script c.played e).items ≡ x ∷ [] = tells_by script c e node s seen request progress.Asked (accept_on node s reading) (x ∷ []) k parts refl (ap (λ (it : Effect (Option InstanceEntry × Client)). it.items) effect) in
     by_request script c (turn.Accept node s) x node s request progress.Asked progress.Accepted k parts (record { event = e; seen = seen; does = accept_on node s reading; leaves = now; goes = refl; adds = turn_adds script c (turn.Accept node s) e x refl tells; is = refl }) effect refl
 
-draws : (script : ScriptData) (c : Carried) (node s : ℕ) (request : Request) → Stands c.played.state c.played.items → (k : IsServed c.played node s request progress.Accepted) → (client : Client) → ClientAt c.played.state.clients s client → both_verdict k.oracle.buckets client.reads request ≡ Free → k.oracle.last < k.oracle.ceiling →
+draws : (script : ScriptData) (c : Carried) (node s : ℕ) (request : Request) → ReachedInvariant c.played.state c.played.items → (k : IsServed c.played node s request progress.Accepted) → (client : Client) → ClientAt c.played.state.clients s client → both_verdict k.oracle.buckets client.reads request ≡ Free → k.oracle.last < k.oracle.ceiling →
     Serves script c (turn.Decide node s) (draw_item node k.oracle.term request (k.oracle.last + 1)) node s request (drawn_as k.oracle.direct request (k.oracle.last + 1))
 draws script c node s request stands k client session_is no_conflict left =
     let e : Event = event.Decide node s in
@@ -91,7 +91,7 @@ draws script c node s request stands k client session_is no_conflict left =
     by_request script c (turn.Decide node s) x node s request progress.Accepted (drawn_as i.direct request stamp) k parts (record { event = e; seen = c.played.state.seen; does = decide_on node s; leaves = now; goes = refl; adds = turn_adds script c (turn.Decide node s) e x refl tells; is = refl }) effect (ap (λ (asked : Request). (moved i s held (drawn_as i.direct asked stamp)).requests) k.held.asks)
 
 -- ---- the turn of the persist stage
-commit_placed : (script : ScriptData) (c : Carried) (node s start commit : ℕ) (keys : List ℕ) → Stands c.played.state c.played.items → (k : IsServed c.played node s (Commit s start keys) (progress.Drawn commit)) → (Marked c.played.state.pairs start → ⊥) → next_fate script c.played Table ≡ Works →
+commit_placed : (script : ScriptData) (c : Carried) (node s start commit : ℕ) (keys : List ℕ) → ReachedInvariant c.played.state c.played.items → (k : IsServed c.played node s (Commit s start keys) (progress.Drawn commit)) → (Marked c.played.state.pairs start → ⊥) → next_fate script c.played Table ≡ Works →
     Serves script c (turn.Put node s) (item.Placed start commit) node s (Commit s start keys) (progress.Settled commit how.Placed)
 commit_placed script c node s start commit keys stands k unmarked works =
     let w : State = c.played.state in
@@ -119,13 +119,13 @@ commit_placed script c node s start commit keys stands k unmarked works =
     }
 
 -- as a request that is this commit
-as_commit : (script : ScriptData) (c : Carried) (node s start commit : ℕ) (keys : List ℕ) (request : Request) → request ≡ Commit s start keys → Stands c.played.state c.played.items → IsServed c.played node s request (progress.Drawn commit) → (Marked c.played.state.pairs start → ⊥) → next_fate script c.played Table ≡ Works →
+as_commit : (script : ScriptData) (c : Carried) (node s start commit : ℕ) (keys : List ℕ) (request : Request) → request ≡ Commit s start keys → ReachedInvariant c.played.state c.played.items → IsServed c.played node s request (progress.Drawn commit) → (Marked c.played.state.pairs start → ⊥) → next_fate script c.played Table ≡ Works →
     Serves script c (turn.Put node s) (item.Placed start commit) node s request (progress.Settled commit how.Placed)
 as_commit script c node s start commit keys request is stands k unmarked works =
     subst (λ (asked : Request). Serves script c (turn.Put node s) (item.Placed start commit) node s asked (progress.Settled commit how.Placed)) (sym is) (commit_placed script c node s start commit keys stands (subst (λ (asked : Request). IsServed c.played node s asked (progress.Drawn commit)) is k) unmarked works)
 
 -- ---- the turns of the reply stage
-answers : (script : ScriptData) (c : Carried) (node s : ℕ) (request : Request) (at : Progress) (x : Item) (k : IsServed c.played node s request at) → Stands c.played.state c.played.items → ((client : Client) → (answer_on node s (Some k.oracle) client).items ≡ x ∷ []) → Adds script c (turn.Answer node s) x
+answers : (script : ScriptData) (c : Carried) (node s : ℕ) (request : Request) (at : Progress) (x : Item) (k : IsServed c.played node s request at) → ReachedInvariant c.played.state c.played.items → ((client : Client) → (answer_on node s (Some k.oracle) client).items ≡ x ∷ []) → Adds script c (turn.Answer node s) x
 answers script c node s request at x k stands tells =
     let e : Event = event.Answer node s in
     let parts : Parts c.played node s request at k = parts_of c.played node s request at k stands in
@@ -136,7 +136,7 @@ waiting_start : (s start : ℕ) (keys : List ℕ) (client : Client) → client.e
 waiting_start s start keys client waits (inl gone) = let clash : phase.Committing ≡ phase.Gone = sym waits ∙ gone in absurd (cc)
 waiting_start s start keys client waits (inr (committing, start_is)) = start_is
 
-commit_hands : (script : ScriptData) (c : Carried) (node s start commit : ℕ) (keys : List ℕ) → Stands c.played.state c.played.items → (k : IsServed c.played node s (Commit s start keys) (progress.Handed commit)) → (client : Client) → ClientAt c.played.state.clients s client → client.entry.state ≡ phase.Committing → Hands script c node s start commit
+commit_hands : (script : ScriptData) (c : Carried) (node s start commit : ℕ) (keys : List ℕ) → ReachedInvariant c.played.state c.played.items → (k : IsServed c.played node s (Commit s start keys) (progress.Handed commit)) → (client : Client) → ClientAt c.played.state.clients s client → client.entry.state ≡ phase.Committing → Hands script c node s start commit
 commit_hands script c node s start commit keys stands k client session_is waits =
     let w : State = c.played.state in
     let e : Event = event.Answer node s in
@@ -159,10 +159,10 @@ commit_hands script c node s start commit keys stands k client session_is waits 
       };
     }
 
-as_handed : (script : ScriptData) (c : Carried) (node s start commit : ℕ) (keys : List ℕ) (request : Request) → request ≡ Commit s start keys → Stands c.played.state c.played.items → IsServed c.played node s request (progress.Handed commit) → (client : Client) → ClientAt c.played.state.clients s client → client.entry.state ≡ phase.Committing → Hands script c node s start commit
+as_handed : (script : ScriptData) (c : Carried) (node s start commit : ℕ) (keys : List ℕ) (request : Request) → request ≡ Commit s start keys → ReachedInvariant c.played.state c.played.items → IsServed c.played node s request (progress.Handed commit) → (client : Client) → ClientAt c.played.state.clients s client → client.entry.state ≡ phase.Committing → Hands script c node s start commit
 as_handed script c node s start commit keys request is stands k client session_is waits = commit_hands script c node s start commit keys stands (subst (λ (asked : Request). IsServed c.played node s asked (progress.Handed commit)) is k) client session_is waits
 
-pub served_by : (script : ScriptData) (c : Carried) (node s : ℕ) (request : Request) → Stands c.played.state c.played.items → ServedAreGranted script c node s request
+pub served_by : (script : ScriptData) (c : Carried) (node s : ℕ) (request : Request) → ReachedInvariant c.played.state c.played.items → ServedAreGranted script c node s request
 served_by script c node s request stands = record {
   accepts = λ k leased above. accepts script c node s request stands k leased above;
   draws = λ k client session_is no_conflict left. draws script c node s request stands k client session_is no_conflict left;

@@ -21,7 +21,7 @@ use Rattle.machine.specs.Machine.{Step}
 use Rattle.machine.specs.Events.Answer.{answer_by, answer_on}
 use Rattle.machine.specs.Events.Decide.{decide_on}
 use Rattle.script_data.specs.Data.{ScriptData}
-use Rattle.isolation_laws.specs.Sound.{Stands}
+use Rattle.isolation_laws.specs.Sound.{ReachedInvariant}
 use Rattle.isolation_laws.specs.Words.{InstanceAt, ClientAt}
 use Rattle.machine.proofs.Lookups.{held_by}
 use Rattle.command_semantics.specs.Next.{reading_at}
@@ -68,11 +68,11 @@ is_put (Commit s start keys) (progress.Settled other by) commit is = absurd (non
 is_put (Commit s start keys) (progress.Handed stamp) commit is = absurd (none-some commit is)
 is_put (Begin s) _ commit is = absurd (none-some commit is)
 
-none_elsewhere : (w : State) (h : List Item) (node r m : ℕ) (i j : InstanceEntry) (held : Held) (found : Option Held) → Stands w h → InstanceAt w.nodes node i → held_of i r ≡ Some held → m ≢ node → InstanceAt w.nodes m j → held_of j r ≡ found → found ≡ None
+none_elsewhere : (w : State) (h : List Item) (node r m : ℕ) (i j : InstanceEntry) (held : Held) (found : Option Held) → ReachedInvariant w h → InstanceAt w.nodes node i → held_of i r ≡ Some held → m ≢ node → InstanceAt w.nodes m j → held_of j r ≡ found → found ≡ None
 none_elsewhere w h node r m i j held None stands at has other there is = refl
 none_elsewhere w h node r m i j held (Some twice) stands at has other there is = absurd (other (sym (stands.holds.requests.requests.one node m r i j held.request twice.request held.progress twice.progress at there (held_by i r held has) (held_by j r twice is))))
 
-held_there : (w : State) (h : List Item) (node r : ℕ) (i : InstanceEntry) (held : Held) → Stands w h → InstanceAt w.nodes node i → held_of i r ≡ Some held → holder_of w r ≡ Some (node, held)
+held_there : (w : State) (h : List Item) (node r : ℕ) (i : InstanceEntry) (held : Held) → ReachedInvariant w h → InstanceAt w.nodes node i → held_of i r ≡ Some held → holder_of w r ≡ Some (node, held)
 held_there w h node r i held stands at has =
     holder_is_from 0 w.nodes node r i held at has (λ m j other there. none_elsewhere w h node r m i j held (held_of j r) stands at has other there refl) ∙ ap (λ (n : ℕ). Some (n, held)) (omega arith)
 

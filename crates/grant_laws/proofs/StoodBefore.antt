@@ -23,7 +23,7 @@ use Rattle.machine.specs.declared.event.Event.{Event}
 use Rattle.machine.specs.Events.Answer.{answer_by, answer_request, answer_on}
 use Rattle.machine.specs.Events.Decide.{decide_by as decision_by, decide_request, decide_on, both_verdict, both_if_accepted, both_held}
 use Rattle.script_data.specs.Data.{ScriptData}
-use Rattle.isolation_laws.specs.Sound.{Stands}
+use Rattle.isolation_laws.specs.Sound.{ReachedInvariant}
 use Rattle.isolation_laws.specs.Words.{ClientAt}
 use Rattle.isolation_laws.specs.Requests.{WaitsFor}
 use Rattle.machine.proofs.Lookups.{held_by}
@@ -37,7 +37,7 @@ use Rattle.grant_laws.proofs.SettledCommits.{AllFit}
 
 -- what is known where no turn can be made
 pub record Stuck (script : ScriptData) (c : Carried) : Type 0 where
-  pub stands : Stands c.played.state c.played.items
+  pub stands : ReachedInvariant c.played.state c.played.items
   pub fits : AllFit c.played.state.nodes
   pub tells : StageTurnsAreTold
   pub none : (t : Turn) → IsLawful script c t → ⊥
@@ -55,7 +55,7 @@ pub must_be_held : (script : ScriptData) (c : Carried) (k : Stuck script c) (t :
 must_be_held script c k t node at e made in_place told serves = held_by_test script c t node at e (is_held (holds_at c.held node) at) k.none made in_place told serves refl
 
 -- ---- an event on a request that is there
-abbrev pub the_client : (w : State) (h : List Item) (s : ℕ) (request : ℕ × Place) → Stands w h → Served w s request → (c : Client) × ClientAt w.clients s c
+abbrev pub the_client : (w : State) (h : List Item) (s : ℕ) (request : ℕ × Place) → ReachedInvariant w h → Served w s request → (c : Client) × ClientAt w.clients s c
 the_client w h s request stands k =
     let waits : (c : Client) × ClientAt w.clients s c × WaitsFor k.held.request c = stands.holds.requests.requests.waits request.0 s k.holder.i k.held.request k.held.progress k.holder.at (held_by k.holder.i s k.held k.holder.has) in
     (waits.0, waits.1)

@@ -17,7 +17,7 @@ use Rattle.command_semantics.specs.declared.point.View.{View}
 use Rattle.command_semantics.specs.Next.{Clocks, is_served, places, placing_next, idle_next, next}
 use Rattle.command_semantics.specs.Runs.{clocks_of}
 use Rattle.command_semantics.specs.Views.{view_of}
-use Rattle.turn_rules.specs.declared.ahead.Ahead.TheVariants.{Waits, Passes}
+use Rattle.turn_rules.specs.declared.ahead.NextAction.TheVariants.{Waits, Passes}
 use Rattle.turn_rules.specs.declared.ahead.Why.TheVariants.{Reply, Name}
 use Rattle.turn_rules.specs.declared.seat.Seat.{Seat}
 use Rattle.turn_rules.specs.declared.turn.Turn.{Turn}

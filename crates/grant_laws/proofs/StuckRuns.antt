@@ -15,8 +15,8 @@ use Rattle.command_semantics.specs.Answers.{same_actor}
 use Rattle.command_semantics.specs.Runs.{clocks_of}
 use Rattle.command_semantics.specs.Views.{view_of}
 use Rattle.command_semantics.proofs.ScriptWalks.{actor_same}
-use Rattle.turn_rules.specs.declared.ahead.Ahead.{Ahead}
-use Rattle.turn_rules.specs.declared.ahead.Ahead.TheVariants.{Makes, Waits, Passes}
+use Rattle.turn_rules.specs.declared.ahead.NextAction.{NextAction}
+use Rattle.turn_rules.specs.declared.ahead.NextAction.TheVariants.{Makes, Waits, Passes}
 use Rattle.turn_rules.specs.declared.ahead.Why.TheVariants.{Reply, Name}
 use Rattle.turn_rules.specs.declared.seat.Seat.{Seat}
 use Rattle.turn_rules.specs.declared.turn.Turn.{Turn}
@@ -48,7 +48,7 @@ unposted : (names : List (List ℕ)) (v : Verb) (name : List ℕ) → v ≡ verb
 unposted names v name is lacks = ap (λ (w : Verb). name_posted names w) (sym is) ∙ lacks
 
 -- by what is ahead of the present line, at whichever node its actor's share is aimed
-waits_by : (script : ScriptData) (c : Carried) (k : Stuck script c) (seat : Seat) (line : Line) → present_line script seat ≡ Some line → line.actor ≡ seat.actor → is_passed (ahead_of (clocks_of script c.played) true (view_of c.played.state seat.actor) line seat) ≡ false → ((aim : ℕ) (e : Event) → seat_ahead script c seat aim ≡ Makes e → ⊥) → (ahead : Ahead) → ahead_of (aimed_clocks script c 0) (name_posted c.names line.verb) (view_of c.played.state seat.actor) line seat ≡ ahead → AwaitsName script c seat ⊎ AwaitsReply script c seat
+waits_by : (script : ScriptData) (c : Carried) (k : Stuck script c) (seat : Seat) (line : Line) → present_line script seat ≡ Some line → line.actor ≡ seat.actor → is_passed (ahead_of (clocks_of script c.played) true (view_of c.played.state seat.actor) line seat) ≡ false → ((aim : ℕ) (e : Event) → seat_ahead script c seat aim ≡ Makes e → ⊥) → (ahead : NextAction) → ahead_of (aimed_clocks script c 0) (name_posted c.names line.verb) (view_of c.played.state seat.actor) line seat ≡ ahead → AwaitsName script c seat ⊎ AwaitsReply script c seat
 waits_by script c k seat line present own stays none (Makes e) is = absurd (none 0 e (ap (λ (found : Option Line). ahead_at script c seat found 0) present ∙ is))
 waits_by script c k seat line present own stays none Passes is =
     let view : View = view_of c.played.state seat.actor in

@@ -17,11 +17,11 @@ use Rattle.script_data.specs.declared.line.Verb.TheVariants as verb
 use Rattle.script_data.specs.Data.{ScriptData}
 use Rattle.command_semantics.specs.declared.point.Point.{Point}
 use Rattle.command_semantics.specs.declared.point.Point.TheVariants.{Reads}
-use Rattle.command_semantics.specs.Halts.{follows}
+use Rattle.command_semantics.specs.Interruptions.{follows}
 use Rattle.command_semantics.specs.Laws.{IsPlayable}
 use Rattle.command_semantics.specs.Runs.{step_of, played}
 use Rattle.command_semantics.proofs.ScriptWalks.{actor_same}
-use Rattle.turn_rules.specs.declared.ahead.Ahead.TheVariants.{Makes}
+use Rattle.turn_rules.specs.declared.ahead.NextAction.TheVariants.{Makes}
 use Rattle.turn_rules.specs.declared.turn.Turn.{Turn}
 use Rattle.turn_rules.specs.declared.turn.Turn.TheVariants as turn
 use Rattle.turn_rules.specs.Carried.{Carried, aimed_clocks, own_ahead, name_posted, made_by, event_of, turned_by, turned, carried}

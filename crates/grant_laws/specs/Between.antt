@@ -15,7 +15,7 @@ use Rattle.machine.specs.declared.event.Event.TheVariants as event
 use Rattle.script_data.specs.Data.{ScriptData}
 use Rattle.isolation_laws.specs.Words.{ClientAt}
 use Rattle.command_semantics.specs.Laws.{IsPlayable}
-use Rattle.turn_rules.specs.declared.ahead.Ahead.TheVariants.{Makes}
+use Rattle.turn_rules.specs.declared.ahead.NextAction.TheVariants.{Makes}
 use Rattle.turn_rules.specs.declared.turn.Turn.{Turn}
 use Rattle.turn_rules.specs.declared.turn.Turn.TheVariants as turn
 use Rattle.turn_rules.specs.Carried.{Carried, own_ahead, turned, carried}

@@ -32,7 +32,7 @@ use Rattle.turn_rules.specs.declared.seat.Seat.{Seat}
 use Rattle.turn_rules.specs.declared.turn.Turn.{Turn}
 use Rattle.turn_rules.specs.declared.turn.Turn.TheVariants as turn
 use Rattle.turn_rules.specs.Seats.{present_line}
-use Rattle.turn_rules.specs.declared.ahead.Ahead.TheVariants.{Makes}
+use Rattle.turn_rules.specs.declared.ahead.NextAction.TheVariants.{Makes}
 use Rattle.turn_rules.specs.Carried.{Carried, aimed_clocks, seat_of, own_ahead, event_of, turned, carried, carried_items}
 use Rattle.grant_laws.specs.Granted.{reading_of, next_fate}
 use Rattle.grant_laws.specs.Premises.{IsAtWork, CanWrite, CanTake, CanFetch, cells_to_read}

@@ -11,7 +11,7 @@ use Rattle.script_data.specs.declared.line.Line.{Line}
 use Rattle.script_data.specs.declared.line.Verb.TheVariants as verb
 use Rattle.script_data.specs.Data.{ScriptData}
 use Rattle.command_semantics.specs.Laws.{IsPlayable, AreLinesOf}
-use Rattle.turn_rules.specs.declared.ahead.Ahead.TheVariants.{Waits}
+use Rattle.turn_rules.specs.declared.ahead.NextAction.TheVariants.{Waits}
 use Rattle.turn_rules.specs.declared.ahead.Why.TheVariants as why
 use Rattle.turn_rules.specs.declared.seat.Seat.{Seat}
 use Rattle.turn_rules.specs.declared.turn.Turn.{Turn}

@@ -31,7 +31,7 @@ use Rattle.isolation_laws.specs.Bare.{is_bare}
 use Rattle.isolation_laws.specs.Words.{InstanceAt, HeldBy, ClientAt, Marked}
 use Rattle.command_semantics.specs.Laws.{IsPlayable}
 use Rattle.command_semantics.specs.Runs.{Played}
-use Rattle.turn_rules.specs.declared.ahead.Ahead.TheVariants.{Makes}
+use Rattle.turn_rules.specs.declared.ahead.NextAction.TheVariants.{Makes}
 use Rattle.turn_rules.specs.declared.turn.Turn.{Turn}
 use Rattle.turn_rules.specs.declared.turn.Turn.TheVariants as turn
 use Rattle.turn_rules.specs.Carried.{Carried, own_ahead, event_of, turned, carried}

@@ -12,8 +12,8 @@ use Rattle.machine.specs.declared.event.Event.{Event}
 use Rattle.machine.specs.State.{State, opening}
 use Rattle.machine.specs.Machine.{Step, stepped, Move, state_after, items_after, history_after, reading_of, seen_after, IsSteadyAt, AreSteady, Steady}
 use Rattle.machine.specs.Due.{AreDue}
-use Rattle.isolation_laws.specs.Holds.{Holds}
-use Rattle.isolation_laws.specs.Sound.{Stands}
+use Rattle.isolation_laws.specs.IsolationInvariant.{IsolationInvariant}
+use Rattle.isolation_laws.specs.Sound.{ReachedInvariant}
 use Rattle.machine.specs.Outcome.Outcomes.{Outcome, OfStill, left_by, told_by_outcome, IsTimely}
 use Rattle.machine.proofs.Outcome.Readings.{steadily}
 use Rattle.isolation_laws.proofs.Numbers.NumbersOfAll.{numbers_kept}
@@ -39,7 +39,7 @@ setup_kept : (w : State) (o : Outcome w) → (left_by w o).setup ≡ w.setup
 setup_kept w (OfStill k) = refl
 setup_kept w _ = refl
 
-pub holds_kept : (w : State) (h : List Item) (o : Outcome w) → IsTimely w o → Holds w h → Holds (left_by w o) (h ++ told_by_outcome w o)
+pub holds_kept : (w : State) (h : List Item) (o : Outcome w) → IsTimely w o → IsolationInvariant w h → IsolationInvariant (left_by w o) (h ++ told_by_outcome w o)
 holds_kept w h o timely holds = record {
   in_range = subst (λ (setup : SetupNumbers). AreInRange setup) (sym (setup_kept w o)) holds.in_range;
   numbers = numbers_kept w h o holds;
@@ -60,26 +60,26 @@ holds_kept w h o timely holds = record {
 }
 
 -- ---- one event
-pub comes_by : (w : State) (h : List Item) (e : Event) (fate : Fate) → Stands w h → ComesAt w (reading_of e) (stepped w e fate).state (stepped w e fate).items
+pub comes_by : (w : State) (h : List Item) (e : Event) (fate : Fate) → ReachedInvariant w h → ComesAt w (reading_of e) (stepped w e fate).state (stepped w e fate).items
 comes_by w h e fate both = comes_to w h e fate both.holds both.sound
 
 -- what each outcome of an event makes so, the event makes so
-pub each_outcome : (P : State → List Item → Type 0) (w : State) (h : List Item) (e : Event) (fate : Fate) → Stands w h → ((o : Outcome w) → P (left_by w o) (told_by_outcome w o)) → P (stepped w e fate).state (stepped w e fate).items
+pub each_outcome : (P : State → List Item → Type 0) (w : State) (h : List Item) (e : Event) (fate : Fate) → ReachedInvariant w h → ((o : Outcome w) → P (left_by w o) (told_by_outcome w o)) → P (stepped w e fate).state (stepped w e fate).items
 each_outcome P w h e fate both each = each_of_event P w e fate (parts_fit w h both.holds both.sound) each
 
 -- each refusal that an event tells says what is the case
-pub dues : (w : State) (h : List Item) (e : Event) (fate : Fate) → Stands w h → AreDue w (stepped w e fate).items
+pub dues : (w : State) (h : List Item) (e : Event) (fate : Fate) → ReachedInvariant w h → AreDue w (stepped w e fate).items
 dues w h e fate both =
     let (o, state, items, at, due) = comes_by w h e fate both in
     due
 
 -- a steady reading keeps the facts
-pub facts_stay : (w : State) (h : List Item) (e : Event) (fate : Fate) → Stands w h → IsSteadyAt w.setup.skew w.seen (reading_of e) → Stands (stepped w e fate).state (h ++ (stepped w e fate).items)
+pub facts_stay : (w : State) (h : List Item) (e : Event) (fate : Fate) → ReachedInvariant w h → IsSteadyAt w.setup.skew w.seen (reading_of e) → ReachedInvariant (stepped w e fate).state (h ++ (stepped w e fate).items)
 facts_stay w h e fate both steady =
     let step : Step = stepped w e fate in
     let (o, state, items, at, due) = comes_by w h e fate both in
     record {
-      holds = subst (λ (v : State). Holds v (h ++ step.items)) (sym state) (subst (λ (xs : List Item). Holds (left_by w o) (h ++ xs)) (sym items) (holds_kept w h o (steadily w (reading_of e) o at steady) both.holds));
+      holds = subst (λ (v : State). IsolationInvariant v (h ++ step.items)) (sym state) (subst (λ (xs : List Item). IsolationInvariant (left_by w o) (h ++ xs)) (sym items) (holds_kept w h o (steadily w (reading_of e) o at steady) both.holds));
       sound = sound_kept w e fate o state both.sound;
     }
 
@@ -96,19 +96,19 @@ unfolding AreSteady
 steady_now w move moves steady = steady.0
 
 -- ---- all moves
-pub stands_after : (w : State) (h : List Item) (moves : List Move) → Stands w h → AreSteady w.setup.skew w.seen moves → Stands (state_after w moves) (h ++ items_after w moves)
+pub stands_after : (w : State) (h : List Item) (moves : List Move) → ReachedInvariant w h → AreSteady w.setup.skew w.seen moves → ReachedInvariant (state_after w moves) (h ++ items_after w moves)
 unfolding state_after items_after
-stands_after w h [] both steady = subst (λ (xs : List Item). Stands w xs) (sym (append-nil h)) both
+stands_after w h [] both steady = subst (λ (xs : List Item). ReachedInvariant w xs) (sym (append-nil h)) both
 stands_after w h (move ∷ moves) both steady =
     let step : Step = stepped w move.event move.fate in
-    let after : Stands step.state (h ++ step.items) = facts_stay w h move.event move.fate both (steady_now w move moves steady) in
-    subst (λ (xs : List Item). Stands (state_after step.state moves) xs) (append_assoc h step.items (items_after step.state moves)) (stands_after step.state (h ++ step.items) moves after (steady_stays w move moves steady))
+    let after : ReachedInvariant step.state (h ++ step.items) = facts_stay w h move.event move.fate both (steady_now w move moves steady) in
+    subst (λ (xs : List Item). ReachedInvariant (state_after step.state moves) xs) (append_assoc h step.items (items_after step.state moves)) (stands_after step.state (h ++ step.items) moves after (steady_stays w move moves steady))
 
 -- ---- from the opening on
-pub stands_at_first : (setup : SetupNumbers) → AreInRange setup → Stands (opening setup) []
+pub stands_at_first : (setup : SetupNumbers) → AreInRange setup → ReachedInvariant (opening setup) []
 stands_at_first setup in_range = record { holds = opening_holds setup in_range; sound = opening_sound setup }
 
-pub always_stands : (setup : SetupNumbers) (moves : List Move) → AreInRange setup → Steady setup moves → Stands (state_after (opening setup) moves) (history_after setup moves)
+pub always_stands : (setup : SetupNumbers) (moves : List Move) → AreInRange setup → Steady setup moves → ReachedInvariant (state_after (opening setup) moves) (history_after setup moves)
 always_stands setup moves in_range steady = stands_after (opening setup) [] moves (stands_at_first setup in_range) steady
 
 -- every history is snapshot isolated
@@ -121,7 +121,7 @@ unfolding state_after
 setup_after w [] = refl
 setup_after w (move ∷ moves) = setup_after (stepped w move.event move.fate).state moves ∙ (leaves_parts w move.event move.fate).setup
 
-pub stands_serially : (w : State) (h : List Item) → Stands w h → SerialIfStrict w.setup h
+pub stands_serially : (w : State) (h : List Item) → ReachedInvariant w h → SerialIfStrict w.setup h
 stands_serially w h both = serial_if_strict w h both.holds
 
 pub histories_are_serial : (setup : SetupNumbers) (moves : List Move) → AreInRange setup → Steady setup moves → SerialIfStrict setup (history_after setup moves)

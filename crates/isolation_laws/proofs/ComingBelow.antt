@@ -9,7 +9,7 @@ use Rattle.system_parts.specs.Instance.{InstanceEntry}
 use Rattle.machine.specs.State.{Client, State}
 use Rattle.machine.specs.Events.Fetch.{marks_every}
 use Rattle.isolation_laws.specs.Words.{OpenAt}
-use Rattle.isolation_laws.specs.Holds.{Holds}
+use Rattle.isolation_laws.specs.IsolationInvariant.{IsolationInvariant}
 use Rattle.isolation_laws.specs.Pending.{Stage, Waits, Taken, Has, InFlight, HeldPending, Pending, IsStageBelow, ComesBelow}
 use Rattle.isolation_laws.specs.Numbers.{AreNewDraws}
 use Rattle.isolation_laws.specs.Requests.{ArePending, AreAccepted}
@@ -32,7 +32,7 @@ coming_is_below clients nodes h b t news accepted pending c = elim (below_stage 
 ]
 
 -- and where an instance holds it, a reader that is open has an epoch that is not below it
-held_is_within : (w : State) (h : List Item) (s b e : ℕ) (q : InFlight) → Holds w h → w.setup.direct ≡ false → OpenAt w.clients s b e → HeldPending w.nodes q → IsStageBelow b q.stage → q.start ≤ e
+held_is_within : (w : State) (h : List Item) (s b e : ℕ) (q : InFlight) → IsolationInvariant w h → w.setup.direct ≡ false → OpenAt w.clients s b e → HeldPending w.nodes q → IsStageBelow b q.stage → q.start ≤ e
 held_is_within w h s b e q holds plain o p below =
     let i = p.instance_of in
     elim (below_stage b q.stage below) [
@@ -52,11 +52,11 @@ held_is_within w h s b e q holds plain o p below =
     ]
 
 -- so it may mark it: by its epoch where no session places its own commit, and in any case where one may
-coming_is_within : (w : State) (h : List Item) (s b e : ℕ) (q : InFlight) → Holds w h → w.setup.direct ≡ false → OpenAt w.clients s b e → Pending w.clients w.nodes q → IsStageBelow b q.stage → q.start ≤ e
+coming_is_within : (w : State) (h : List Item) (s b e : ℕ) (q : InFlight) → IsolationInvariant w h → w.setup.direct ≡ false → OpenAt w.clients s b e → Pending w.clients w.nodes q → IsStageBelow b q.stage → q.start ≤ e
 coming_is_within w h s b e q holds plain o (inl p) below = held_is_within w h s b e q holds plain o p below
 coming_is_within w h s b e q holds plain o (inr p) below = absurd (holds.requests.form.plain plain q.session p.client p.at p.state_is)
 
-pub coming_is_markable : (w : State) (h : List Item) (every : Bool) (s b e t : ℕ) → every ≡ marks_every w.setup → Holds w h → OpenAt w.clients s b e → ComesBelow w.clients w.nodes b t → IsTrue (may_mark every t e)
+pub coming_is_markable : (w : State) (h : List Item) (every : Bool) (s b e t : ℕ) → every ≡ marks_every w.setup → IsolationInvariant w h → OpenAt w.clients s b e → ComesBelow w.clients w.nodes b t → IsTrue (may_mark every t e)
 coming_is_markable w h true s b e t every holds o c = refl
 coming_is_markable w h false s b e t every holds o c = le-leb t e (subst (λ x. x ≤ e) c.start_is (coming_is_within w h s b e c.coming holds (sym every) o c.pending c.below))
 

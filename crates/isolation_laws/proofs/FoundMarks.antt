@@ -8,9 +8,9 @@ use Rattle.system_parts.specs.Pairs.{mark_of}
 use Rattle.machine.specs.State.{State}
 use Rattle.isolation_laws.specs.Words.{Marked}
 use Rattle.isolation_laws.specs.Pending.{InFlight, Pending, Has}
-use Rattle.isolation_laws.specs.Holds.{Holds}
+use Rattle.isolation_laws.specs.IsolationInvariant.{IsolationInvariant}
 use Rattle.isolation_laws.proofs.Owners.{has_drew}
 
-pub found_marked : (w : State) (h : List Item) (q : InFlight) (drawn : ℕ) (mark : Mark) → Holds w h → Pending w.clients w.nodes q → q.stage ≡ Has drawn → mark_of w.pairs q.start ≡ Some mark → Marked w.pairs q.start
+pub found_marked : (w : State) (h : List Item) (q : InFlight) (drawn : ℕ) (mark : Mark) → IsolationInvariant w h → Pending w.clients w.nodes q → q.stage ≡ Has drawn → mark_of w.pairs q.start ≡ Some mark → Marked w.pairs q.start
 found_marked w h q drawn InvalidMark holds pending stage is = is
 found_marked w h q drawn (CommittedMark commit) holds pending stage is = absurd ((has_drew w.clients w.nodes h q drawn holds.requests.pending pending stage).1 commit (holds.cells.pairs_are.placed q.start commit is))

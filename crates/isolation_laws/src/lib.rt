@@ -11,7 +11,7 @@ ghost use Rattle.port_io.specs.declared.weather.Fate.{Fate};
 ghost use Rattle.machine.specs.declared.event.Event.{Event};
 ghost use Rattle.machine.specs.State.{State, opening};
 ghost use Rattle.machine.specs.Machine.{Move, Steady, IsSteadyAt, reading_of, stepped, history_after};
-ghost use Rattle.isolation_laws.specs.Sound.{Stands};
+ghost use Rattle.isolation_laws.specs.Sound.{ReachedInvariant};
 
 mod consequences;
 
@@ -36,11 +36,11 @@ pub fn always_serial()
 
 /// All facts hold of the opening state and no history.
 pub fn facts_hold_at_first()
-    ensures { (setup : SetupNumbers) → AreInRange setup → Stands (opening setup) [] }
+    ensures { (setup : SetupNumbers) → AreInRange setup → ReachedInvariant (opening setup) [] }
 {}
 
 /// Every event keeps all facts, whatever the fate of its store call.
 pub fn events_keep_the_facts()
-    ensures { (w : State) (h : List Item) (event : Event) (fate : Fate) → Stands w h → IsSteadyAt w.setup.skew w.seen (reading_of event) →
-        Stands (stepped w event fate).state (h ++ (stepped w event fate).items) }
+    ensures { (w : State) (h : List Item) (event : Event) (fate : Fate) → ReachedInvariant w h → IsSteadyAt w.setup.skew w.seen (reading_of event) →
+        ReachedInvariant (stepped w event fate).state (h ++ (stepped w event fate).items) }
 {}

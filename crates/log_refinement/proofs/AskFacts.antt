@@ -14,14 +14,14 @@ use Rattle.stamp_base.specs.declared.stores.Store.TheVariants.{Master}
 use Rattle.cause_rules.specs.Asks.{Ask}
 use Rattle.cause_rules.specs.OpenAsks.{closes, open_asks_of}
 use Rattle.isolation_laws.specs.Words.{ClientAt}
-use Rattle.cause_laws.specs.Shows.{Tells}
+use Rattle.cause_laws.specs.ShownInvariant.{Tells}
 use Rattle.command_semantics.proofs.ScriptWalks.{actor_same}
 use Rattle.command_semantics.proofs.Walks.{AllNot}
 use Rattle.request_completion.specs.Ends.{Ends}
 use Rattle.request_completion.specs.Laws.{EndsAtFirst, EventsKeepEnds}
 use Rattle.request_completion.specs.Overs.{OverStaysOver, ClosedAsksAreOver}
 use Rattle.request_completion.specs.Silences.{LostAsksAreOver, SilentAnswersRepeat}
-use Rattle.request_completion.specs.Turns.{SessionsTakeTurns, BeginsAreAsked, AsksAreTurns}
+use Rattle.request_completion.specs.SessionTransitions.{SessionsTakeTurns, BeginsAreAsked, AsksAreTurns}
 use Rattle.log_refinement.specs.declared.owed.Owed.{Owed}
 use Rattle.log_refinement.specs.Owed.{leaves_cells, leaves_nothing, denies_request, is_lost, fails_record}
 use Rattle.log_refinement.specs.Served.{IsLeft}
@@ -42,9 +42,9 @@ pub record MachineLaws : Type 0 where
 
 -- ---- one event, between two places of a history since the ask
 pub record Passed (ask : Ask) (upto : List Item) (a : AskMove) : Type 0 where
-  pub tells : Tells a.move.state a.move.history
+  pub tells : ExplainedInvariant a.move.state a.move.history
   pub ends : Ends a.move.state a.move.history
-  pub now : Tells (state_after a.move) (history_after a.move)
+  pub now : ExplainedInvariant (state_after a.move) (history_after a.move)
   pub ended : Ends (state_after a.move) (history_after a.move)
   pub is_since : IsSince a.session ask a.move.history upto a.since
   pub at : ClientAt a.move.state.clients a.session a.client

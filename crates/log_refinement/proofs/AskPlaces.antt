@@ -18,7 +18,7 @@ use Rattle.machine.specs.State.{Client, State}
 use Rattle.machine.specs.Machine.{stepped}
 use Rattle.cause_rules.specs.Asks.{Ask, ask_by, asks_for, its_ask, since_ask}
 use Rattle.cause_laws.proofs.SinceWords.{last_told-push, since-push}
-use Rattle.cause_laws.specs.Shows.{Tells}
+use Rattle.cause_laws.specs.ShownInvariant.{Tells}
 use Rattle.isolation_laws.specs.Words.{ClientAt, written_keys}
 use Rattle.machine.proofs.Lookups.{one_client}
 use Rattle.command_semantics.proofs.AlwaysFit.{Fit, found}
@@ -43,7 +43,7 @@ use Rattle.log_refinement.proofs.StepItems.{SaysTo, steps_say}
 -- ---- places
 -- all that is known of a place of the history
 pub record Known (w : State) (h : List Item) : Type 0 where
-  pub tells : Tells w h
+  pub tells : ExplainedInvariant w h
   pub ends : Ends w h
   pub fit : Fit w
 

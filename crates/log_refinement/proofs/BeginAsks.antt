@@ -14,7 +14,7 @@ use Rattle.cause_rules.specs.Asks.{Ask, its_ask}
 use Rattle.cause_rules.specs.OpenAsks.{closes, open_asks_of}
 use Rattle.command_semantics.specs.Answers.{same_actor}
 use Rattle.command_semantics.proofs.ScriptWalks.{actor_same}
-use Rattle.request_completion.specs.Turns.{NoneEnds, EndsWith, IsAsked, Turn, Rests, AsksBegin, AsksCommit, Begins, LosesBegin, Writes, Frees, Undoes, Hands, Commits, Refuses, LeavesOpen, Vanishes, IsGone}
+use Rattle.request_completion.specs.SessionTransitions.{NoneEnds, EndsWith, IsAsked, SessionTransition, Rests, AsksBegin, AsksCommit, Begins, LosesBegin, Writes, Frees, Undoes, Hands, Commits, Refuses, LeavesOpen, Vanishes, IsGone}
 use Rattle.log_refinement.specs.declared.owed.Owed.{Owed}
 use Rattle.log_refinement.specs.declared.owed.Owed.TheVariants.{Nothing, Read, Answer, Removal, Erasure, Quiet}
 use Rattle.log_refinement.specs.Owed.{leaves_cells, leaves_nothing, after_own_refusal, denies_request, is_lost, after_refusal, fails_record, after_asking, ends_completion, removes, is_idle, owed_after, Standing, with_item, with_items, is_settled}
@@ -51,7 +51,7 @@ refused_last s why items k start commit m = elim (in_push (item.Committed s star
   | inr same ↦ absurd (let clash : item.Committed s start commit ≡ item.Refused (Session s) why = same in cc)
 ]
 
-turn_commits : (s n : ℕ) (h items : List Item) (c d : Client) → its_ask h s ≡ Some (begin_ask n) → (c.entry.state ≡ phase.Gone → ⊥) → (c.entry.state ≡ phase.OpenOutcome → (start : ℕ) × IsAsked h s (Some start)) → Turn h s c items d → NoCommitted s items
+turn_commits : (s n : ℕ) (h items : List Item) (c d : Client) → its_ask h s ≡ Some (begin_ask n) → (c.entry.state ≡ phase.Gone → ⊥) → (c.entry.state ≡ phase.OpenOutcome → (start : ℕ) × IsAsked h s (Some start)) → SessionTransition h s c items d → NoCommitted s items
 turn_commits s n h items c d asked alive opened (Rests same none) = none_committed s items none
 turn_commits s n h items c d asked alive opened (AsksBegin node free now is) = only_committed s (item.AskBegin s node) items is (λ start commit same. absurd (cc))
 turn_commits s n h items c d asked alive opened (AsksCommit node t was now start after is) = only_committed s (item.AskCommit s node t) items is (λ start commit same. absurd (cc))

@@ -24,10 +24,10 @@ use Rattle.isolation_laws.proofs.Pushed.{in_append}
 use Rattle.cause_rules.specs.Asks.{Ask, its_ask}
 use Rattle.cause_rules.specs.OpenAsks.{open_asks_of}
 use Rattle.cause_laws.specs.Requests.{ask_for, held_count}
-use Rattle.cause_laws.specs.Shows.{Tells}
+use Rattle.cause_laws.specs.ShownInvariant.{Tells}
 use Rattle.command_semantics.proofs.Walks.{AllNot}
 use Rattle.request_completion.specs.Ends.{IsHeld, IsToAsk, HasVanished, Comes, Made, Failed, Vanished, Left, Ends}
-use Rattle.request_completion.specs.Turns.{EndsCommit, NoneEnds, Turn}
+use Rattle.request_completion.specs.SessionTransitions.{EndsCommit, NoneEnds, SessionTransition}
 use Rattle.log_refinement.specs.declared.owed.Owed.{Owed}
 use Rattle.log_refinement.specs.declared.owed.Owed.TheVariants.{Nothing, Read, Answer, Removal, Erasure, Quiet}
 use Rattle.log_refinement.specs.Owed.{leaves_cells}
@@ -54,7 +54,7 @@ abbrev pub asked_upto : ℕ → CommitAsk → List Item
 asked_upto s ask = ask.before ++ item.AskCommit s ask.node ask.start ∷ []
 
 pub record Place (s : ℕ) (ask : CommitAsk) (w : State) (h since : List Item) (c : Client) : Type 0 where
-  pub tells : Tells w h
+  pub tells : ExplainedInvariant w h
   pub ends : Ends w h
   pub is_since : IsSince s (ask_of ask) h (asked_upto s ask) since
   pub at : ClientAt w.clients s c
@@ -73,11 +73,11 @@ pub now_asked : (ask : CommitAsk) (a : AskMove) → PlaceBefore ask a → its_as
 now_asked ask a k = asked_now a.session (ask_of ask) a.move.history _ a.since k.is_since
 
 -- what the event does to it
-pub turn_of : MachineLaws → (ask : CommitAsk) (a : AskMove) → PlaceBefore ask a → ClientAt (state_after a.move).clients a.session a.next → Turn a.move.history a.session a.client (items_of a.move) a.next
+pub turn_of : MachineLaws → (ask : CommitAsk) (a : AskMove) → PlaceBefore ask a → ClientAt (state_after a.move).clients a.session a.next → SessionTransition a.move.history a.session a.client (items_of a.move) a.next
 turn_of laws ask a k there = laws.turns a.move.state a.move.history a.move.event a.move.fate a.session a.client a.next k.tells k.at there
 
 -- one event later
-pub place_later : MachineLaws → (ask : CommitAsk) (a : AskMove) → PlaceBefore ask a → Tells (state_after a.move) (history_after a.move) → ClientAt (state_after a.move).clients a.session a.next → AllNot (Session a.session) (items_of a.move) → PlaceBehind ask a
+pub place_later : MachineLaws → (ask : CommitAsk) (a : AskMove) → PlaceBefore ask a → ExplainedInvariant (state_after a.move) (history_after a.move) → ClientAt (state_after a.move).clients a.session a.next → AllNot (Session a.session) (items_of a.move) → PlaceBehind ask a
 place_later laws ask a k now there none =
     let v : Move = a.move in
     let s : ℕ = a.session in
@@ -160,7 +160,7 @@ settled_later laws ask a k l none settled =
     let h : List Item = a.move.history in
     let items : List Item = items_of a.move in
     let asked : its_ask h s ≡ Some (ask_of ask) = now_asked ask a k in
-    let turn : Turn h s a.client items a.next = turn_of laws ask a k l.at in
+    let turn : SessionTransition h s a.client items a.next = turn_of laws ask a k l.at in
     let same : written_keys (h ++ items) ask.start ≡ written_keys h ask.start = keys_same ask a k l in
     elim settled.stays [
       | inl free ↦

@@ -21,7 +21,7 @@ use Rattle.command_semantics.specs.Answers.{Opens, same_actor}
 use Rattle.command_semantics.proofs.ScriptWalks.{actor_same}
 use Rattle.command_semantics.proofs.Walks.{AllNot}
 use Rattle.request_completion.specs.Closings.{Owes}
-use Rattle.request_completion.specs.Turns.{EndsCommit, OfBegin, Turn}
+use Rattle.request_completion.specs.SessionTransitions.{EndsCommit, OfBegin, SessionTransition}
 use Rattle.log_refinement.specs.declared.owed.Owed.{Owed}
 use Rattle.log_refinement.specs.declared.owed.Owed.TheVariants.{Nothing, Read, Answer, Removal, Erasure, Quiet}
 use Rattle.log_refinement.specs.Owed.{leaves_cells, leaves_nothing, after_own_refusal, denies_request, is_lost, after_refusal, fails_record, after_asking, ends_completion, removes, is_idle, owed_after, written_after, without_key, unerased_after, Standing, with_item, with_items, is_nil, is_settled}
@@ -77,7 +77,7 @@ owes_ends s (item.Refused (Session session) why) owes = (owes.0, leaves_ends why
 owes_ends s _ owes = absurd owes
 
 -- ---- an answer to the ask
-own_turn : MachineLaws → (e : OwnEvent) → Own e → Turn e.past.move.history (asker e) e.past.client (own_items e) e.past.next
+own_turn : MachineLaws → (e : OwnEvent) → Own e → SessionTransition e.past.move.history (asker e) e.past.client (own_items e) e.past.next
 own_turn laws e o = turn_of laws e.ask e.past o.k o.l.at
 
 -- a refusal that leaves cells: all that were written are to be erased

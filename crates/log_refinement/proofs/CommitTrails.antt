@@ -17,7 +17,7 @@ use Rattle.cause_rules.specs.Asks.{Ask, its_ask}
 use Rattle.command_semantics.specs.Answers.{Opens}
 use Rattle.command_semantics.proofs.Walks.{AllNot}
 use Rattle.request_completion.specs.Closings.{Owes}
-use Rattle.request_completion.specs.Turns.{ends_commit, EndsCommit, NoneEnds, EndsWith, IsAsked, IsCommitting, IsUndone as TurnUndone, Turn, Rests, AsksBegin, AsksCommit, Begins, LosesBegin, Writes, Frees, Undoes, Hands, Commits, Refuses, LeavesOpen, Vanishes, IsGone}
+use Rattle.request_completion.specs.SessionTransitions.{ends_commit, EndsCommit, NoneEnds, EndsWith, IsAsked, IsCommitting, IsUndone as TurnUndone, SessionTransition, Rests, AsksBegin, AsksCommit, Begins, LosesBegin, Writes, Frees, Undoes, Hands, Commits, Refuses, LeavesOpen, Vanishes, IsGone}
 use Rattle.log_refinement.specs.Owed.{leaves_cells}
 use Rattle.log_refinement.proofs.ItemLists.{none_append}
 
@@ -115,7 +115,7 @@ committing_not_free h s t c k free = elim k.state [
   | inr placing ↦ let clash : phase.Placing ≡ phase.Free = sym placing ∙ free in absurd (cc)
 ]
 
-pub trail_next : (s n t : ℕ) (h since items : List Item) (c d : Client) → its_ask h s ≡ Some (commit_ask n t) → AllNot (Session s) items → Trail s t since c → Turn h s c items d → Trail s t (since ++ items) d
+pub trail_next : (s n t : ℕ) (h since items : List Item) (c d : Client) → its_ask h s ≡ Some (commit_ask n t) → AllNot (Session s) items → Trail s t since c → SessionTransition h s c items d → Trail s t (since ++ items) d
 trail_next s n t h since items c d asked none k (Rests same quiet) = trail_same s t since items c d k same quiet
 trail_next s n t h since items c d asked none k (AsksBegin node free now is) = absurd (opens_none s (item.AskBegin s node) items none is refl)
 trail_next s n t h since items c d asked none k (AsksCommit node start was now old new is) = absurd (opens_none s (item.AskCommit s node start) items none is refl)
@@ -164,7 +164,7 @@ only_refused : (s : ℕ) (why : Cause) (x : Item) (items : List Item) → items 
 unfolding ◌∈◌
 only_refused s why x items is m not = elim (subst (λ (xs : List Item). item.Refused (Session s) why ∈ xs) is m) [ inl same ↦ not same | inr none ↦ none ]
 
-pub refused_turn : (s n t : ℕ) (h since items : List Item) (c d : Client) (why : Cause) → its_ask h s ≡ Some (commit_ask n t) → Trail s t since c → Turn h s c items d → item.Refused (Session s) why ∈ items → leaves_cells why ≡ true → IsRefused s c items d
+pub refused_turn : (s n t : ℕ) (h since items : List Item) (c d : Client) (why : Cause) → its_ask h s ≡ Some (commit_ask n t) → Trail s t since c → SessionTransition h s c items d → item.Refused (Session s) why ∈ items → leaves_cells why ≡ true → IsRefused s c items d
 refused_turn s n t h since items c d why asked k (Rests same quiet) m leaves = absurd (quiet (item.Refused (Session s) why) m (refl, leaves_ends why leaves))
 refused_turn s n t h since items c d why asked k (AsksBegin node free now is) m leaves = absurd (only_refused s why (item.AskBegin s node) items is m (λ same. cc))
 refused_turn s n t h since items c d why asked k (AsksCommit node start was now old new is) m leaves = absurd (only_refused s why (item.AskCommit s node start) items is m (λ same. cc))
@@ -189,7 +189,7 @@ pub record IsOpened (s : ℕ) (c : Client) (items : List Item) (d : Client) : Ty
   pub none : (x : Item) → x ∈ items → Owes s x → ⊥
   pub opened : d.entry.state ≡ phase.OpenOutcome
 
-pub opened_turn : (s n t u : ℕ) (h since items : List Item) (c d : Client) → its_ask h s ≡ Some (commit_ask n t) → Trail s t since c → Turn h s c items d → item.Refused (Session s) (cause.Open u) ∈ items → IsOpened s c items d
+pub opened_turn : (s n t u : ℕ) (h since items : List Item) (c d : Client) → its_ask h s ≡ Some (commit_ask n t) → Trail s t since c → SessionTransition h s c items d → item.Refused (Session s) (cause.Open u) ∈ items → IsOpened s c items d
 opened_turn s n t u h since items c d asked k (Rests same quiet) m = absurd (quiet (item.Refused (Session s) (cause.Open u)) m (refl, refl))
 opened_turn s n t u h since items c d asked k (AsksBegin node free now is) m = absurd (only_refused s (cause.Open u) (item.AskBegin s node) items is m (λ same. cc))
 opened_turn s n t u h since items c d asked k (AsksCommit node start was now old new is) m = absurd (only_refused s (cause.Open u) (item.AskCommit s node start) items is m (λ same. cc))
@@ -224,7 +224,7 @@ abbrev is_open_outcome : SessionState → Bool
 is_open_outcome phase.OpenOutcome = true
 is_open_outcome _ = false
 
-pub undone_turn : (s n t : ℕ) (h since items : List Item) (c d : Client) → its_ask h s ≡ Some (commit_ask n t) → AllNot (Session s) items → Trail s t since c → IsUndone c.entry.state → Turn h s c items d → IsUndone d.entry.state × NoneEnds s items
+pub undone_turn : (s n t : ℕ) (h since items : List Item) (c d : Client) → its_ask h s ≡ Some (commit_ask n t) → AllNot (Session s) items → Trail s t since c → IsUndone c.entry.state → SessionTransition h s c items d → IsUndone d.entry.state × NoneEnds s items
 undone_turn s n t h since items c d asked none k was (Rests same quiet) = (still_undone c d same was, quiet)
 undone_turn s n t h since items c d asked none k was (AsksBegin node free now is) = absurd (opens_none s (item.AskBegin s node) items none is refl)
 undone_turn s n t h since items c d asked none k was (AsksCommit node start opened now old new is) = absurd (opens_none s (item.AskCommit s node start) items none is refl)
@@ -242,7 +242,7 @@ undone_turn s n t h since items c d asked none k was (Vanishes now is) = absurd 
 undone_turn s n t h since items c d asked none k was (IsGone gone same) = absurd (clashes of_commit c.entry.state phase.Gone k.state_is gone refl)
 
 -- ---- a free one stays free
-pub free_turn : (s n t : ℕ) (h since items : List Item) (c d : Client) → its_ask h s ≡ Some (commit_ask n t) → AllNot (Session s) items → Trail s t since c → c.entry.state ≡ phase.Free → Turn h s c items d → (d.entry.state ≡ phase.Free) × NoneEnds s items
+pub free_turn : (s n t : ℕ) (h since items : List Item) (c d : Client) → its_ask h s ≡ Some (commit_ask n t) → AllNot (Session s) items → Trail s t since c → c.entry.state ≡ phase.Free → SessionTransition h s c items d → (d.entry.state ≡ phase.Free) × NoneEnds s items
 free_turn s n t h since items c d asked none k was (Rests same quiet) = (ap (λ (e : SessionEntry). e.state) same ∙ was, quiet)
 free_turn s n t h since items c d asked none k was (AsksBegin node free now is) = absurd (opens_none s (item.AskBegin s node) items none is refl)
 free_turn s n t h since items c d asked none k was (AsksCommit node start opened now old new is) = absurd (opens_none s (item.AskCommit s node start) items none is refl)
@@ -277,7 +277,7 @@ committing_after (phase.Completing undo) is = refl
 committing_after phase.Free is = refl
 committing_after _ is = absurd (cc)
 
-pub open_turn : (s n t : ℕ) (h since items : List Item) (c d : Client) → its_ask h s ≡ Some (commit_ask n t) → AllNot (Session s) items → Trail s t since c → after_open c.entry.state ≡ true → Turn h s c items d → (after_open d.entry.state ≡ true) × NoLeaving s items
+pub open_turn : (s n t : ℕ) (h since items : List Item) (c d : Client) → its_ask h s ≡ Some (commit_ask n t) → AllNot (Session s) items → Trail s t since c → after_open c.entry.state ≡ true → SessionTransition h s c items d → (after_open d.entry.state ≡ true) × NoLeaving s items
 open_turn s n t h since items c d asked none k was (Rests same quiet) = (ap (λ (e : SessionEntry). after_open e.state) same ∙ was, quiet_leaving s items quiet)
 open_turn s n t h since items c d asked none k was (Frees may free quiet) = (ap after_open free, quiet_leaving s items quiet)
 open_turn s n t h since items c d asked none k was (Undoes opened undone quiet) = (undone_after d.entry.state (undone_state c.entry d.entry undone), quiet_leaving s items quiet)

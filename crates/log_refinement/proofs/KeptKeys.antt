@@ -14,8 +14,8 @@ use Rattle.system_parts.specs.SessionSteps.{SessionEntry, has_key}
 use Rattle.machine.specs.State.{Client, State}
 use Rattle.script_data.specs.declared.line.Verb.{Verb}
 use Rattle.isolation_laws.specs.Words.{ClientAt}
-use Rattle.cause_laws.specs.Shows.{Tells}
-use Rattle.request_completion.specs.Turns.{IsUndone as TurnUndone, Turn, Rests, AsksBegin, AsksCommit, Begins, LosesBegin, Writes, Frees, Undoes, Hands, Commits, Refuses, LeavesOpen, Vanishes, IsGone, TakesAsks}
+use Rattle.cause_laws.specs.ShownInvariant.{Tells}
+use Rattle.request_completion.specs.SessionTransitions.{IsUndone as TurnUndone, SessionTransition, Rests, AsksBegin, AsksCommit, Begins, LosesBegin, Writes, Frees, Undoes, Hands, Commits, Refuses, LeavesOpen, Vanishes, IsGone, TakesAsks}
 use Rattle.log_refinement.specs.Owed.{with_key, written_after, Standing, standing_with, with_item, with_items, owed_first, opened}
 use Rattle.log_refinement.proofs.AskFacts.{MachineLaws, same_self}
 use Rattle.log_refinement.proofs.CommitTrails.{aborted_undone, IsUndone}
@@ -110,7 +110,7 @@ pub record WritesKey (s : ℕ) (items : List Item) (key : ℕ) : Type 0 where
   pub value : List ℕ
   pub told : item.Write s start key value ∈ items
 
-turn_keys : (h : List Item) (s : ℕ) (c d : Client) (items : List Item) (key : ℕ) → Turn h s c items d → d.entry.state ≡ phase.Open → key ∈ d.entry.keys → NoneBegins s items → ((c.entry.state ≡ phase.Open) × (key ∈ c.entry.keys)) ⊎ WritesKey s items key
+turn_keys : (h : List Item) (s : ℕ) (c d : Client) (items : List Item) (key : ℕ) → SessionTransition h s c items d → d.entry.state ≡ phase.Open → key ∈ d.entry.keys → NoneBegins s items → ((c.entry.state ≡ phase.Open) × (key ∈ c.entry.keys)) ⊎ WritesKey s items key
 unfolding ◌∈◌
 turn_keys h s c d items key (Rests same none) opened m not = inl (ap (λ (e : SessionEntry). e.state) (sym same) ∙ opened, subst (λ (e : SessionEntry). key ∈ e.keys) same m)
 turn_keys h s c d items key (AsksBegin node free now is) opened m not = absurd (open_not d phase.Asking opened now refl)
@@ -131,7 +131,7 @@ turn_keys h s c d items key (Vanishes now is) opened m not = absurd (open_not d 
 turn_keys h s c d items key (IsGone gone same) opened m not = absurd (open_not d phase.Gone opened (ap (λ (x : Client). x.entry.state) same ∙ gone) refl)
 
 -- an event later the log has them, if it keeps what it has and takes what is written
-pub keys_later : MachineLaws → (s : ℕ) (v : Move) (old new : List ℕ) → Tells v.state v.history → ((d : Client) → ClientAt (state_after v).clients s d → (c : Client) × ClientAt v.state.clients s c) → KeysKept (Session s) v.state old →
+pub keys_later : MachineLaws → (s : ℕ) (v : Move) (old new : List ℕ) → ExplainedInvariant v.state v.history → ((d : Client) → ClientAt (state_after v).clients s d → (c : Client) × ClientAt v.state.clients s c) → KeysKept (Session s) v.state old →
     ((key : ℕ) → NoneBegins s (items_of v) → key ∈ old → key ∈ new) → ((key : ℕ) → NoneBegins s (items_of v) → WritesKey s (items_of v) key → key ∈ new) → KeysKept (Session s) (state_after v) new
 keys_later laws s v old new tells there kept keeps takes d at opened key m =
     let before : (c : Client) × ClientAt v.state.clients s c = there d at in

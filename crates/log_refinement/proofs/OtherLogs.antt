@@ -11,7 +11,7 @@ use Rattle.history_book.specs.declared.item.Item.{Item}
 use Rattle.machine.specs.State.{State}
 use Rattle.machine.specs.Machine.{stepped}
 use Rattle.script_data.specs.declared.line.Line.{Line}
-use Rattle.isolation_laws.specs.Sound.{Stands}
+use Rattle.isolation_laws.specs.Sound.{ReachedInvariant}
 use Rattle.command_semantics.specs.declared.point.Point.TheVariants.{Opens}
 use Rattle.command_semantics.specs.Answers.{same_actor, has_opening, is_of}
 use Rattle.command_semantics.specs.Laws.{ActorFits, VerbFits, AreLinesOf}
@@ -67,7 +67,7 @@ abbrev pub IsOther : SetupNumbers → Actor → Event → Type 0
 IsOther setup actor e = (opener e ≡ None) ⊎ OpensOther setup actor e
 
 -- it appends no item that opens a line of the actor
-pub other_not : (actor : Actor) (clocks : Clocks) (w : State) (h : List Item) (e : Event) (fate : Fate) → Stands w h → Fit w → clocks.master < w.setup.nodes → IsOther w.setup actor e → AllNot actor (stepped w (timed_at clocks.base clocks.leads e) fate).items
+pub other_not : (actor : Actor) (clocks : Clocks) (w : State) (h : List Item) (e : Event) (fate : Fate) → ReachedInvariant w h → Fit w → clocks.master < w.setup.nodes → IsOther w.setup actor e → AllNot actor (stepped w (timed_at clocks.base clocks.leads e) fate).items
 other_not actor clocks w h e fate stands fit master (inl none) = plain_not actor _ (events_plain w (timed_at clocks.base clocks.leads e) fate (none_opens clocks.base clocks.leads e none))
 other_not actor clocks w h e fate stands fit master (inr k) = any_not actor clocks w h k.line Opens (timed_at clocks.base clocks.leads e) fate stands fit k.own.in_range k.own.asks master (λ has same. k.differs same) (first_is clocks k.line.actor k.line.verb (view_of w k.line.actor) e k.first).next_is
 

@@ -16,7 +16,7 @@ use Rattle.command_semantics.proofs.AlwaysFit.{fit_at_first}
 use Rattle.command_semantics.proofs.Ending.{opening_reached}
 use Rattle.command_semantics.proofs.Takes.{takes_at_first}
 use Rattle.command_semantics.specs.Orders.{EventsStayTold}
-use Rattle.cluster_core.specs.Whole.{Whole}
+use Rattle.cluster_core.specs.ClusterModel.{ClusterModel}
 use Rattle.thread_scripts.specs.Actors.{actors_of}
 use Rattle.split_stores.specs.Logs.{Logged}
 use Rattle.split_stores.specs.Merged.{kept_items, IsSettledAt, Settled}
@@ -43,12 +43,12 @@ good_first script carried = record {
   takes = takes_at_first script.setup carried.setup;
 }
 
-rises_settled : (script : ScriptData) (logs : List Logged) (whole : Whole) → IsCarried script → AllOpened script (actors_of script) logs → AllRise logs → (settled : Settled (without_lines script) (logs_of logs) whole) → rises_in settled.merged ≡ ticks_in script.lines
+rises_settled : (script : ScriptData) (logs : List Logged) (whole : ClusterModel) → IsCarried script → AllOpened script (actors_of script) logs → AllRise logs → (settled : Settled (without_lines script) (logs_of logs) whole) → rises_in settled.merged ≡ ticks_in script.lines
 rises_settled script logs whole carried follow rise settled =
     let k : WovenLog script Clock settled.merged = woven_log script Clock logs settled.merged carried.lines follow rise settled.in_order in
     rises_as_lines script.setup k.entries settled.merged first_standing script.lines k.woven (own_lines script.setup Clock script.lines carried.lines) k.follows
 
-all_settled : EventsStayTold → SettledByPlans → (script : ScriptData) (logs : List Logged) (whole : Whole) → IsCarried script → AllOpened script (actors_of script) logs → AllRise logs → (settled : Settled (without_lines script) (logs_of logs) whole) → AllMade script settled.merged (opening_played script)
+all_settled : EventsStayTold → SettledByPlans → (script : ScriptData) (logs : List Logged) (whole : ClusterModel) → IsCarried script → AllOpened script (actors_of script) logs → AllRise logs → (settled : Settled (without_lines script) (logs_of logs) whole) → AllMade script settled.merged (opening_played script)
 all_settled law by_plans script logs whole carried follow rise settled =
     let at : IsSettledAt script settled.merged whole = by_plans script (logs_of logs) whole settled in
     let same : sum (rises_in settled.merged) ≡ sum (ticks_in script.lines) = ap sum (rises_settled script logs whole carried follow rise settled) in

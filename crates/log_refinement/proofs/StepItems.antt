@@ -38,7 +38,7 @@ use Rattle.machine.specs.Events.Step.{StepParts, step_recall, settle_items, clie
 use Rattle.machine.specs.Machine.{Step, stepped, at_client, step_by, with_client}
 use Rattle.machine.specs.StoreSteps.{met, entry_of, mark_item, step_item, mark_kept, effect_items, store_of, told_by}
 use Rattle.isolation_laws.specs.Words.{ClientAt, Begun}
-use Rattle.isolation_laws.specs.Sound.{Stands}
+use Rattle.isolation_laws.specs.Sound.{ReachedInvariant}
 use Rattle.isolation_laws.specs.UnderWay.{IsUndo}
 use Rattle.machine.proofs.Lookups.{client_set, one_client, set_found}
 
@@ -282,13 +282,13 @@ own_fits c (Some start) (key ∷ keys) state = fits_settling c (own_resolve (Som
 own_fits c (Some start) [] state = fits_none c Nothing refl
 own_fits c None keys state = fits_none c Nothing refl
 
-open_fits : (w : State) (h : List Item) (r : ℕ) (c : Client) → Stands w h → ClientAt w.clients r c → c.entry.state ≡ phase.OpenOutcome → FitsWork c (work_of c)
+open_fits : (w : State) (h : List Item) (r : ℕ) (c : Client) → ReachedInvariant w h → ClientAt w.clients r c → c.entry.state ≡ phase.OpenOutcome → FitsWork c (work_of c)
 open_fits w h r c stands at state = elim (stands.holds.under_way.settling.resolve r c at state) [
   | inl none ↦ subst (FitsWork c) (sym (ap (λ (s : SessionState). work_by s c.entry c.under_way) state ∙ ap (work_by phase.OpenOutcome c.entry) none)) (own_fits c c.entry.start c.entry.keys state)
   | inr k ↦ fits_settling c (work_of c) k.0 (ap (λ (s : SessionState). work_by s c.entry c.under_way) state ∙ ap (work_by phase.OpenOutcome c.entry) k.2) state
 ]
 
-completing_fits : (w : State) (h : List Item) (r : ℕ) (c : Client) (undo : Bool) → Stands w h → ClientAt w.clients r c → c.entry.state ≡ phase.Completing undo → FitsWork c (work_of c)
+completing_fits : (w : State) (h : List Item) (r : ℕ) (c : Client) (undo : Bool) → ReachedInvariant w h → ClientAt w.clients r c → c.entry.state ≡ phase.Completing undo → FitsWork c (work_of c)
 completing_fits w h r c false stands at state =
     let busy : (asks : List Ask) × (c.under_way ≡ Completes asks) = stands.holds.under_way.finishing.busy r c at state in
     let (t, commit, start, placed, finish) = stands.holds.under_way.finishing.finish r c busy.0 at state busy.1 in
@@ -299,7 +299,7 @@ completing_fits w h r c true stands at state =
     let undo : IsUndo begun.0 busy.0 = stands.holds.under_way.undoing.undo r begun.0 c busy.0 at state begun.1 busy.1 in
     fits_completing c (work_of c) busy.0 (ap (λ (s : SessionState). work_by s c.entry c.under_way) state ∙ busy.1) (λ asked asks is. fit_undo c begun.0 undo.left asked asks state begun.1 (is ∙ undo.shape))
 
-placing_fits : (w : State) (h : List Item) (r : ℕ) (c : Client) → Stands w h → ClientAt w.clients r c → c.entry.state ≡ phase.Placing → handed_commit c.entry ≡ None → FitsWork c (work_of c)
+placing_fits : (w : State) (h : List Item) (r : ℕ) (c : Client) → ReachedInvariant w h → ClientAt w.clients r c → c.entry.state ≡ phase.Placing → handed_commit c.entry ≡ None → FitsWork c (work_of c)
 placing_fits w h r c stands at state none =
     let begun : (t : ℕ) × (c.entry.start ≡ Some t) × Begun h r t = stands.holds.requests.have_begun.begun r c at (subst (λ (s : SessionState). IsTrue (has_transaction s)) (sym state) refl) in
     let handed : (commit : ℕ) × (c.entry.commit ≡ Some commit) = stands.holds.under_way.handed.commit r c at state in
@@ -316,14 +316,14 @@ may_read : (reading : Bool) → (if reading then None else Some cause.Idle) ≡ 
 may_read true is = refl
 may_read false is = absurd (none-some cause.Idle (sym is))
 
-reads_fit : (w : State) (h : List Item) (r : ℕ) (c : Client) → Stands w h → ClientAt w.clients r c → work_of c ≡ c.under_way → is_reading c ≡ true → FitsWork c (work_of c)
+reads_fit : (w : State) (h : List Item) (r : ℕ) (c : Client) → ReachedInvariant w h → ClientAt w.clients r c → work_of c ≡ c.under_way → is_reading c ≡ true → FitsWork c (work_of c)
 reads_fit w h r c stands at same reading =
     let busy : (rd : Reading) × (c.under_way ≡ Reads rd) = reading_by c.under_way reading in
     let (b, e, opened, is) = stands.holds.reads.reading.reads r c busy.0 at busy.1 in
     let state : c.entry.state ≡ phase.Open = ap (λ (x : Client). x.entry.state) (one_client w.clients r c opened.client at opened.at) ∙ opened.state_is in
     fits_reading c (work_of c) busy.0 (same ∙ busy.1) state
 
-fits_by : (w : State) (h : List Item) (r : ℕ) (c : Client) (state : SessionState) → Stands w h → ClientAt w.clients r c → c.entry.state ≡ state → step_refusal state (is_reading c) ≡ None → handed_commit c.entry ≡ None → FitsWork c (work_of c)
+fits_by : (w : State) (h : List Item) (r : ℕ) (c : Client) (state : SessionState) → ReachedInvariant w h → ClientAt w.clients r c → c.entry.state ≡ state → step_refusal state (is_reading c) ≡ None → handed_commit c.entry ≡ None → FitsWork c (work_of c)
 fits_by w h r c phase.Placing stands at is may none = placing_fits w h r c stands at is none
 fits_by w h r c phase.OpenOutcome stands at is may none = open_fits w h r c stands at is
 fits_by w h r c (phase.Completing undo) stands at is may none = completing_fits w h r c undo stands at is
@@ -337,7 +337,7 @@ fits_by w h r c phase.Committing stands at is may none = reads_fit w h r c stand
 set_is : (clients : List Client) (s : ℕ) (new d : Client) → ClientAt (slice_set clients s new) s d → d ≡ new
 set_is clients s new d there = elim (client_set clients s s new d there) [ inl here ↦ here.1 | inr other ↦ absurd (other.0 refl) ]
 
-own_step_says : (w : State) (h : List Item) (r : ℕ) (fate : Fate) (c d : Client) (x : Item) → Stands w h → ClientAt w.clients r c → ClientAt (stepped w (event.Step r) fate).state.clients r d → x ∈ (stepped w (event.Step r) fate).items → Says r c d x
+own_step_says : (w : State) (h : List Item) (r : ℕ) (fate : Fate) (c d : Client) (x : Item) → ReachedInvariant w h → ClientAt w.clients r c → ClientAt (stepped w (event.Step r) fate).state.clients r d → x ∈ (stepped w (event.Step r) fate).items → Says r c d x
 own_step_says w h r fate c d x stands at there m =
     let on : Effect StepParts → Step = λ effect. step_by effect (λ p. record (with_client w r p.0) { rows = p.1; pairs = p.2 }) in
     let effect : Effect StepParts = step_on r fate c w.rows w.pairs in
@@ -363,7 +363,7 @@ to_session r s c d p q (item.Step (Session session) (step.Remove txn)) said own 
 to_session r s c d p q (item.Step (Session session) (step.Erase key txn)) said own = λ is. let k = own (sym said.0 ∙ is) in (k.1, k.2)
 to_session r s c d p q _ said own = tt
 
-says_by : (w : State) (h : List Item) (r s : ℕ) (fate : Fate) (c d : Client) (x : Item) (found : Option Client) → Stands w h → ClientAt w.clients s c → ClientAt (stepped w (event.Step r) fate).state.clients s d → x ∈ (stepped w (event.Step r) fate).items → slice_get w.clients r ≡ found → SaysTo s c d x
+says_by : (w : State) (h : List Item) (r s : ℕ) (fate : Fate) (c d : Client) (x : Item) (found : Option Client) → ReachedInvariant w h → ClientAt w.clients s c → ClientAt (stepped w (event.Step r) fate).state.clients s d → x ∈ (stepped w (event.Step r) fate).items → slice_get w.clients r ≡ found → SaysTo s c d x
 unfolding ◌∈◌
 says_by w h r s fate c d x None stands at there m is =
     let none : x ∈ [] = subst (λ (found : Option Client). x ∈ (at_client w found (λ y. step_by (step_on r fate y w.rows w.pairs) (λ p. record (with_client w r p.0) { rows = p.1; pairs = p.2 }))).items) is m in
@@ -377,5 +377,5 @@ says_by w h r s fate c d x (Some p) stands at there m is =
     (subst (λ (t : ℕ). ClientAt (stepped w (event.Step t) fate).state.clients s d) same there)
     (subst (λ (t : ℕ). x ∈ (stepped w (event.Step t) fate).items) same m))
 
-pub steps_say : (w : State) (h : List Item) (r s : ℕ) (fate : Fate) (c d : Client) (x : Item) → Stands w h → ClientAt w.clients s c → ClientAt (stepped w (event.Step r) fate).state.clients s d → x ∈ (stepped w (event.Step r) fate).items → SaysTo s c d x
+pub steps_say : (w : State) (h : List Item) (r s : ℕ) (fate : Fate) (c d : Client) (x : Item) → ReachedInvariant w h → ClientAt w.clients s c → ClientAt (stepped w (event.Step r) fate).state.clients s d → x ∈ (stepped w (event.Step r) fate).items → SaysTo s c d x
 steps_say w h r s fate c d x stands at there m = says_by w h r s fate c d x (slice_get w.clients r) stands at there m refl

@@ -11,7 +11,7 @@ use Rattle.history_book.specs.declared.item.Item.{Item}
 use Rattle.command_semantics.specs.Answers.{Answers}
 use Rattle.command_semantics.specs.Laws.{IsPlayable, AreLinesOf}
 use Rattle.command_semantics.specs.Planned.{Planned}
-use Rattle.cluster_core.specs.Whole.{Whole}
+use Rattle.cluster_core.specs.ClusterModel.{ClusterModel}
 use Rattle.thread_scripts.specs.Actors.{actors_of}
 use Rattle.split_stores.specs.Logs.{Logged, ticks_of, rises_above}
 use Rattle.split_stores.specs.Merged.{Settled}
@@ -50,17 +50,17 @@ AllRise logs = All (λ log. rises_above 0 (ticks_of log.entries) ≡ true) logs
 -- a history that the logs of all actors with lines settle into, each of which is of its actor's lines, answers the script
 abbrev pub SettledLogsAnswer : Type 0
 SettledLogsAnswer =
-    (script : ScriptData) (logs : List Logged) (whole : Whole) → IsCarried script → AllFollow script (actors_of script) logs → AllRise logs → Settled (without_lines script) (logs_of logs) whole → Answers script whole.history
+    (script : ScriptData) (logs : List Logged) (whole : ClusterModel) → IsCarried script → AllFollow script (actors_of script) logs → AllRise logs → Settled (without_lines script) (logs_of logs) whole → Answers script whole.history
 
 -- and has the faults, ticks and readings that the script plans
 abbrev pub SettledLogsArePlanned : Type 0
 SettledLogsArePlanned =
-    (script : ScriptData) (logs : List Logged) (whole : Whole) → IsCarried script → AllFollow script (actors_of script) logs → AllRise logs → Settled (without_lines script) (logs_of logs) whole → Planned script whole.history
+    (script : ScriptData) (logs : List Logged) (whole : ClusterModel) → IsCarried script → AllFollow script (actors_of script) logs → AllRise logs → Settled (without_lines script) (logs_of logs) whole → Planned script whole.history
 
 -- and serves the script
 abbrev pub SettledLogsServe : Type 0
 SettledLogsServe =
-    (script : ScriptData) (logs : List Logged) (whole : Whole) → IsCarried script → AllFollow script (actors_of script) logs → AllRise logs → Settled (without_lines script) (logs_of logs) whole → Served script whole.history
+    (script : ScriptData) (logs : List Logged) (whole : ClusterModel) → IsCarried script → AllFollow script (actors_of script) logs → AllRise logs → Settled (without_lines script) (logs_of logs) whole → Served script whole.history
 
 -- a history that serves a script answers it
 abbrev pub ServedHistoriesAnswer : Type 0

@@ -14,7 +14,7 @@ use Rattle.command_semantics.specs.Answers.{Answers}
 use Rattle.command_semantics.specs.Planned.{Planned}
 use Rattle.command_semantics.specs.Runs.{replayed}
 use Rattle.stamp_base.specs.SetupNumbers.{SetupNumbers}
-use Rattle.cluster_core.specs.Whole.{Whole}
+use Rattle.cluster_core.specs.ClusterModel.{ClusterModel}
 use Rattle.log_refinement.specs.Served.{Served}
 use Rattle.split_driver.specs.Splits.{SplitsTo}
 use Rattle.history_text.specs.Text.{printed}
@@ -30,7 +30,7 @@ promise_kept script h is isolated serial explained answers planned = record {
 }
 
 -- the same of a history over split stores
-pub split_kept : (script : ScriptData) (whole : Whole) → whole.state.setup ≡ script.setup → Isolated whole.history → Explained whole.state.setup whole.history → Answers script whole.history → Served script whole.history → Planned script whole.history → KeepsSplit script whole.history
+pub split_kept : (script : ScriptData) (whole : ClusterModel) → whole.state.setup ≡ script.setup → Isolated whole.history → Explained whole.state.setup whole.history → Answers script whole.history → Served script whole.history → Planned script whole.history → KeepsSplit script whole.history
 split_kept script whole setup isolated explained answers served planned = record {
   isolated = isolated;
   explained = subst (λ (numbers : SetupNumbers). Explained numbers whole.history) setup explained;
@@ -39,7 +39,7 @@ split_kept script whole setup isolated explained answers served planned = record
   planned = planned;
 }
 
-pub split_written : (script : ScriptData) (whole : Whole) (writes : List ℕ → Type 0) (h : List Item) → SplitsTo script whole → KeepsSplit script whole.history → h ≡ whole.history → writes (printed h) → WritesSplit script writes
+pub split_written : (script : ScriptData) (whole : ClusterModel) (writes : List ℕ → Type 0) (h : List Item) → SplitsTo script whole → KeepsSplit script whole.history → h ≡ whole.history → writes (printed h) → WritesSplit script writes
 split_written script whole writes h settles keeps is written = record { whole = whole; settles = settles; keeps = keeps; written = subst (λ (items : List Item). writes (printed items)) is written }
 
 -- what is told of the line that a reader answered is told of the script's first bad line

@@ -12,7 +12,7 @@ use Rattle.command_semantics.specs.Runs.{replayed}
 use Rattle.command_semantics.specs.Answers.{Answers}
 use Rattle.command_semantics.specs.Planned.{Planned}
 use Rattle.turn_rules.specs.declared.turn.Turn.{Turn}
-use Rattle.cluster_core.specs.Whole.{Whole}
+use Rattle.cluster_core.specs.ClusterModel.{ClusterModel}
 use Rattle.run_driver.specs.Runs.{RunsTo}
 use Rattle.log_refinement.specs.Served.{Served}
 use Rattle.split_driver.specs.Splits.{SplitsTo, TearsAt}
@@ -65,7 +65,7 @@ pub record KeepsSplit (script : ScriptData) (history : List Item) : Type 0 where
 
 -- the text of a history was written that the logs of all actors settle into, each of which is of its actor's lines
 pub record WritesSplit (script : ScriptData) (writes : List ℕ → Type 0) : Type 0 where
-  pub whole : Whole
+  pub whole : ClusterModel
   pub settles : SplitsTo script whole
   pub keeps : KeepsSplit script whole.history
   pub written : writes (printed whole.history)

@@ -1,4 +1,4 @@
-mod Ahead
+mod NextAction
 mod TakeFlags
 pub mod Clocks
 pub mod Making

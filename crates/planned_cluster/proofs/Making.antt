@@ -15,14 +15,14 @@ use Rattle.event_parts.specs.declared.stopped.Stopped.{Stopped}
 use Rattle.event_parts.specs.declared.stopped.Stopped.TheVariants.{Refused, StoreFault, NoMemory}
 use Rattle.script_data.specs.Data.{ScriptData}
 use Rattle.command_semantics.specs.Runs.{Played, calls_on, step_of}
-use Rattle.cluster_core.specs.Whole.{Whole, MakesStep, step_under}
+use Rattle.cluster_core.specs.ClusterModel.{ClusterModel, MakesStep, step_under}
 use Rattle.planned_cluster.specs.Standing.{StandsAt, OpensFor, PlaysOn, clock_made}
-use Rattle.planned_cluster.proofs.Ahead.{moves_on, step_planned, stands_on}
+use Rattle.planned_cluster.proofs.NextAction.{moves_on, step_planned, stands_on}
 
-stopped : (script : ScriptData) (p : Played) (e : Event) (old : Whole) (clock : ℕ) (before : Store → ℕ → Fate) (end : Option Stop) → StandsAt script p old clock before → (step_under before old.state e).stop ≡ end → (step_of script p e).stop ≡ end
+stopped : (script : ScriptData) (p : Played) (e : Event) (old : ClusterModel) (clock : ℕ) (before : Store → ℕ → Fate) (end : Option Stop) → StandsAt script p old clock before → (step_under before old.state e).stop ≡ end → (step_of script p e).stop ≡ end
 stopped script p e old clock before end at is = sym (ap (λ (s : Step). s.stop) (step_planned script p old.state before e at.state at.weather)) ∙ is
 
-pub plays_on : (e : Event) (answer : Result Unit Stopped) (old new : Whole) (clock after : ℕ) (before now : Store → ℕ → Fate) (faults later : ℕ) → MakesStep (step_under before old.state e) old new answer → Asks answer (asks old.state e) before now faults later → after ≡ clock_made clock e answer → PlaysOn e answer old clock before new after now
+pub plays_on : (e : Event) (answer : Result Unit Stopped) (old new : ClusterModel) (clock after : ℕ) (before now : Store → ℕ → Fate) (faults later : ℕ) → MakesStep (step_under before old.state e) old new answer → Asks answer (asks old.state e) before now faults later → after ≡ clock_made clock e answer → PlaysOn e answer old clock before new after now
 plays_on e (Ok done) old new clock after before now faults later made asked is = λ script p at.
     (stopped script p e old clock before None at made.stop, stands_on script p e old new clock after before now at made.parts made.items (moves_on (asks old.state e) before now faults later asked) is)
 plays_on e (Err (Refused why)) old new clock after before now faults later made asked is = λ script p at.
@@ -42,7 +42,7 @@ first_call faults Cells n = ap (λ (number : ℕ). planned_fate faults Cells num
 first_call faults Table n = ap (λ (number : ℕ). planned_fate faults Table number) (omega arith)
 first_call faults Master n = ap (λ (number : ℕ). planned_fate faults Master number) (omega arith)
 
-pub opens : (setup : SetupNumbers) (faults : List PlannedFault) (whole : Whole) (clock : ℕ) (ahead : Store → ℕ → Fate) → whole.state ≡ opening setup → whole.history ≡ [] → clock ≡ 0 → ((store : Store) (n : ℕ) → ahead store n ≡ planned_fate faults store (n + 1)) → OpensFor setup faults whole clock ahead
+pub opens : (setup : SetupNumbers) (faults : List PlannedFault) (whole : ClusterModel) (clock : ℕ) (ahead : Store → ℕ → Fate) → whole.state ≡ opening setup → whole.history ≡ [] → clock ≡ 0 → ((store : Store) (n : ℕ) → ahead store n ≡ planned_fate faults store (n + 1)) → OpensFor setup faults whole clock ahead
 opens setup faults whole clock ahead state history is planned = λ script same alike. record {
   state = state ∙ ap opening (sym same);
   history = history;

@@ -13,18 +13,18 @@ use Rattle.command_semantics.specs.Clocks.{clocks}
 use Rattle.command_semantics.specs.Master.{last_master}
 use Rattle.command_semantics.specs.Next.{Clocks}
 use Rattle.command_semantics.specs.Runs.{Played, calls_on, clock_after, step_of, played, opening_played}
-use Rattle.cluster_core.specs.Whole.{Whole}
+use Rattle.cluster_core.specs.ClusterModel.{ClusterModel}
 
 -- cluster, clock and weather stand where the script was played so far: the fates ahead are the planned ones of the calls that
 -- were not made yet
-pub record StandsAt (script : ScriptData) (p : Played) (whole : Whole) (clock : ℕ) (ahead : Store → ℕ → Fate) : Type 0 where
+pub record StandsAt (script : ScriptData) (p : Played) (whole : ClusterModel) (clock : ℕ) (ahead : Store → ℕ → Fate) : Type 0 where
   pub state : whole.state ≡ p.state
   pub history : whole.history ≡ p.items
   pub time : clock ≡ p.clock
   pub weather : (store : Store) (n : ℕ) → ahead store n ≡ planned_fate script.faults store (calls_on p.calls store + 1 + n)
 
 -- so they do before the first event of every script with this setup and these faults
-abbrev pub OpensFor : SetupNumbers → List PlannedFault → Whole → ℕ → (Store → ℕ → Fate) → Type 0
+abbrev pub OpensFor : SetupNumbers → List PlannedFault → ClusterModel → ℕ → (Store → ℕ → Fate) → Type 0
 OpensFor setup faults whole clock ahead = (script : ScriptData) → script.setup ≡ setup → script.faults ≡ faults → StandsAt script (opening_played script) whole clock ahead
 
 -- this is what stands once a call has answered so: where memory was refused what stood before, and else what the event leads to,
@@ -36,13 +36,13 @@ Reaches stop (Err (StoreFault store)) before after = (stop ≡ Some (Faults stor
 Reaches stop (Err NoMemory) before after = before
 
 -- wherever the script was played, the event was played too
-abbrev pub PlaysOn : Event → Result Unit Stopped → Whole → ℕ → (Store → ℕ → Fate) → Whole → ℕ → (Store → ℕ → Fate) → Type 0
+abbrev pub PlaysOn : Event → Result Unit Stopped → ClusterModel → ℕ → (Store → ℕ → Fate) → ClusterModel → ℕ → (Store → ℕ → Fate) → Type 0
 PlaysOn event result old clock before new later now =
     (script : ScriptData) (p : Played) → StandsAt script p old clock before →
     Reaches (step_of script p event).stop result (StandsAt script p new later now) (StandsAt script (played script p event) new later now)
 
 -- the clocks of such a script there
-abbrev pub clocks_at : Whole → ℕ → List ℕ → Clocks
+abbrev pub clocks_at : ClusterModel → ℕ → List ℕ → Clocks
 clocks_at whole clock leads = clocks clock leads (last_master whole.history)
 
 -- a tick that was made sets the base clock

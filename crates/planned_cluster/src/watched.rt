@@ -11,7 +11,7 @@ ghost use Rattle.machine.specs.Readers as read;
 ghost use Rattle.event_parts.specs.Made.{Asks};
 ghost use Rattle.command_semantics.specs.Master.{taken_by, last_master, has_take};
 ghost use Rattle.cluster_core.specs.Served.{LeavesRoom, NeverLacksIf, is_served};
-ghost use Rattle.cluster_core.specs.Whole.{MakesStep, step_under};
+ghost use Rattle.cluster_core.specs.ClusterModel.{MakesStep, step_under};
 ghost use Rattle.planned_cluster.specs.Takes.{then_taken};
 
 use cluster_core::{Cluster, Stopped};
@@ -37,10 +37,10 @@ impl Model for WatchedCluster {
     ghost use Rattle.cause_rules.specs.Since.{last_told};
     ghost use Rattle.command_semantics.specs.Master.{taken_by};
     ghost use Rattle.cluster_core.specs.Codes.{whole_code};
-    ghost use Rattle.cluster_core.specs.Whole.{Whole};
+    ghost use Rattle.cluster_core.specs.ClusterModel.{ClusterModel};
     ghost use Rattle.planned_cluster.specs.Takes.{nodes_taken};
 
-    ghost Value = { Whole };
+    ghost Value = { ClusterModel };
 
     ghost coded = { whole_code };
 

@@ -8,7 +8,7 @@ use Rattle.script_data.specs.declared.line.Line.{Line}
 use Rattle.script_data.specs.Data.{IsSound, ScriptData}
 use Rattle.script_data.specs.Ticks.{tick_of, ticks_of}
 use Rattle.command_semantics.specs.Runs.{Played, line_run, lines_played, opening_played, script_played, replayed}
-use Rattle.cluster_core.specs.Whole.{Whole}
+use Rattle.cluster_core.specs.ClusterModel.{ClusterModel}
 use Rattle.planned_cluster.specs.Standing.{StandsAt}
 use Rattle.replay_driver.specs.Playing.{IsPlayedTo, played_to}
 use Rattle.planned_cluster.proofs.Playable.{playable_at_first}
@@ -33,7 +33,7 @@ ticks_from lines count line within is =
     ap ticks_of parts
 
 -- what was played to the line's end is what one more line comes to
-pub ended_more : (script : ScriptData) (count : ℕ) (line : Line) (old new : Whole) (before clock : ℕ) (ahead now : Store → ℕ → Fate) → count < length script.lines → line ≡ get_or script.lines count line → IsPlayedTo script count old before ahead → HasEnded script (line_run script line (played_to script count)).played ((played_to script count).clock + tick_of line.verb) new clock now → IsPlayedTo script (count + 1) new clock now
+pub ended_more : (script : ScriptData) (count : ℕ) (line : Line) (old new : ClusterModel) (before clock : ℕ) (ahead now : Store → ℕ → Fate) → count < length script.lines → line ≡ get_or script.lines count line → IsPlayedTo script count old before ahead → HasEnded script (line_run script line (played_to script count)).played ((played_to script count).clock + tick_of line.verb) new clock now → IsPlayedTo script (count + 1) new clock now
 ended_more script count line old new before clock ahead now within is at ended =
     let p : Played = played_to script count in
     let latest : ℕ = p.clock + tick_of line.verb in
@@ -47,7 +47,7 @@ ended_more script count line old new before clock ahead now within is at ended =
 
 -- ---- before the first line
 -- ahead of all lines none was carried out, and all can be
-pub none_played : (script : ScriptData) (whole : Whole) (clock : ℕ) (ahead : Store → ℕ → Fate) → IsSound script → length script.lines ≤ 131072 → StandsAt script (opening_played script) whole clock ahead → IsPlayedTo script 0 whole clock ahead
+pub none_played : (script : ScriptData) (whole : ClusterModel) (clock : ℕ) (ahead : Store → ℕ → Fate) → IsSound script → length script.lines ≤ 131072 → StandsAt script (opening_played script) whole clock ahead → IsPlayedTo script 0 whole clock ahead
 unfolding lines_played
 none_played script whole clock ahead sound few at = record {
   stands = at;
@@ -56,10 +56,10 @@ none_played script whole clock ahead sound few at = record {
 }
 
 -- ---- behind the last line
-pub all_played : (script : ScriptData) (count : ℕ) (whole : Whole) (clock : ℕ) (ahead : Store → ℕ → Fate) → length script.lines ≤ count → IsPlayedTo script count whole clock ahead → whole.history ≡ replayed script
+pub all_played : (script : ScriptData) (count : ℕ) (whole : ClusterModel) (clock : ℕ) (ahead : Store → ℕ → Fate) → length script.lines ≤ count → IsPlayedTo script count whole clock ahead → whole.history ≡ replayed script
 all_played script count whole clock ahead past at =
     at.stands.history ∙ ap (λ (lines : List Line). (lines_played script lines (opening_played script)).items) (take_all count script.lines past)
 
-pub all_reached : (script : ScriptData) (count : ℕ) (whole : Whole) (clock : ℕ) (ahead : Store → ℕ → Fate) → length script.lines ≤ count → IsPlayedTo script count whole clock ahead → whole.state ≡ (script_played script).state
+pub all_reached : (script : ScriptData) (count : ℕ) (whole : ClusterModel) (clock : ℕ) (ahead : Store → ℕ → Fate) → length script.lines ≤ count → IsPlayedTo script count whole clock ahead → whole.state ≡ (script_played script).state
 all_reached script count whole clock ahead past at =
     at.stands.state ∙ ap (λ (lines : List Line). (lines_played script lines (opening_played script)).state) (take_all count script.lines past)

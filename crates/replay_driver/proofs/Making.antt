@@ -9,19 +9,19 @@ use Rattle.machine.specs.declared.event.Event.{Event}
 use Rattle.event_parts.specs.declared.stopped.Stopped.{Stopped}
 use Rattle.event_parts.specs.declared.stopped.Stopped.TheVariants.{Refused, StoreFault, NoMemory as Memory}
 use Rattle.script_data.specs.Data.{ScriptData}
-use Rattle.command_semantics.specs.declared.point.Halt.{Halt}
-use Rattle.command_semantics.specs.Halts.{halt_of}
+use Rattle.command_semantics.specs.declared.point.Interruption.{Interruption}
+use Rattle.command_semantics.specs.Interruptions.{halt_of}
 use Rattle.command_semantics.specs.Runs.{Played}
-use Rattle.cluster_core.specs.Whole.{Whole}
+use Rattle.cluster_core.specs.ClusterModel.{ClusterModel}
 use Rattle.planned_cluster.specs.Standing.{StandsAt, PlaysOn}
 use Rattle.replay_driver.specs.Playing.{Advances, IsSaidOf}
 
-advanced : (script : ScriptData) (p : Played) (e : Event) (answer : Result Unit Stopped) (halt : Option Halt) (old new : Whole) (clock later : ℕ) (before now : Store → ℕ → Fate) → PlaysOn e answer old clock before new later now → IsSaidOf answer (Ok halt) → StandsAt script p old clock before → Advances script p e halt new later now
+advanced : (script : ScriptData) (p : Played) (e : Event) (answer : Result Unit Stopped) (halt : Option Interruption) (old new : ClusterModel) (clock later : ℕ) (before now : Store → ℕ → Fate) → PlaysOn e answer old clock before new later now → IsSaidOf answer (Ok halt) → StandsAt script p old clock before → Advances script p e halt new later now
 advanced script p e (Ok done) halt old new clock later before now plays said at = record { stands = (plays script p at).1; stop = said ∙ sym (ap halt_of (plays script p at).0) }
 advanced script p e (Err (Refused why)) halt old new clock later before now plays said at = record { stands = (plays script p at).1; stop = said ∙ sym (ap halt_of (plays script p at).0) }
 advanced script p e (Err (StoreFault store)) halt old new clock later before now plays said at = record { stands = (plays script p at).1; stop = said ∙ sym (ap halt_of (plays script p at).0) }
 advanced script p e (Err Memory) halt old new clock later before now plays said at = absurd (true≢false (sym said))
 
-pub made : (e : Event) (answer : Result Unit Stopped) (result : Result (Option Halt) NoMemory) (old new : Whole) (clock later : ℕ) (before now : Store → ℕ → Fate) → PlaysOn e answer old clock before new later now → IsSaidOf answer result → IfOk result (λ halt. (script : ScriptData) (p : Played) → StandsAt script p old clock before → Advances script p e halt new later now)
+pub made : (e : Event) (answer : Result Unit Stopped) (result : Result (Option Interruption) NoMemory) (old new : ClusterModel) (clock later : ℕ) (before now : Store → ℕ → Fate) → PlaysOn e answer old clock before new later now → IsSaidOf answer result → IfOk result (λ halt. (script : ScriptData) (p : Played) → StandsAt script p old clock before → Advances script p e halt new later now)
 made e answer (Ok halt) old new clock later before now plays said = λ script p at. advanced script p e answer halt old new clock later before now plays said at
 made e answer (Err refused) old new clock later before now plays said = tt

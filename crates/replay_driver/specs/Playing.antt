@@ -11,12 +11,12 @@ use Rattle.script_data.specs.declared.line.Verb.{Verb}
 use Rattle.script_data.specs.declared.line.Verb.TheVariants as verb
 use Rattle.command_semantics.specs.declared.point.Point.{Point}
 use Rattle.command_semantics.specs.declared.point.Point.TheVariants.{Opens, Over}
-use Rattle.command_semantics.specs.declared.point.Halt.{Halt}
-use Rattle.command_semantics.specs.declared.point.Halt.TheVariants.{Faulted}
-use Rattle.command_semantics.specs.Halts.{halt_of, refused_by}
+use Rattle.command_semantics.specs.declared.point.Interruption.{Interruption}
+use Rattle.command_semantics.specs.declared.point.Interruption.TheVariants.{Faulted}
+use Rattle.command_semantics.specs.Interruptions.{halt_of, refused_by}
 use Rattle.command_semantics.specs.Runs.{Played, step_of, played, lines_played, opening_played}
 use Rattle.command_semantics.specs.Laws.{IsReached, IsPlayable}
-use Rattle.cluster_core.specs.Whole.{Whole}
+use Rattle.cluster_core.specs.ClusterModel.{ClusterModel}
 use Rattle.planned_cluster.specs.Standing.{StandsAt}
 
 -- what the first lines of a script come to
@@ -24,20 +24,20 @@ abbrev pub played_to : ScriptData → ℕ → Played
 played_to script count = lines_played script (take count script.lines) (opening_played script)
 
 -- the first lines were carried out, and the others can be
-pub record IsPlayedTo (script : ScriptData) (count : ℕ) (whole : Whole) (clock : ℕ) (ahead : Store → ℕ → Fate) : Type 0 where
+pub record IsPlayedTo (script : ScriptData) (count : ℕ) (whole : ClusterModel) (clock : ℕ) (ahead : Store → ℕ → Fate) : Type 0 where
   pub stands : StandsAt script (played_to script count) whole clock ahead
   pub reached : IsReached script (played_to script count)
   pub playable : IsPlayable script (played_to script count).clock (drop count script.lines)
 
 -- this is said of what a call answered: how its event stopped, or that memory was refused
-abbrev pub IsSaidOf : Result Unit Stopped → Result (Option Halt) NoMemory → Type 0
+abbrev pub IsSaidOf : Result Unit Stopped → Result (Option Interruption) NoMemory → Type 0
 IsSaidOf (Ok _) result = IsOkAnd result (λ halt. halt ≡ None)
 IsSaidOf (Err (stopped.Refused why)) result = IsOkAnd result (λ halt. halt ≡ Some (refused_by why))
 IsSaidOf (Err (stopped.StoreFault store)) result = IsOkAnd result (λ halt. halt ≡ Some Faulted)
 IsSaidOf (Err stopped.NoMemory) result = IsErr result
 
 -- the event was played too, and this is how it stopped
-pub record Advances (script : ScriptData) (p : Played) (event : Event) (halt : Option Halt) (whole : Whole) (clock : ℕ) (ahead : Store → ℕ → Fate) : Type 0 where
+pub record Advances (script : ScriptData) (p : Played) (event : Event) (halt : Option Interruption) (whole : ClusterModel) (clock : ℕ) (ahead : Store → ℕ → Fate) : Type 0 where
   pub stands : StandsAt script (played script p event) whole clock ahead
   pub stop : halt ≡ halt_of (step_of script p event).stop
 

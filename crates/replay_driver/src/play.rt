@@ -8,7 +8,7 @@ ghost use Rattle.command_semantics.specs.Views.{view_of};
 ghost use Rattle.planned_cluster.specs.Standing.{StandsAt};
 ghost use Rattle.replay_driver.specs.Playing.{Advances, IsSaidOf, looks};
 
-use command_semantics::{Halt, Point, View, refused};
+use command_semantics::{Interruption, Point, View, refused};
 use machine::{Doing, Event};
 use planned_cluster::{PlannedCluster, Stopped};
 use port_io::{PlannedWeather, Weather};
@@ -47,7 +47,10 @@ fn looks(verb: &Verb, point: Point) -> bool
 }
 
 /// Makes the event, and says how it stopped, if it did.
-pub(crate) fn make(planned: &mut PlannedCluster, event: &Event) -> Result<Option<Halt>, NoMemory>
+pub(crate) fn make(
+    planned: &mut PlannedCluster,
+    event: &Event,
+) -> Result<Option<Interruption>, NoMemory>
     requires { IsSteadyAt planned.old.cluster.state.setup.skew planned.old.cluster.state.seen (reading_of event.now) }
     ensures { IfOk result (λ halt. (script : ScriptData) (p : Played) →
         StandsAt script p planned.old.cluster planned.old.clock (⟦<PlannedWeather as Weather>⟧.ahead planned.old.weather) →
@@ -57,13 +60,13 @@ pub(crate) fn make(planned: &mut PlannedCluster, event: &Event) -> Result<Option
 }
 
 /// How an event stopped, by what its call answered. A refusal and a fault are answers too: they stand in the history.
-fn answered(answer: Result<(), Stopped>) -> Result<Option<Halt>, NoMemory>
+fn answered(answer: Result<(), Stopped>) -> Result<Option<Interruption>, NoMemory>
     ensures { IsSaidOf answer result }
 {
     match answer {
         Ok(()) => Ok(None),
         Err(Stopped::Refused(cause)) => Ok(Some(refused(&cause))),
-        Err(Stopped::StoreFault(_)) => Ok(Some(Halt::Faulted)),
+        Err(Stopped::StoreFault(_)) => Ok(Some(Interruption::Faulted)),
         Err(Stopped::NoMemory) => Err(NoMemory),
     }
 }

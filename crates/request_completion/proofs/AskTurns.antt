@@ -14,7 +14,7 @@ use Rattle.isolation_laws.proofs.AlwaysHolds.{each_outcome}
 use Rattle.machine.proofs.Lookups.{client_set, one_client}
 use Rattle.machine.specs.Outcome.OutcomesOfRequests.{AskedBegin, asked_begin_state, asked_begin_items, AskedCommit, asked_commit_state}
 use Rattle.machine.specs.Outcome.Outcomes.{Outcome, OfAskedBegin, OfAskedCommit, left_by, told_by_outcome}
-use Rattle.request_completion.specs.Turns.{TakesAsks, AsksAreTurns}
+use Rattle.request_completion.specs.SessionTransitions.{TakesAsks, AsksAreTurns}
 use Rattle.request_completion.proofs.OwingItems.{only_is}
 use Rattle.request_completion.proofs.OwingOutcomes.{among}
 use Rattle.request_completion.proofs.AskItems.{NotAsked, NoneAsked, plain_asks}

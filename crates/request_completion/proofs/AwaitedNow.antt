@@ -21,9 +21,9 @@ use Rattle.isolation_laws.proofs.AlwaysHolds.{each_outcome}
 use Rattle.machine.proofs.Lookups.{set_found}
 use Rattle.machine.specs.Outcome.OutcomesOfRequests.{AskedCommit, asked_commit_state}
 use Rattle.machine.specs.Outcome.Outcomes.{Outcome, OfAskedBegin, OfAskedCommit, left_by, told_by_outcome}
-use Rattle.cause_laws.specs.Shows.{Tells}
+use Rattle.cause_laws.specs.ShownInvariant.{Tells}
 use Rattle.request_completion.specs.Ends.{IsHeld, AreAwaited}
-use Rattle.request_completion.specs.Turns.{Turn, Rests, AsksBegin, AsksCommit, Begins, LosesBegin, Writes, Frees, Undoes, Hands, Commits, Refuses, LeavesOpen, Vanishes, IsGone}
+use Rattle.request_completion.specs.SessionTransitions.{SessionTransition, Rests, AsksBegin, AsksCommit, Begins, LosesBegin, Writes, Frees, Undoes, Hands, Commits, Refuses, LeavesOpen, Vanishes, IsGone}
 use Rattle.request_completion.proofs.OwingItems.{only_is}
 use Rattle.request_completion.proofs.OwingOutcomes.{among}
 use Rattle.request_completion.proofs.AskItems.{plain_asks}
@@ -34,7 +34,7 @@ use Rattle.request_completion.proofs.SinceKept.{undone_not}
 use Rattle.request_completion.proofs.TurnsOfOutcomes.{session_turns}
 
 -- ---- whoever waits did so before, or asks now
-waits_by : (h : List Item) (s : ℕ) (c d : Client) (items : List Item) → Turn h s c items d → d.entry.state ≡ phase.Committing → (c.entry.state ≡ phase.Committing) ⊎ ((node : ℕ) × (start : ℕ) × (items ≡ item.AskCommit s node start ∷ []))
+waits_by : (h : List Item) (s : ℕ) (c d : Client) (items : List Item) → SessionTransition h s c items d → d.entry.state ≡ phase.Committing → (c.entry.state ≡ phase.Committing) ⊎ ((node : ℕ) × (start : ℕ) × (items ≡ item.AskCommit s node start ∷ []))
 waits_by h s c d items (Rests same none) waits = inl (ap (λ (e : SessionEntry). e.state) (sym same) ∙ waits)
 waits_by h s c d items (AsksBegin node free asking is) waits = let clash : phase.Asking ≡ phase.Committing = sym asking ∙ waits in absurd (cc)
 waits_by h s c d items (AsksCommit node start opened committing start_is then is) waits = inr (node, start, is)
@@ -51,7 +51,7 @@ waits_by h s c d items (Vanishes gone is) waits = let clash : phase.Gone ≡ pha
 waits_by h s c d items (IsGone was same) waits = let clash : phase.Gone ≡ phase.Committing = sym was ∙ (ap (λ (x : Client). x.entry.state) (sym same) ∙ waits) in absurd (cc)
 
 -- ---- a request that is asked for is held
-asked_held : (w : State) (h : List Item) (g : AskedCommit w) → Tells w h → IsHeld (asked_commit_state w g).nodes g.session
+asked_held : (w : State) (h : List Item) (g : AskedCommit w) → ExplainedInvariant w h → IsHeld (asked_commit_state w g).nodes g.session
 asked_held w h g tells =
     let now : Held = just_asked (Commit g.session g.start g.c.entry.keys) in
     let here : g.session < length w.clients = slice_get_within w.clients g.session g.c g.client_at in
@@ -65,14 +65,14 @@ asked_held w h g tells =
       has = held_of-with_request_same g.i g.session (Some now) (omega (arith, here, clients, requests));
     }
 
-held_now : (w : State) (h : List Item) (o : Outcome w) (s n t : ℕ) → Tells w h → item.AskCommit s n t ∈ told_by_outcome w o → IsHeld (left_by w o).nodes s
+held_now : (w : State) (h : List Item) (o : Outcome w) (s n t : ℕ) → ExplainedInvariant w h → item.AskCommit s n t ∈ told_by_outcome w o → IsHeld (left_by w o).nodes s
 held_now w h (OfAskedCommit g) s n t tells m =
     subst (λ (r : ℕ). IsHeld (asked_commit_state w g).nodes r) (commit_same s n t g.session g.node g.start (only_is _ _ (among _ g.items (item.AskCommit g.session g.node g.start ∷ []) g.tells m))).0 (asked_held w h g tells)
 held_now w h (OfAskedBegin g) s n t tells m = absurd (begin_commits_not s n t g.session g.node (only_is _ _ m))
 held_now w h o s n t tells m = absurd (commit_not s n t (told_by_outcome w o) (plain_asks w o s refl) m)
 
 -- ---- one event
-pub awaited_kept : (w : State) (h : List Item) (e : Event) (fate : Fate) → Tells w h → AreAwaited w.nodes w.clients → AreAwaited (stepped w e fate).state.nodes (stepped w e fate).state.clients
+pub awaited_kept : (w : State) (h : List Item) (e : Event) (fate : Fate) → ExplainedInvariant w h → AreAwaited w.nodes w.clients → AreAwaited (stepped w e fate).state.nodes (stepped w e fate).state.clients
 awaited_kept w h e fate tells are = record {
   each = λ s d there waits.
       let was : (c : Client) × ClientAt w.clients s c = was_there w e fate s d there in

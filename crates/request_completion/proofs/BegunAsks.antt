@@ -23,8 +23,8 @@ use Rattle.machine.specs.Outcome.Outcomes.{told_by_outcome}
 use Rattle.isolation_laws.proofs.Numbers.Placings.{placed_item}
 use Rattle.isolation_laws.proofs.Holding.IsolatedItems.{Stamping, StampsNone, StampsPlaced, StampsBegin, stamping, begin_old}
 use Rattle.cause_laws.specs.Requests.{ask_for}
-use Rattle.cause_laws.specs.Shows.{Tells}
-use Rattle.request_completion.specs.Turns.{IsAsked, OfBegin, BeginsAreAsked}
+use Rattle.cause_laws.specs.ShownInvariant.{Tells}
+use Rattle.request_completion.specs.SessionTransitions.{IsAsked, OfBegin, BeginsAreAsked}
 use Rattle.request_completion.proofs.OwingItems.{only_is}
 use Rattle.request_completion.proofs.OwingOutcomes.{among}
 use Rattle.request_completion.proofs.SessionTurns.{asked_of}
@@ -34,7 +34,7 @@ loss_waits : (commit node term : ℕ) (request : Request) → cause.NotYet commi
 loss_waits commit node term (Begin asker) is = cc
 loss_waits commit node term (Commit asker start keys) is = cc
 
-wait_asked : (w : State) (h told : List Item) (s commit : ℕ) → Tells w h → Due w told (item.Refused (Session s) (cause.NotYet commit)) → IsAsked h s None
+wait_asked : (w : State) (h told : List Item) (s commit : ℕ) → ExplainedInvariant w h → Due w told (item.Refused (Session s) (cause.NotYet commit)) → IsAsked h s None
 wait_asked w h told s commit tells (inl any) = absurd (none-some (any w.setup []).node (any w.setup []).node_is)
 wait_asked w h told s commit tells (inr (inl now)) =
     let due = now.1 in
@@ -49,12 +49,12 @@ lost_is : (h : List Item) (s n t node term : ℕ) (request : Request) → cause.
 lost_is h s n t node term (Begin asker) is asked = (n, asked)
 lost_is h s n t node term (Commit asker start keys) is asked = absurd (cc)
 
-loss_asked : (w : State) (h told : List Item) (s node term : ℕ) → Tells w h → DueLoss w told (Session s) (cause.Crashed node term) → IsAsked h s None
+loss_asked : (w : State) (h told : List Item) (s node term : ℕ) → ExplainedInvariant w h → DueLoss w told (Session s) (cause.Crashed node term) → IsAsked h s None
 loss_asked w h told s node term tells loss =
     let same : loss.session ≡ s = same_session s loss.session loss.actor_is in
     subst (λ (r : ℕ). IsAsked h r None) same (lost_is h loss.session loss.serves.node loss.i.term node term loss.request loss.why_is (tells.shows.asked.asked loss.serves.node loss.session loss.i loss.request loss.p loss.serves.at loss.serves.holds))
 
-crash_asked : (w : State) (h told : List Item) (s node term : ℕ) → Tells w h → Due w told (item.Refused (Session s) (cause.Crashed node term)) → IsAsked h s None
+crash_asked : (w : State) (h told : List Item) (s node term : ℕ) → ExplainedInvariant w h → Due w told (item.Refused (Session s) (cause.Crashed node term)) → IsAsked h s None
 crash_asked w h told s node term tells (inl any) = absurd (none-some node (any w.setup []).node_is)
 crash_asked w h told s node term tells (inr (inl now)) = absurd now.1
 crash_asked w h told s node term tells (inr (inr (inl loss))) = loss_asked w h told s node term tells loss
@@ -64,7 +64,7 @@ crash_asked w h told s node term tells (inr (inr (inr placing))) = absurd placin
 same_begin : (s t r u : ℕ) → item.Begin s t ≡ item.Begin r u → r ≡ s
 same_begin s t r u same = cc
 
-begin_by : (w : State) (h items : List Item) (s start : ℕ) → Tells w h → Stamping w items → item.Begin s start ∈ items → IsAsked h s None
+begin_by : (w : State) (h items : List Item) (s start : ℕ) → ExplainedInvariant w h → Stamping w items → item.Begin s start ∈ items → IsAsked h s None
 unfolding ◌∈◌
 begin_by w h items s start tells (StampsNone none) m = absurd (begin_old [] items s start none m)
 begin_by w h items s start tells (StampsPlaced p rest quiet is) m = elim (among (item.Begin s start) items (placed_item w p ∷ rest) is m) [
@@ -76,12 +76,12 @@ begin_by w h items s start tells (StampsBegin k is) m =
     subst (λ (r : ℕ). IsAsked h r None) same (asked_of w h k.node k.session k.i k.held (Begin k.asker) tells k.at k.has k.request_is)
 
 -- ---- each item
-due_at : (w : State) (h : List Item) (e : Event) (fate : Fate) (x : Item) → Tells w h → x ∈ (stepped w e fate).items → (told : List Item) × Due w told x
+due_at : (w : State) (h : List Item) (e : Event) (fate : Fate) (x : Item) → ExplainedInvariant w h → x ∈ (stepped w e fate).items → (told : List Item) × Due w told x
 due_at w h e fate x tells m =
     let place : (p : ℕ) × (slice_get (stepped w e fate).items p ≡ Some x) = place_of x (stepped w e fate).items m in
     (take place.0 (stepped w e fate).items, (dues w h e fate tells.stands).at place.0 x place.1)
 
-refused_asked : (w : State) (h : List Item) (e : Event) (fate : Fate) (s r : ℕ) (why : Cause) → Tells w h → item.Refused (Session r) why ∈ (stepped w e fate).items → OfBegin s (item.Refused (Session r) why) → IsAsked h s None
+refused_asked : (w : State) (h : List Item) (e : Event) (fate : Fate) (s r : ℕ) (why : Cause) → ExplainedInvariant w h → item.Refused (Session r) why ∈ (stepped w e fate).items → OfBegin s (item.Refused (Session r) why) → IsAsked h s None
 refused_asked w h e fate s r (cause.NotYet commit) tells m same =
     let due = due_at w h e fate (item.Refused (Session r) (cause.NotYet commit)) tells m in
     subst (λ (q : ℕ). IsAsked h q None) same (wait_asked w h due.0 r commit tells due.1)

@@ -10,7 +10,7 @@ use Rattle.system_parts.specs.SessionSteps.{asked_state}
 use Rattle.machine.specs.State.{Client, State}
 use Rattle.machine.specs.Clients.{client_asked}
 use Rattle.cause_rules.specs.Written.{written_keys}
-use Rattle.isolation_laws.specs.Holds.{Holds}
+use Rattle.isolation_laws.specs.IsolationInvariant.{IsolationInvariant}
 use Rattle.isolation_laws.specs.Pending.{IsOpen}
 use Rattle.isolation_laws.specs.Words.{ClientAt, epoch_or_none, OpenAt, Begun}
 use Rattle.isolation_laws.proofs.Holding.LeftAlone as left
@@ -33,7 +33,7 @@ use Rattle.request_completion.proofs.AskTurns.{commit_not, commit_same, begin_co
 use Rattle.request_completion.proofs.Splits.{Stood, Before, Among, stood, stands_in, alone}
 
 -- ---- a transaction that was begun is open only where it was
-open_kept : (w : State) (h : List Item) (o : Outcome w) (s t : ℕ) → Holds w h → Begun h s t → IsOpen (left_by w o).clients t → IsOpen w.clients t
+open_kept : (w : State) (h : List Item) (o : Outcome w) (s t : ℕ) → IsolationInvariant w h → Begun h s t → IsOpen (left_by w o).clients t → IsOpen w.clients t
 open_kept w h (OfAnsweredBegin k) s t holds begun now = elim (open_answered_begin w k now.session t now.epoch now.open_at) [
   | inl old ↦ record { session = now.session; epoch = now.epoch; open_at = old }
   | inr here ↦ absurd (start_unbegun w h k s holds (subst (Begun h s) here.1 begun))
@@ -41,7 +41,7 @@ open_kept w h (OfAnsweredBegin k) s t holds begun now = elim (open_answered_begi
 open_kept w h o s t holds begun now = fewer_is_open w.clients _ t ((left.alone w h o holds).clients.opened refl) now
 
 -- ---- one that is not open writes nothing
-pub written_stays : (w : State) (h : List Item) (o : Outcome w) (t : ℕ) → Holds w h → (IsOpen w.clients t → ⊥) → written_keys (h ++ told_by_outcome w o) t ≡ written_keys h t
+pub written_stays : (w : State) (h : List Item) (o : Outcome w) (t : ℕ) → IsolationInvariant w h → (IsOpen w.clients t → ⊥) → written_keys (h ++ told_by_outcome w o) t ≡ written_keys h t
 written_stays w h (OfWrote k) t holds none = written_keys-other h k.it.session k.start t k.key k.value (λ same. none (record {
   session = k.it.session;
   epoch = epoch_or_none k.it.c.entry.epoch;
@@ -71,7 +71,7 @@ asks_by w s n t items (ForCommit c node start at is_open start_is is) m =
       told = is ∙ (ap (λ (q : ℕ). item.AskCommit s q start ∷ []) same.1 ∙ ap (λ (q : ℕ). item.AskCommit s n q ∷ []) same.2);
     }
 
-asked_begun : (w : State) (h : List Item) (o : Outcome w) (s n t : ℕ) → Holds w h → item.AskCommit s n t ∈ told_by_outcome w o → Begun h s t
+asked_begun : (w : State) (h : List Item) (o : Outcome w) (s n t : ℕ) → IsolationInvariant w h → item.AskCommit s n t ∈ told_by_outcome w o → Begun h s t
 asked_begun w h o s n t holds m =
     let k = asks_by w s n t (told_by_outcome w o) (asking w o s) m in
     open_begun w.clients h s t k.client holds.requests.have_begun k.at k.is_open k.start_is
@@ -83,7 +83,7 @@ asked_not_open w k s d same there is_open = elim (client_set w.clients k.session
   | inr other ↦ other.0 same
 ]
 
-commit_closed : (w : State) (h : List Item) (k : AskedCommit w) (s n t : ℕ) → Holds w h → item.AskCommit s n t ∈ k.items → IsOpen (asked_commit_state w k).clients t → ⊥
+commit_closed : (w : State) (h : List Item) (k : AskedCommit w) (s n t : ℕ) → IsolationInvariant w h → item.AskCommit s n t ∈ k.items → IsOpen (asked_commit_state w k).clients t → ⊥
 commit_closed w h k s n t holds m now =
     let same : (k.session ≡ s) × (k.node ≡ n) × (k.start ≡ t) = commit_same s n t k.session k.node k.start (only_is _ _ (among _ k.items (item.AskCommit k.session k.node k.start ∷ []) k.tells m)) in
     let mine : Begun h k.session t = subst (Begun h k.session) same.2 (open_begun w.clients h k.session k.start k.c holds.requests.have_begun k.client_at k.is_open k.start_is) in
@@ -91,13 +91,13 @@ commit_closed w h k s n t holds m now =
     let other : Begun h now.session t = open_begun w.clients h now.session t was.client holds.requests.have_begun was.at was.state_is was.start_is in
     asked_not_open w k now.session now.open_at.client (begun_once h now.session k.session t holds.isolated.stamped other mine) now.open_at.at now.open_at.state_is
 
-asked_closed : (w : State) (h : List Item) (o : Outcome w) (s n t : ℕ) → Holds w h → item.AskCommit s n t ∈ told_by_outcome w o → IsOpen (left_by w o).clients t → ⊥
+asked_closed : (w : State) (h : List Item) (o : Outcome w) (s n t : ℕ) → IsolationInvariant w h → item.AskCommit s n t ∈ told_by_outcome w o → IsOpen (left_by w o).clients t → ⊥
 asked_closed w h (OfAskedCommit k) s n t holds m now = commit_closed w h k s n t holds m now
 asked_closed w h (OfAskedBegin k) s n t holds m now = begin_commits_not s n t k.session k.node (only_is _ _ m)
 asked_closed w h o s n t holds m now = commit_not s n t (told_by_outcome w o) (plain_asks w o s refl) m
 
 -- ---- one outcome
-keys_by : (w : State) (h : List Item) (o : Outcome w) (before behind : List Item) (s n t : ℕ) → Holds w h → AreClosed w.clients h → Stood h (told_by_outcome w o) before behind (item.AskCommit s n t) → written_keys (h ++ told_by_outcome w o) t ≡ written_keys before t
+keys_by : (w : State) (h : List Item) (o : Outcome w) (before behind : List Item) (s n t : ℕ) → IsolationInvariant w h → AreClosed w.clients h → Stood h (told_by_outcome w o) before behind (item.AskCommit s n t) → written_keys (h ++ told_by_outcome w o) t ≡ written_keys before t
 keys_by w h o before behind s n t holds are (Before rest old new) = written_stays w h o t holds (are.closed s n t (stands_in (item.AskCommit s n t) before rest h old)) ∙ are.keys before rest s n t old
 keys_by w h o before behind s n t holds are (Among front old new) =
     let x : Item = item.AskCommit s n t in
@@ -106,7 +106,7 @@ keys_by w h o before behind s n t holds are (Among front old new) =
     let here : before ≡ h = old ∙ (ap (λ (xs : List Item). h ++ xs) first ∙ append-nil h) in
     ap (λ (xs : List Item). written_keys (h ++ xs) t) k.told ∙ (written_keys-push h x t ∙ ap (λ (xs : List Item). written_keys xs t) (sym here))
 
-pub closed_on : (w : State) (h : List Item) (o : Outcome w) → Holds w h → AreClosed w.clients h → AreClosed (left_by w o).clients (h ++ told_by_outcome w o)
+pub closed_on : (w : State) (h : List Item) (o : Outcome w) → IsolationInvariant w h → AreClosed w.clients h → AreClosed (left_by w o).clients (h ++ told_by_outcome w o)
 closed_on w h o holds are = record {
   begun = λ s n t m. elim (in_append (item.AskCommit s n t) h (told_by_outcome w o) m) [
     | inl old ↦ in_front (item.Begin s t) h (told_by_outcome w o) (are.begun s n t old)

@@ -23,10 +23,10 @@ use Rattle.machine.specs.Events.Vanish.{vanish_by, vanish_on}
 use Rattle.machine.specs.StoreSteps.{step_item, store_of}
 use Rattle.isolation_laws.specs.Words.{ClientAt}
 use Rattle.machine.proofs.Lookups.{client_set}
-use Rattle.cause_laws.specs.Shows.{Tells}
+use Rattle.cause_laws.specs.ShownInvariant.{Tells}
 use Rattle.request_completion.specs.Completions.{GoesOn}
 use Rattle.request_completion.specs.Ends.{AreGoneSince, IsToAsk, HasVanished, Comes, Made, Failed, Vanished, Left}
-use Rattle.request_completion.specs.Turns.{Turn, Rests, AsksBegin, AsksCommit, Begins, LosesBegin, Writes, Frees, Undoes, Hands, Commits, Refuses, LeavesOpen, Vanishes, IsGone}
+use Rattle.request_completion.specs.SessionTransitions.{SessionTransition, Rests, AsksBegin, AsksCommit, Begins, LosesBegin, Writes, Frees, Undoes, Hands, Commits, Refuses, LeavesOpen, Vanishes, IsGone}
 use Rattle.request_completion.proofs.EventFacts.{still_there}
 use Rattle.request_completion.proofs.LeftByOthers.{others_leave_completions}
 use Rattle.request_completion.proofs.CompletionMoves.{steps_move_completions}
@@ -59,7 +59,7 @@ waits_not : (state : SessionState) → (state ≡ phase.Committing) ⊎ (state �
 waits_not state (inl committing) gone = unlike state phase.Committing phase.Gone committing gone (λ is. cc)
 waits_not state (inr placing) gone = unlike state phase.Placing phase.Gone placing gone (λ is. cc)
 
-gone_stays : (h : List Item) (s : ℕ) (c d : Client) (items : List Item) → Turn h s c items d → c.entry.state ≡ phase.Gone → d.entry.state ≡ phase.Gone
+gone_stays : (h : List Item) (s : ℕ) (c d : Client) (items : List Item) → SessionTransition h s c items d → c.entry.state ≡ phase.Gone → d.entry.state ≡ phase.Gone
 gone_stays h s c d items (Rests same none) gone = ap (λ (e : SessionEntry). e.state) same ∙ gone
 gone_stays h s c d items (AsksBegin node free asking is) gone = absurd (unlike c.entry.state phase.Free phase.Gone free gone (λ is. cc))
 gone_stays h s c d items (AsksCommit node start opened committing start_is then is) gone = absurd (unlike c.entry.state phase.Open phase.Gone opened gone (λ is. cc))
@@ -78,7 +78,7 @@ gone_stays h s c d items (LeavesOpen start waits told none same) gone = absurd (
 gone_stays h s c d items (Vanishes now is) gone = now
 gone_stays h s c d items (IsGone was same) gone = ap (λ (x : Client). x.entry.state) same ∙ gone
 
-pub gone_vanished : (w : State) (h : List Item) (e : Event) (fate : Fate) (s : ℕ) (c : Client) → Tells w h → AreGoneSince w.clients h → ClientAt w.clients s c → c.entry.state ≡ phase.Gone → HasVanished (stepped w e fate).state.clients (h ++ (stepped w e fate).items) s
+pub gone_vanished : (w : State) (h : List Item) (e : Event) (fate : Fate) (s : ℕ) (c : Client) → ExplainedInvariant w h → AreGoneSince w.clients h → ClientAt w.clients s c → c.entry.state ≡ phase.Gone → HasVanished (stepped w e fate).state.clients (h ++ (stepped w e fate).items) s
 gone_vanished w h e fate s c tells are at gone =
     let there : (d : Client) × ClientAt (stepped w e fate).state.clients s d = still_there w e fate s c at in
     let now : there.0.entry.state ≡ phase.Gone = gone_stays h s c there.0 (stepped w e fate).items (session_turns w h e fate s c there.0 tells at there.1) gone in
@@ -120,7 +120,7 @@ vanish_is w s fate c undo at completes =
     let f : Client → Step = λ x. step_by (vanish_on s x) (λ p. with_client w s p) in
     ap (λ (found : Option Client). (at_client w found f).state.clients) at ∙ ap (λ (state : SessionState). slice_set w.clients s (vanish_by s c (vanish_refusal state)).parts) completes
 
-vanishes : (w : State) (h : List Item) (fate : Fate) (s start : ℕ) (undo : Bool) (asked : Ask) (made : Item) (c : Client) → Tells w h → AreGoneSince w.clients h → ClientAt w.clients s c → c.entry.state ≡ phase.Completing undo → Comes (stepped w (event.Vanish s) fate).state.clients (h ++ (stepped w (event.Vanish s) fate).items) s start undo asked made (stepped w (event.Vanish s) fate).items
+vanishes : (w : State) (h : List Item) (fate : Fate) (s start : ℕ) (undo : Bool) (asked : Ask) (made : Item) (c : Client) → ExplainedInvariant w h → AreGoneSince w.clients h → ClientAt w.clients s c → c.entry.state ≡ phase.Completing undo → Comes (stepped w (event.Vanish s) fate).state.clients (h ++ (stepped w (event.Vanish s) fate).items) s start undo asked made (stepped w (event.Vanish s) fate).items
 vanishes w h fate s start undo asked made c tells are at completes =
     let there : (d : Client) × ClientAt (stepped w (event.Vanish s) fate).state.clients s d = still_there w (event.Vanish s) fate s c at in
     let set : ClientAt (slice_set w.clients s (client_vanished c)) s there.0 = subst (λ (clients : List Client). ClientAt clients s there.0) (vanish_is w s fate c undo at completes) there.1 in
@@ -128,7 +128,7 @@ vanishes w h fate s start undo asked made c tells are at completes =
     Vanished (record { client = there.0; at = there.1; gone = gone; told = (gone_kept w h (event.Vanish s) fate tells are).vanished s there.0 there.1 gone })
 
 -- ---- any event
-stays : (w : State) (h : List Item) (e : Event) (fate : Fate) (s start : ℕ) (undo : Bool) (asked : Ask) (k : IsToAsk w.clients s start undo asked) → Tells w h → (e ≡ event.Step s → ⊥) → (e ≡ event.Vanish s → ⊥) → IsToAsk (stepped w e fate).state.clients s start undo asked
+stays : (w : State) (h : List Item) (e : Event) (fate : Fate) (s start : ℕ) (undo : Bool) (asked : Ask) (k : IsToAsk w.clients s start undo asked) → ExplainedInvariant w h → (e ≡ event.Step s → ⊥) → (e ≡ event.Vanish s → ⊥) → IsToAsk (stepped w e fate).state.clients s start undo asked
 stays w h e fate s start undo asked k tells no_step no_vanish =
     let there : (d : Client) × ClientAt (stepped w e fate).state.clients s d = still_there w e fate s k.client k.at in
     let same : there.0 ≡ k.client = others_leave_completions w h e fate s k.client there.0 undo tells.stands k.at k.completes no_step no_vanish there.1 in
@@ -142,7 +142,7 @@ stays w h e fate s start undo asked k tells no_step no_vanish =
       left = k.left;
     }
 
-pub goes_on : (w : State) (h : List Item) (e : Event) (fate : Fate) (s start : ℕ) (undo : Bool) (asked : Ask) (made : Item) → Tells w h → AreGoneSince w.clients h → ((answer : Told) → step_item (Session s) asked answer ≡ made) → IsToAsk w.clients s start undo asked → Comes (stepped w e fate).state.clients (h ++ (stepped w e fate).items) s start undo asked made (stepped w e fate).items
+pub goes_on : (w : State) (h : List Item) (e : Event) (fate : Fate) (s start : ℕ) (undo : Bool) (asked : Ask) (made : Item) → ExplainedInvariant w h → AreGoneSince w.clients h → ((answer : Told) → step_item (Session s) asked answer ≡ made) → IsToAsk w.clients s start undo asked → Comes (stepped w e fate).state.clients (h ++ (stepped w e fate).items) s start undo asked made (stepped w e fate).items
 goes_on w h e fate s start undo asked made tells are makes k = elim (which e s) [
   | inl step ↦
       subst (λ (x : Event). Comes (stepped w x fate).state.clients (h ++ (stepped w x fate).items) s start undo asked made (stepped w x fate).items) (sym step)
@@ -160,7 +160,7 @@ behind_more clients h s start undo asked made rest items (Failed store m) = Fail
 behind_more clients h s start undo asked made rest items (Vanished v) = Vanished v
 behind_more clients h s start undo asked made rest items (Left k) = Left k
 
-pub comes_on : (w : State) (h : List Item) (e : Event) (fate : Fate) (s start : ℕ) (undo : Bool) (asked : Ask) (made : Item) (rest : List Item) → Tells w h → AreGoneSince w.clients h → ((answer : Told) → step_item (Session s) asked answer ≡ made) → Comes w.clients h s start undo asked made rest → Comes (stepped w e fate).state.clients (h ++ (stepped w e fate).items) s start undo asked made (rest ++ (stepped w e fate).items)
+pub comes_on : (w : State) (h : List Item) (e : Event) (fate : Fate) (s start : ℕ) (undo : Bool) (asked : Ask) (made : Item) (rest : List Item) → ExplainedInvariant w h → AreGoneSince w.clients h → ((answer : Told) → step_item (Session s) asked answer ≡ made) → Comes w.clients h s start undo asked made rest → Comes (stepped w e fate).state.clients (h ++ (stepped w e fate).items) s start undo asked made (rest ++ (stepped w e fate).items)
 comes_on w h e fate s start undo asked made rest tells are makes (Made m) = Made (in_front made rest (stepped w e fate).items m)
 comes_on w h e fate s start undo asked made rest tells are makes (Failed store m) = Failed store (in_front (item.Fault (Session s) store) rest (stepped w e fate).items m)
 comes_on w h e fate s start undo asked made rest tells are makes (Vanished v) = Vanished (gone_vanished w h e fate s v.client tells are v.at v.gone)

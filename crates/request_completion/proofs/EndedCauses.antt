@@ -14,7 +14,7 @@ use Rattle.system_parts.specs.Instance.{InstanceEntry, held_of}
 use Rattle.machine.specs.State.{State}
 use Rattle.cause_rules.specs.OpenAsks.{ends_request}
 use Rattle.machine.specs.Due.{Due, AreDue, DueSettled}
-use Rattle.isolation_laws.specs.Holds.{Holds}
+use Rattle.isolation_laws.specs.IsolationInvariant.{IsolationInvariant}
 use Rattle.isolation_laws.specs.Words.{InstanceAt}
 use Rattle.machine.proofs.Lookups.{one_instance, one_held, held_by}
 use Rattle.machine.specs.Outcome.OutcomesOfRequests.{Ended}
@@ -33,20 +33,20 @@ not_settled : (p : Progress) (commit : ℕ) → (p ≡ progress.Asked) ⊎ (p �
 not_settled p commit (inl asked) settled = let clash : progress.Asked ≡ progress.Settled commit how.Faulted = sym asked ∙ settled in cc
 not_settled p commit (inr accepted) settled = let clash : progress.Accepted ≡ progress.Settled commit how.Faulted = sym accepted ∙ settled in cc
 
-held_there : (w : State) (h : List Item) (k : Ended w) (s start : ℕ) (due : DueSettled w s start how.Faulted) → Holds w h → k.session ≡ s → held_of due.i s ≡ Some k.held
+held_there : (w : State) (h : List Item) (k : Ended w) (s start : ℕ) (due : DueSettled w s start how.Faulted) → IsolationInvariant w h → k.session ≡ s → held_of due.i s ≡ Some k.held
 held_there w h k s start due holds same =
     let has : held_of k.i s ≡ Some k.held = subst (λ (r : ℕ). held_of k.i r ≡ Some k.held) same k.has in
     let here : k.node ≡ due.serves.node = holds.requests.requests.one k.node due.serves.node s k.i due.i k.held.request _ k.held.progress _ k.at due.serves.at (held_by k.i s k.held has) due.serves.holds in
     let one : k.i ≡ due.i = one_instance w.nodes due.serves.node k.i due.i (subst (λ (n : ℕ). InstanceAt w.nodes n k.i) here k.at) due.serves.at in
     subst (λ (i : InstanceEntry). held_of i s ≡ Some k.held) one has
 
-settled_not : (w : State) (h : List Item) (k : Ended w) (start : ℕ) → Holds w h → DueSettled w k.session start how.Faulted → ⊥
+settled_not : (w : State) (h : List Item) (k : Ended w) (start : ℕ) → IsolationInvariant w h → DueSettled w k.session start how.Faulted → ⊥
 settled_not w h k start holds due =
     let same : due.serves.holds.held ≡ k.held = one_held due.i k.session due.serves.holds.held k.held due.serves.holds.has (held_there w h k k.session start due holds refl) in
     not_settled k.held.progress due.commit k.undrawn (ap (λ (held : Held). held.progress) (sym same) ∙ due.serves.holds.stands)
 
 -- ---- by the cause
-open_not : (w : State) (h : List Item) (k : Ended w) (start : ℕ) → Holds w h → Due w [] (item.Refused (Session k.session) (cause.Open start)) → ⊥
+open_not : (w : State) (h : List Item) (k : Ended w) (start : ℕ) → IsolationInvariant w h → Due w [] (item.Refused (Session k.session) (cause.Open start)) → ⊥
 open_not w h k start holds (inl any) = none-some (any w.setup []).node (any w.setup []).node_is
 open_not w h k start holds (inr (inl now)) = settled_not w h k start holds now.1
 open_not w h k start holds (inr (inr (inl loss))) = none_first (item.Crash loss.serves.node loss.i.term) loss.earlier loss.told_is
@@ -58,7 +58,7 @@ crashed_not w s node term (inr (inl now)) = now.1
 crashed_not w s node term (inr (inr (inl loss))) = none_first (item.Crash loss.serves.node loss.i.term) loss.earlier loss.told_is
 crashed_not w s node term (inr (inr (inr placing))) = placing.how
 
-by_cause : (w : State) (h : List Item) (k : Ended w) (why : Cause) → Holds w h → IsTrue (ends_request why) → Due w [] (item.Refused (Session k.session) why) → leaves_cells why ≡ true
+by_cause : (w : State) (h : List Item) (k : Ended w) (why : Cause) → IsolationInvariant w h → IsTrue (ends_request why) → Due w [] (item.Refused (Session k.session) why) → leaves_cells why ≡ true
 by_cause w h k (cause.Expired reading until) holds ends due = refl
 by_cause w h k (cause.OldEpoch start epoch) holds ends due = refl
 by_cause w h k (cause.Conflict key by) holds ends due = refl
@@ -70,5 +70,5 @@ by_cause w h k (cause.Open start) holds ends due = absurd (open_not w h k start 
 by_cause w h k (cause.Crashed node term) holds ends due = absurd (crashed_not w k.session node term due)
 by_cause w h k _ holds ends due = absurd (cc)
 
-pub ended_leaves : (w : State) (h : List Item) (k : Ended w) → Holds w h → AreDue w k.items → leaves_cells k.why ≡ true
+pub ended_leaves : (w : State) (h : List Item) (k : Ended w) → IsolationInvariant w h → AreDue w k.items → leaves_cells k.why ≡ true
 ended_leaves w h k holds due = by_cause w h k k.why holds k.ends ((subst (AreDue w) k.tells due).at 0 (item.Refused (Session k.session) k.why) refl)

@@ -31,7 +31,7 @@ use Rattle.machine.specs.Outcome.OutcomesOfPlacings.{own_told}
 use Rattle.machine.specs.Outcome.Outcomes.{Outcome, OfGranted, OfCrashed, OfAskedBegin, OfAskedCommit, OfAccepted, OfEnded, OfDrew, OfAnsweredBegin, OfAnsweredCommit, OfHanded, OfOwnPlaced, OfOwnNotPlaced, OfOutcome, told_by_outcome}
 use Rattle.cause_laws.proofs.SilentOutcomes.{fault_if_silent, silent_items}
 use Rattle.request_completion.specs.Closings.{leaves_cells, Owes}
-use Rattle.request_completion.specs.Turns.{ends_commit, EndsCommit, NoneEnds}
+use Rattle.request_completion.specs.SessionTransitions.{ends_commit, EndsCommit, NoneEnds}
 use Rattle.request_completion.proofs.OwingItems.{only_is, refusal_not, leaves_ends}
 use Rattle.request_completion.proofs.OwingOutcomes.{among}
 

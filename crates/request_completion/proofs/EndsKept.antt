@@ -16,7 +16,7 @@ use Rattle.machine.specs.State.{Client, State, client_new, opening}
 use Rattle.machine.specs.Machine.{Step, stepped, Move, state_after, items_after, history_after, AreSteady, Steady}
 use Rattle.isolation_laws.specs.Words.{InstanceAt, ClientAt}
 use Rattle.isolation_laws.proofs.AlwaysHolds.{each_outcome, steady_now, steady_stays}
-use Rattle.cause_laws.specs.Shows.{Tells}
+use Rattle.cause_laws.specs.ShownInvariant.{Tells}
 use Rattle.cause_laws.proofs.AlwaysExplained.{tells_stay, tells_at_first}
 use Rattle.request_completion.specs.Ends.{AreClosed, Ends}
 use Rattle.request_completion.specs.Laws.{EndsAtFirst, EventsKeepEnds, ToldWaitsStand, OpenOutcomesWereTold, CommitsAreRemoved, RefusalsAreErased}
@@ -62,7 +62,7 @@ ends_at_first setup = record {
 }
 
 -- ---- one event
-closed_kept : (w : State) (h : List Item) (e : Event) (fate : Fate) → Tells w h → AreClosed w.clients h → AreClosed (stepped w e fate).state.clients (h ++ (stepped w e fate).items)
+closed_kept : (w : State) (h : List Item) (e : Event) (fate : Fate) → ExplainedInvariant w h → AreClosed w.clients h → AreClosed (stepped w e fate).state.clients (h ++ (stepped w e fate).items)
 closed_kept w h e fate tells are = each_outcome (λ v items. AreClosed v.clients (h ++ items)) w h e fate tells.stands (λ o. closed_on w h o tells.stands.holds are)
 
 pub events_keep_ends : EventsKeepEnds
@@ -77,12 +77,12 @@ events_keep_ends w h e fate tells ends = record {
 }
 
 -- ---- all moves
-ends_after : (w : State) (h : List Item) (moves : List Move) → Tells w h → Ends w h → AreSteady w.setup.skew w.seen moves → Ends (state_after w moves) (h ++ items_after w moves)
+ends_after : (w : State) (h : List Item) (moves : List Move) → ExplainedInvariant w h → Ends w h → AreSteady w.setup.skew w.seen moves → Ends (state_after w moves) (h ++ items_after w moves)
 unfolding state_after items_after
 ends_after w h [] tells ends steady = subst (λ (xs : List Item). Ends w xs) (sym (append-nil h)) ends
 ends_after w h (move ∷ moves) tells ends steady =
     let step : Step = stepped w move.event move.fate in
-    let told : Tells step.state (h ++ step.items) = tells_stay w h move.event move.fate tells (steady_now w move moves steady) in
+    let told : ExplainedInvariant step.state (h ++ step.items) = tells_stay w h move.event move.fate tells (steady_now w move moves steady) in
     let after : Ends step.state (h ++ step.items) = events_keep_ends w h move.event move.fate tells ends in
     subst (λ (xs : List Item). Ends (state_after step.state moves) xs) (append_assoc h step.items (items_after step.state moves)) (ends_after step.state (h ++ step.items) moves told after (steady_stays w move moves steady))
 

@@ -23,10 +23,10 @@ use Rattle.isolation_laws.specs.Pending.{is_placing}
 use Rattle.isolation_laws.specs.Requests.{HasAsked}
 use Rattle.isolation_laws.specs.Words.{ClientAt}
 use Rattle.isolation_laws.proofs.AlwaysHolds.{each_outcome}
-use Rattle.cause_laws.specs.Shows.{Tells}
+use Rattle.cause_laws.specs.ShownInvariant.{Tells}
 use Rattle.request_completion.specs.Closings.{leaves_cells}
 use Rattle.request_completion.specs.Ends.{AreGoneSince, AreClosed, IsToAsk, Comes, Vanished, Left, AreErased}
-use Rattle.request_completion.specs.Turns.{EndsCommit, IsAsked, IsCommitting, Turn, Rests, AsksBegin, AsksCommit, Begins, LosesBegin, Writes, Frees, Undoes, Hands, Commits, Refuses, LeavesOpen, Vanishes, IsGone}
+use Rattle.request_completion.specs.SessionTransitions.{EndsCommit, IsAsked, IsCommitting, SessionTransition, Rests, AsksBegin, AsksCommit, Begins, LosesBegin, Writes, Frees, Undoes, Hands, Commits, Refuses, LeavesOpen, Vanishes, IsGone}
 use Rattle.request_completion.proofs.OwingItems.{only_is}
 use Rattle.request_completion.proofs.OwingOutcomes.{among}
 use Rattle.request_completion.proofs.EndingItems.{leaves_end}
@@ -49,7 +49,7 @@ pub record HasRefused (h : List Item) (s : ℕ) (c d : Client) : Type 0 where
   pub waits : IsCommitting h s start c
   pub is : d ≡ client_aborted c
 
-refusal_told : (h : List Item) (s : ℕ) (why : Cause) (c d : Client) (items : List Item) → leaves_cells why ≡ true → Turn h s c items d → item.Refused (Session s) why ∈ items → (c.entry.state ≡ phase.Gone) ⊎ (IsAsked h s None ⊎ HasRefused h s c d)
+refusal_told : (h : List Item) (s : ℕ) (why : Cause) (c d : Client) (items : List Item) → leaves_cells why ≡ true → SessionTransition h s c items d → item.Refused (Session s) why ∈ items → (c.entry.state ≡ phase.Gone) ⊎ (IsAsked h s None ⊎ HasRefused h s c d)
 refusal_told h s why c d items leaves (Rests same none) m = absurd (none (item.Refused (Session s) why) m (refused_ends s why leaves))
 refusal_told h s why c d items leaves (AsksBegin node free asking is) m = let same : item.Refused (Session s) why ≡ item.AskBegin s node = only_is _ _ (among _ items _ is m) in absurd (cc)
 refusal_told h s why c d items leaves (AsksCommit node t opened committing start_is then is) m = let same : item.Refused (Session s) why ≡ item.AskCommit s node t = only_is _ _ (among _ items _ is m) in absurd (cc)
@@ -96,7 +96,7 @@ waits_asked state (inl committing) = inr (inl committing)
 waits_asked state (inr placing) = inr (inr (inr (ap is_placing placing)))
 
 -- ---- the keys that were written
-closed_keys : (w : State) (h : List Item) (e : Event) (fate : Fate) (s n start : ℕ) → Tells w h → AreClosed w.clients h → item.AskCommit s n start ∈ h → written_keys (h ++ (stepped w e fate).items) start ≡ written_keys h start
+closed_keys : (w : State) (h : List Item) (e : Event) (fate : Fate) (s n start : ℕ) → ExplainedInvariant w h → AreClosed w.clients h → item.AskCommit s n start ∈ h → written_keys (h ++ (stepped w e fate).items) start ≡ written_keys h start
 closed_keys w h e fate s n start tells closed m =
     each_outcome (λ v items. written_keys (h ++ items) start ≡ written_keys h start) w h e fate tells.stands (λ o. written_stays w h o start tells.stands.holds (closed.closed s n start m))
 
@@ -106,7 +106,7 @@ refused_none w s why items (Nobody none) m = none
 refused_none w s why items (ForBegin c n at free is) m = let clash : item.Refused (Session s) why ≡ item.AskBegin s n = only_is _ _ (among _ items _ is m) in absurd (cc)
 refused_none w s why items (ForCommit c n t at is_open start_is is) m = let clash : item.Refused (Session s) why ≡ item.AskCommit s n t = only_is _ _ (among _ items _ is m) in absurd (cc)
 
-erasure_by : (w : State) (h : List Item) (e : Event) (fate : Fate) (s n start key : ℕ) (c d : Client) (behind : List Item) → Tells w h → AreGoneSince w.clients h → ClientAt w.clients s c → ClientAt (stepped w e fate).state.clients s d → its_ask h s ≡ Some (record { node = n; start = Some start }) → key ∈ written_keys h start → (c.entry.state ≡ phase.Gone) ⊎ (IsAsked h s None ⊎ HasRefused h s c d)
+erasure_by : (w : State) (h : List Item) (e : Event) (fate : Fate) (s n start key : ℕ) (c d : Client) (behind : List Item) → ExplainedInvariant w h → AreGoneSince w.clients h → ClientAt w.clients s c → ClientAt (stepped w e fate).state.clients s d → its_ask h s ≡ Some (record { node = n; start = Some start }) → key ∈ written_keys h start → (c.entry.state ≡ phase.Gone) ⊎ (IsAsked h s None ⊎ HasRefused h s c d)
     → Comes (stepped w e fate).state.clients (h ++ (stepped w e fate).items) s start true (ask.Erase key start) (item.Step (Session s) (step.Erase key start)) behind
 erasure_by w h e fate s n start key c d behind tells are at there asked m (inl gone) = Vanished (gone_vanished w h e fate s c tells are at gone)
 erasure_by w h e fate s n start key c d behind tells are at there asked m (inr (inl begin)) = absurd (no_begin begin.0 n start (sym begin.1 ∙ asked))
@@ -116,7 +116,7 @@ erasure_by w h e fate s n start key c d behind tells are at there asked m (inr (
     let keys : c.entry.keys ≡ written_keys h start = tells.stands.holds.requests.keys.written s start c at (waits_asked c.entry.state k.waits.state) start_is in
     Left (aborted_asks (stepped w e fate).state.clients s start key c d (written_keys h start) there start_is keys k.is m)
 
-erasure_comes : (w : State) (h : List Item) (e : Event) (fate : Fate) (s n start key : ℕ) (why : Cause) (front behind : List Item) → Tells w h → AreGoneSince w.clients h → AreClosed w.clients h → leaves_cells why ≡ true → (stepped w e fate).items ≡ front ++ item.Refused (Session s) why ∷ behind → its_ask (h ++ front) s ≡ Some (record { node = n; start = Some start }) → key ∈ written_keys (h ++ (stepped w e fate).items) start
+erasure_comes : (w : State) (h : List Item) (e : Event) (fate : Fate) (s n start key : ℕ) (why : Cause) (front behind : List Item) → ExplainedInvariant w h → AreGoneSince w.clients h → AreClosed w.clients h → leaves_cells why ≡ true → (stepped w e fate).items ≡ front ++ item.Refused (Session s) why ∷ behind → its_ask (h ++ front) s ≡ Some (record { node = n; start = Some start }) → key ∈ written_keys (h ++ (stepped w e fate).items) start
     → Comes (stepped w e fate).state.clients (h ++ (stepped w e fate).items) s start true (ask.Erase key start) (item.Step (Session s) (step.Erase key start)) behind
 erasure_comes w h e fate s n start key why front behind tells gone closed leaves is asked key_in =
     let m : item.Refused (Session s) why ∈ (stepped w e fate).items = stands_in (item.Refused (Session s) why) front behind (stepped w e fate).items is in
@@ -129,7 +129,7 @@ erasure_comes w h e fate s n start key why front behind tells gone closed leaves
     (refusal_told h s why at.0 there.0 (stepped w e fate).items leaves (session_turns w h e fate s at.0 there.0 tells at.1 there.1) m)
 
 -- ---- one event
-erased_by : (w : State) (h : List Item) (e : Event) (fate : Fate) (before behind : List Item) (s n start key : ℕ) (why : Cause) → Tells w h → AreGoneSince w.clients h → AreClosed w.clients h → AreErased w.clients h → leaves_cells why ≡ true → its_ask before s ≡ Some (record { node = n; start = Some start }) → key ∈ written_keys (h ++ (stepped w e fate).items) start → Stood h (stepped w e fate).items before behind (item.Refused (Session s) why)
+erased_by : (w : State) (h : List Item) (e : Event) (fate : Fate) (before behind : List Item) (s n start key : ℕ) (why : Cause) → ExplainedInvariant w h → AreGoneSince w.clients h → AreClosed w.clients h → AreErased w.clients h → leaves_cells why ≡ true → its_ask before s ≡ Some (record { node = n; start = Some start }) → key ∈ written_keys (h ++ (stepped w e fate).items) start → Stood h (stepped w e fate).items before behind (item.Refused (Session s) why)
     → Comes (stepped w e fate).state.clients (h ++ (stepped w e fate).items) s start true (ask.Erase key start) (item.Step (Session s) (step.Erase key start)) behind
 erased_by w h e fate before behind s n start key why tells gone closed are leaves asked key_in (Before rest old new) =
     let made : Item = item.Step (Session s) (step.Erase key start) in
@@ -140,7 +140,7 @@ erased_by w h e fate before behind s n start key why tells gone closed are leave
 erased_by w h e fate before behind s n start key why tells gone closed are leaves asked key_in (Among front old new) =
     erasure_comes w h e fate s n start key why front behind tells gone closed leaves new (ap (λ (xs : List Item). its_ask xs s) (sym old) ∙ asked) key_in
 
-pub erased_kept : (w : State) (h : List Item) (e : Event) (fate : Fate) → Tells w h → AreGoneSince w.clients h → AreClosed w.clients h → AreErased w.clients h → AreErased (stepped w e fate).state.clients (h ++ (stepped w e fate).items)
+pub erased_kept : (w : State) (h : List Item) (e : Event) (fate : Fate) → ExplainedInvariant w h → AreGoneSince w.clients h → AreClosed w.clients h → AreErased w.clients h → AreErased (stepped w e fate).state.clients (h ++ (stepped w e fate).items)
 erased_kept w h e fate tells gone closed are = record {
   each = λ before behind s n start key why is leaves asked key_in.
       erased_by w h e fate before behind s n start key why tells gone closed are leaves asked key_in (stood h (stepped w e fate).items before behind (item.Refused (Session s) why) is);

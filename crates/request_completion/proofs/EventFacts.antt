@@ -9,7 +9,7 @@ use Rattle.machine.specs.State.{Client, State}
 use Rattle.machine.specs.Machine.{stepped}
 use Rattle.machine.proofs.PartsKept.{clients_stay}
 use Rattle.isolation_laws.specs.Words.{ClientAt}
-use Rattle.isolation_laws.specs.Sound.{Stands}
+use Rattle.isolation_laws.specs.Sound.{ReachedInvariant}
 use Rattle.isolation_laws.proofs.AlwaysHolds.{each_outcome}
 use Rattle.request_completion.proofs.AskItems.{NoneAsked, Asking, asking, unasked}
 
@@ -24,8 +24,8 @@ still_there w e fate s c at = there_by w.clients (stepped w e fate).state.client
 pub was_there : (w : State) (e : Event) (fate : Fate) (s : ℕ) (d : Client) → ClientAt (stepped w e fate).state.clients s d → (c : Client) × ClientAt w.clients s c
 was_there w e fate s d at = there_by (stepped w e fate).state.clients w.clients s d (sym (clients_stay w e fate)) at
 
-pub asks_of : (w : State) (h : List Item) (e : Event) (fate : Fate) (s : ℕ) → Stands w h → Asking w s (stepped w e fate).items
+pub asks_of : (w : State) (h : List Item) (e : Event) (fate : Fate) (s : ℕ) → ReachedInvariant w h → Asking w s (stepped w e fate).items
 asks_of w h e fate s stands = each_outcome (λ v items. Asking w s items) w h e fate stands (λ o. asking w o s)
 
-pub none_asks : (w : State) (h : List Item) (e : Event) (fate : Fate) (s : ℕ) (c : Client) → Stands w h → ClientAt w.clients s c → (c.entry.state ≡ phase.Free → ⊥) → (c.entry.state ≡ phase.Open → ⊥) → NoneAsked s (stepped w e fate).items
+pub none_asks : (w : State) (h : List Item) (e : Event) (fate : Fate) (s : ℕ) (c : Client) → ReachedInvariant w h → ClientAt w.clients s c → (c.entry.state ≡ phase.Free → ⊥) → (c.entry.state ≡ phase.Open → ⊥) → NoneAsked s (stepped w e fate).items
 none_asks w h e fate s c stands at not_free not_open = unasked w s c (stepped w e fate).items at not_free not_open (asks_of w h e fate s stands)

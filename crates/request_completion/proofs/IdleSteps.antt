@@ -28,7 +28,7 @@ use Rattle.machine.specs.Machine.{Step, stepped, at_client, step_by, with_client
 use Rattle.machine.specs.Clients.{is_reading}
 use Rattle.machine.specs.Events.Step.{StepParts, complete_by, work_by, work_of, step_at, step_due, step_by as step_refused, step_on}
 use Rattle.isolation_laws.specs.Words.{ClientAt}
-use Rattle.isolation_laws.specs.Sound.{Stands}
+use Rattle.isolation_laws.specs.Sound.{ReachedInvariant}
 use Rattle.history_book.proofs.MemberLemmas.{in_back}
 use Rattle.isolation_laws.proofs.Pushed.{in_append}
 use Rattle.request_completion.specs.Completions.{IdleStepsCompleteNothing, TellsFirst, CompletionStepsTell}
@@ -89,7 +89,7 @@ completing_effect s fate c rows pairs undo asks completing under_way =
     ∙ ap (λ (stamps : Option (ℕ × ℕ)). step_due s fate c rows pairs stamps) none
     ∙ ap (λ (now : UnderWay). step_at s fate c rows pairs now) work
 
-busy_by : (w : State) (h : List Item) (s : ℕ) (c : Client) (undo : Bool) → Stands w h → ClientAt w.clients s c → c.entry.state ≡ phase.Completing undo → (asks : List Ask) × (c.under_way ≡ Completes asks)
+busy_by : (w : State) (h : List Item) (s : ℕ) (c : Client) (undo : Bool) → ReachedInvariant w h → ClientAt w.clients s c → c.entry.state ≡ phase.Completing undo → (asks : List Ask) × (c.under_way ≡ Completes asks)
 busy_by w h s c true stands at completing = stands.holds.under_way.undoing.busy s c at completing
 busy_by w h s c false stands at completing = stands.holds.under_way.finishing.busy s c at completing
 

@@ -27,7 +27,7 @@ use Rattle.machine.specs.Events.Heal.{offer_by, offer_of, heal_at, heal_on}
 use Rattle.machine.specs.Events.Abort.{abort_by, abort_on}
 use Rattle.isolation_laws.specs.Words.{InstanceAt, ClientAt}
 use Rattle.isolation_laws.specs.Requests.{WaitsFor}
-use Rattle.isolation_laws.specs.Sound.{Stands}
+use Rattle.isolation_laws.specs.Sound.{ReachedInvariant}
 use Rattle.machine.proofs.Lookups.{one_client, held_by}
 
 -- ---- a client that completes, of whom no node holds a request
@@ -43,7 +43,7 @@ waits_not (Begin r) c undo completes (inr asking) = let clash : phase.Completing
 waits_not (Commit r start keys) c undo completes (inl gone) = let clash : phase.Completing undo ≡ phase.Gone = sym completes ∙ gone in cc
 waits_not (Commit r start keys) c undo completes (inr committing) = let clash : phase.Completing undo ≡ phase.Committing = sym completes ∙ committing.0 in cc
 
-pub completing_of : (w : State) (h : List Item) (s : ℕ) (c : Client) (undo : Bool) → Stands w h → ClientAt w.clients s c → c.entry.state ≡ phase.Completing undo → Completing w.nodes w.clients s c
+pub completing_of : (w : State) (h : List Item) (s : ℕ) (c : Client) (undo : Bool) → ReachedInvariant w h → ClientAt w.clients s c → c.entry.state ≡ phase.Completing undo → Completing w.nodes w.clients s c
 completing_of w h s c undo stands at completes = record {
   at = at;
   undo = undo;

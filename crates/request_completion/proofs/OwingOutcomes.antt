@@ -35,7 +35,7 @@ use Rattle.machine.specs.Outcome.OutcomesOfPlacings.{AtPlacing, own_told}
 use Rattle.machine.specs.Outcome.OutcomesOfWork.{OutcomeStepped}
 use Rattle.machine.specs.Outcome.Outcomes.{Outcome, OfGranted, OfCrashed, OfAskedBegin, OfAskedCommit, OfAccepted, OfEnded, OfDrew, OfAnsweredBegin, OfAnsweredCommit, OfHanded, OfOwnPlaced, OfOwnNotPlaced, OfOutcome, told_by_outcome}
 use Rattle.cause_laws.specs.Requests.{ask_for}
-use Rattle.cause_laws.specs.Shows.{Tells}
+use Rattle.cause_laws.specs.ShownInvariant.{Tells}
 use Rattle.cause_laws.proofs.SilentOutcomes.{fault_if_silent, silent_items}
 use Rattle.request_completion.specs.Closings.{Owes, NoneOwes, HasOpenAsk, IsAlone, OwingNeedsAnAsk, CommitsAreAsked}
 use Rattle.request_completion.proofs.OwingItems.{silent_in, first_not, only_not, only_is, draw_not, all_lost_not, answered_owes, answered_start, own_owes}
@@ -149,11 +149,11 @@ owing_of w (OfOutcome k) s x m owes = inr (outcome_alone w k s x m owes)
 owing_of w o s x m owes = absurd (owing_none w o s refl x m owes)
 
 -- ---- one event
-pub owing_by : (w : State) (h : List Item) (e : Event) (fate : Fate) (s : ℕ) (x : Item) → Tells w h → x ∈ (stepped w e fate).items → Owes s x → HeldFor w s x ⊎ IsAlone w s
+pub owing_by : (w : State) (h : List Item) (e : Event) (fate : Fate) (s : ℕ) (x : Item) → ExplainedInvariant w h → x ∈ (stepped w e fate).items → Owes s x → HeldFor w s x ⊎ IsAlone w s
 owing_by w h e fate s x tells m owes =
     each_outcome (λ v items. x ∈ items → Owes s x → HeldFor w s x ⊎ IsAlone w s) w h e fate tells.stands (λ o here owed. owing_of w o s x here owed) m owes
 
-held_open : (w : State) (h : List Item) (s : ℕ) (x : Item) → Tells w h → HeldFor w s x → HasOpenAsk h s
+held_open : (w : State) (h : List Item) (s : ℕ) (x : Item) → ExplainedInvariant w h → HeldFor w s x → HasOpenAsk h s
 held_open w h s x tells k = record {
   node = k.node;
   one = tells.shows.open_asks.each k.node s (Some k.i) k.at ∙ ap (λ (held : Option Held). if is_some held then 1 else 0) k.has;

@@ -18,10 +18,10 @@ use Rattle.isolation_laws.specs.Requests.{WaitsFor}
 use Rattle.isolation_laws.specs.Words.{ClientAt}
 use Rattle.machine.proofs.Lookups.{held_by}
 use Rattle.isolation_laws.proofs.Pushed.{in_append}
-use Rattle.cause_laws.specs.Shows.{Tells}
+use Rattle.cause_laws.specs.ShownInvariant.{Tells}
 use Rattle.request_completion.specs.Closings.{Owes}
 use Rattle.request_completion.specs.Ends.{AreGoneSince, IsToAsk, Comes, Vanished, Left, AreRemoved}
-use Rattle.request_completion.specs.Turns.{EndsCommit, EndsWith, MayCommit, Turn, Rests, AsksBegin, AsksCommit, Begins, LosesBegin, Writes, Frees, Undoes, Hands, Commits, Refuses, LeavesOpen, Vanishes, IsGone}
+use Rattle.request_completion.specs.SessionTransitions.{EndsCommit, EndsWith, MayCommit, SessionTransition, Rests, AsksBegin, AsksCommit, Begins, LosesBegin, Writes, Frees, Undoes, Hands, Commits, Refuses, LeavesOpen, Vanishes, IsGone}
 use Rattle.request_completion.proofs.OwingItems.{only_is}
 use Rattle.request_completion.proofs.OwingOutcomes.{among, owing_by}
 use Rattle.request_completion.proofs.EventFacts.{still_there}
@@ -30,7 +30,7 @@ use Rattle.request_completion.proofs.Splits.{Stood, Before, Among, stood, stands
 use Rattle.request_completion.proofs.TurnsOfOutcomes.{session_turns}
 
 -- ---- the session that is told is there
-pub owing_client : (w : State) (h : List Item) (e : Event) (fate : Fate) (s : ℕ) (x : Item) → Tells w h → x ∈ (stepped w e fate).items → Owes s x → (c : Client) × ClientAt w.clients s c
+pub owing_client : (w : State) (h : List Item) (e : Event) (fate : Fate) (s : ℕ) (x : Item) → ExplainedInvariant w h → x ∈ (stepped w e fate).items → Owes s x → (c : Client) × ClientAt w.clients s c
 owing_client w h e fate s x tells m owes = elim (owing_by w h e fate s x tells m owes) [
   | inl k ↦
       let waits : (c : Client) × ClientAt w.clients s c × WaitsFor k.held.request c = tells.stands.holds.requests.requests.waits k.node s k.i k.held.request k.held.progress k.at (held_by k.i s k.held k.has) in
@@ -59,7 +59,7 @@ last_told s x last items ends m told = elim (in_append x ends.front (last ∷ []
   | inr late ↦ only_is x last late
 ]
 
-commit_told : (h : List Item) (s start commit : ℕ) (c d : Client) (items : List Item) → Turn h s c items d → item.Committed s start commit ∈ items → (c.entry.state ≡ phase.Gone) ⊎ HasCommitted s start c d
+commit_told : (h : List Item) (s start commit : ℕ) (c d : Client) (items : List Item) → SessionTransition h s c items d → item.Committed s start commit ∈ items → (c.entry.state ≡ phase.Gone) ⊎ HasCommitted s start c d
 commit_told h s start commit c d items (Rests same none) m = absurd (none (item.Committed s start commit) m refl)
 commit_told h s start commit c d items (AsksBegin node free asking is) m = let same : item.Committed s start commit ≡ item.AskBegin s node = only_is _ _ (among _ items _ is m) in absurd (cc)
 commit_told h s start commit c d items (AsksCommit node t opened committing start_is then is) m = let same : item.Committed s start commit ≡ item.AskCommit s node t = only_is _ _ (among _ items _ is m) in absurd (cc)
@@ -88,7 +88,7 @@ committed_asks clients s start c d at k = record {
   left = in_last (ask.Remove start) _;
 }
 
-removal_comes : (w : State) (h : List Item) (e : Event) (fate : Fate) (s start commit : ℕ) (behind : List Item) → Tells w h → AreGoneSince w.clients h → item.Committed s start commit ∈ (stepped w e fate).items → Comes (stepped w e fate).state.clients (h ++ (stepped w e fate).items) s start false (ask.Remove start) (item.Step (Session s) (step.Remove start)) behind
+removal_comes : (w : State) (h : List Item) (e : Event) (fate : Fate) (s start commit : ℕ) (behind : List Item) → ExplainedInvariant w h → AreGoneSince w.clients h → item.Committed s start commit ∈ (stepped w e fate).items → Comes (stepped w e fate).state.clients (h ++ (stepped w e fate).items) s start false (ask.Remove start) (item.Step (Session s) (step.Remove start)) behind
 removal_comes w h e fate s start commit behind tells are m =
     let at : (c : Client) × ClientAt w.clients s c = owing_client w h e fate s (item.Committed s start commit) tells m refl in
     let there : (d : Client) × ClientAt (stepped w e fate).state.clients s d = still_there w e fate s at.0 at.1 in
@@ -98,14 +98,14 @@ removal_comes w h e fate s start commit behind tells are m =
     ]
 
 -- ---- one event
-removed_by : (w : State) (h : List Item) (e : Event) (fate : Fate) (before behind : List Item) (s start commit : ℕ) → Tells w h → AreGoneSince w.clients h → AreRemoved w.clients h → Stood h (stepped w e fate).items before behind (item.Committed s start commit) → Comes (stepped w e fate).state.clients (h ++ (stepped w e fate).items) s start false (ask.Remove start) (item.Step (Session s) (step.Remove start)) behind
+removed_by : (w : State) (h : List Item) (e : Event) (fate : Fate) (before behind : List Item) (s start commit : ℕ) → ExplainedInvariant w h → AreGoneSince w.clients h → AreRemoved w.clients h → Stood h (stepped w e fate).items before behind (item.Committed s start commit) → Comes (stepped w e fate).state.clients (h ++ (stepped w e fate).items) s start false (ask.Remove start) (item.Step (Session s) (step.Remove start)) behind
 removed_by w h e fate before behind s start commit tells gone are (Before rest old new) =
     let made : Item = item.Step (Session s) (step.Remove start) in
     subst (λ (xs : List Item). Comes (stepped w e fate).state.clients (h ++ (stepped w e fate).items) s start false (ask.Remove start) made xs) (sym new)
     (comes_on w h e fate s start false (ask.Remove start) made rest tells gone (λ answer. refl) (are.each before rest s start commit old))
 removed_by w h e fate before behind s start commit tells gone are (Among front old new) = removal_comes w h e fate s start commit behind tells gone (stands_in (item.Committed s start commit) front behind (stepped w e fate).items new)
 
-pub removed_kept : (w : State) (h : List Item) (e : Event) (fate : Fate) → Tells w h → AreGoneSince w.clients h → AreRemoved w.clients h → AreRemoved (stepped w e fate).state.clients (h ++ (stepped w e fate).items)
+pub removed_kept : (w : State) (h : List Item) (e : Event) (fate : Fate) → ExplainedInvariant w h → AreGoneSince w.clients h → AreRemoved w.clients h → AreRemoved (stepped w e fate).state.clients (h ++ (stepped w e fate).items)
 removed_kept w h e fate tells gone are = record {
   each = λ before behind s start commit is. removed_by w h e fate before behind s start commit tells gone are (stood h (stepped w e fate).items before behind (item.Committed s start commit) is);
 }

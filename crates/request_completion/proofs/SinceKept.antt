@@ -21,8 +21,8 @@ use Rattle.cause_rules.specs.Asks.{since_ask}
 use Rattle.isolation_laws.specs.Words.{InstanceAt, ClientAt}
 use Rattle.isolation_laws.specs.Requests.{WaitsFor}
 use Rattle.machine.proofs.Lookups.{held_by}
-use Rattle.cause_laws.specs.Shows.{Tells}
-use Rattle.request_completion.specs.Turns.{IsCommitting, IsUndone, Turn, Rests, AsksBegin, AsksCommit, Begins, LosesBegin, Writes, Frees, Undoes, Hands, Commits, Refuses, LeavesOpen, Vanishes, IsGone}
+use Rattle.cause_laws.specs.ShownInvariant.{Tells}
+use Rattle.request_completion.specs.SessionTransitions.{IsCommitting, IsUndone, SessionTransition, Rests, AsksBegin, AsksCommit, Begins, LosesBegin, Writes, Frees, Undoes, Hands, Commits, Refuses, LeavesOpen, Vanishes, IsGone}
 use Rattle.request_completion.specs.Ends.{WasToldToWait, AreToldWaits, AreGoneSince, WasToldOpen, AreToldOpen}
 use Rattle.request_completion.proofs.AskItems.{NoneAsked, ask_stays, since_was, since_now, one_unasked}
 use Rattle.request_completion.proofs.EventFacts.{was_there, none_asks}
@@ -45,7 +45,7 @@ waits_not_open (Commit asker start keys) c (inl gone) is = let clash : phase.Gon
 waits_not_open (Commit asker start keys) c (inr committing) is = let clash : phase.Committing ≡ phase.Open = sym committing.0 ∙ is in cc
 
 -- while a node holds its request
-held_asks_none : (w : State) (h : List Item) (e : Event) (fate : Fate) (n s : ℕ) (i : InstanceEntry) (held : Held) → Tells w h → InstanceAt w.nodes n i → held_of i s ≡ Some held → NoneAsked s (stepped w e fate).items
+held_asks_none : (w : State) (h : List Item) (e : Event) (fate : Fate) (n s : ℕ) (i : InstanceEntry) (held : Held) → ExplainedInvariant w h → InstanceAt w.nodes n i → held_of i s ≡ Some held → NoneAsked s (stepped w e fate).items
 held_asks_none w h e fate n s i held tells at has =
     let waits : (c : Client) × ClientAt w.clients s c × WaitsFor held.request c = tells.stands.holds.requests.requests.waits n s i held.request held.progress at (held_by i s held has) in
     none_asks w h e fate s waits.0 tells.stands waits.1 (waits_not_free held.request waits.0 waits.2) (waits_not_open held.request waits.0 waits.2)
@@ -55,7 +55,7 @@ told_now h s commit =
     let x : Item = item.Refused (Session s) (cause.NotYet commit) in
     since_now x h (x ∷ []) s (one_unasked s x refl) (in_last x [])
 
-pub waits_kept : (w : State) (h : List Item) (e : Event) (fate : Fate) → Tells w h → AreToldWaits w.nodes h → AreToldWaits (stepped w e fate).state.nodes (h ++ (stepped w e fate).items)
+pub waits_kept : (w : State) (h : List Item) (e : Event) (fate : Fate) → ExplainedInvariant w h → AreToldWaits w.nodes h → AreToldWaits (stepped w e fate).state.nodes (h ++ (stepped w e fate).items)
 waits_kept w h e fate tells waits = record {
   told = λ n s j at marked. elim (waits_marked w e fate n s j at marked) [
     | inl was ↦
@@ -74,7 +74,7 @@ undone_not old new state (inr free) one two is = two (sym free ∙ is)
 state_is : (c d : Client) → d ≡ c → d.entry.state ≡ c.entry.state
 state_is c d same = ap (λ (x : Client). x.entry.state) same
 
-gone_by : (h : List Item) (s : ℕ) (c d : Client) (items : List Item) → Turn h s c items d → d.entry.state ≡ phase.Gone → (c.entry.state ≡ phase.Gone) ⊎ (items ≡ item.Vanish s ∷ [])
+gone_by : (h : List Item) (s : ℕ) (c d : Client) (items : List Item) → SessionTransition h s c items d → d.entry.state ≡ phase.Gone → (c.entry.state ≡ phase.Gone) ⊎ (items ≡ item.Vanish s ∷ [])
 gone_by h s c d items (Rests same none) gone = inl (ap (λ (e : SessionEntry). e.state) (sym same) ∙ gone)
 gone_by h s c d items (AsksBegin node free asking is) gone = let clash : phase.Asking ≡ phase.Gone = sym asking ∙ gone in absurd (cc)
 gone_by h s c d items (AsksCommit node start opened committing start_is then is) gone = let clash : phase.Committing ≡ phase.Gone = sym committing ∙ gone in absurd (cc)
@@ -90,10 +90,10 @@ gone_by h s c d items (LeavesOpen start waits told none same) gone = let clash :
 gone_by h s c d items (Vanishes gone_now is) gone = inr is
 gone_by h s c d items (IsGone was same) gone = inl was
 
-gone_asks_none : (w : State) (h : List Item) (e : Event) (fate : Fate) (s : ℕ) (c : Client) → Tells w h → ClientAt w.clients s c → c.entry.state ≡ phase.Gone → NoneAsked s (stepped w e fate).items
+gone_asks_none : (w : State) (h : List Item) (e : Event) (fate : Fate) (s : ℕ) (c : Client) → ExplainedInvariant w h → ClientAt w.clients s c → c.entry.state ≡ phase.Gone → NoneAsked s (stepped w e fate).items
 gone_asks_none w h e fate s c tells at gone = none_asks w h e fate s c tells.stands at (λ is. let clash : phase.Gone ≡ phase.Free = sym gone ∙ is in cc) (λ is. let clash : phase.Gone ≡ phase.Open = sym gone ∙ is in cc)
 
-pub gone_kept : (w : State) (h : List Item) (e : Event) (fate : Fate) → Tells w h → AreGoneSince w.clients h → AreGoneSince (stepped w e fate).state.clients (h ++ (stepped w e fate).items)
+pub gone_kept : (w : State) (h : List Item) (e : Event) (fate : Fate) → ExplainedInvariant w h → AreGoneSince w.clients h → AreGoneSince (stepped w e fate).state.clients (h ++ (stepped w e fate).items)
 gone_kept w h e fate tells are = record {
   vanished = λ s d there gone.
       let was : (c : Client) × ClientAt w.clients s c = was_there w e fate s d there in
@@ -104,7 +104,7 @@ gone_kept w h e fate tells are = record {
 }
 
 -- ---- whose outcome is open
-open_by : (h : List Item) (s : ℕ) (c d : Client) (items : List Item) → Turn h s c items d → d.entry.state ≡ phase.OpenOutcome → ((c.entry.state ≡ phase.OpenOutcome) × (d.entry.start ≡ c.entry.start)) ⊎ ((start : ℕ) × IsCommitting h s start c × (item.Refused (Session s) (cause.Open start) ∈ items) × (d.entry.start ≡ c.entry.start))
+open_by : (h : List Item) (s : ℕ) (c d : Client) (items : List Item) → SessionTransition h s c items d → d.entry.state ≡ phase.OpenOutcome → ((c.entry.state ≡ phase.OpenOutcome) × (d.entry.start ≡ c.entry.start)) ⊎ ((start : ℕ) × IsCommitting h s start c × (item.Refused (Session s) (cause.Open start) ∈ items) × (d.entry.start ≡ c.entry.start))
 open_by h s c d items (Rests same none) is_open = inl (ap (λ (e : SessionEntry). e.state) (sym same) ∙ is_open, ap (λ (e : SessionEntry). e.start) same)
 open_by h s c d items (AsksBegin node free asking is) is_open = let clash : phase.Asking ≡ phase.OpenOutcome = sym asking ∙ is_open in absurd (cc)
 open_by h s c d items (AsksCommit node start opened committing start_is then is) is_open = let clash : phase.Committing ≡ phase.OpenOutcome = sym committing ∙ is_open in absurd (cc)
@@ -120,7 +120,7 @@ open_by h s c d items (LeavesOpen start waits told none same) is_open = inr (sta
 open_by h s c d items (Vanishes gone is) is_open = let clash : phase.Gone ≡ phase.OpenOutcome = sym gone ∙ is_open in absurd (cc)
 open_by h s c d items (IsGone was same) is_open = let clash : phase.Gone ≡ phase.OpenOutcome = sym was ∙ (sym (state_is c d same) ∙ is_open) in absurd (cc)
 
-open_asks_none : (w : State) (h : List Item) (e : Event) (fate : Fate) (s : ℕ) (c : Client) → Tells w h → ClientAt w.clients s c → c.entry.state ≡ phase.OpenOutcome → NoneAsked s (stepped w e fate).items
+open_asks_none : (w : State) (h : List Item) (e : Event) (fate : Fate) (s : ℕ) (c : Client) → ExplainedInvariant w h → ClientAt w.clients s c → c.entry.state ≡ phase.OpenOutcome → NoneAsked s (stepped w e fate).items
 open_asks_none w h e fate s c tells at is_open = none_asks w h e fate s c tells.stands at (λ is. let clash : phase.OpenOutcome ≡ phase.Free = sym is_open ∙ is in cc) (λ is. let clash : phase.OpenOutcome ≡ phase.Open = sym is_open ∙ is in cc)
 
 committing_not_free : (state : SessionState) → (state ≡ phase.Committing) ⊎ (state ≡ phase.Placing) → state ≡ phase.Free → ⊥
@@ -131,7 +131,7 @@ committing_not_open : (state : SessionState) → (state ≡ phase.Committing) �
 committing_not_open state (inl committing) is = let clash : phase.Committing ≡ phase.Open = sym committing ∙ is in cc
 committing_not_open state (inr placing) is = let clash : phase.Placing ≡ phase.Open = sym placing ∙ is in cc
 
-pub outcomes_kept : (w : State) (h : List Item) (e : Event) (fate : Fate) → Tells w h → AreToldOpen w.clients h → AreToldOpen (stepped w e fate).state.clients (h ++ (stepped w e fate).items)
+pub outcomes_kept : (w : State) (h : List Item) (e : Event) (fate : Fate) → ExplainedInvariant w h → AreToldOpen w.clients h → AreToldOpen (stepped w e fate).state.clients (h ++ (stepped w e fate).items)
 outcomes_kept w h e fate tells are = record {
   told = λ s d there is_open.
       let was : (c : Client) × ClientAt w.clients s c = was_there w e fate s d there in

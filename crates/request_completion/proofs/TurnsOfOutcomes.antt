@@ -13,8 +13,8 @@ use Rattle.machine.specs.Outcome.OutcomesOfStamps.{answered_item}
 use Rattle.machine.specs.Outcome.OutcomesOfWork.{fetched_turn, fetched_client, read_turn, read_client}
 use Rattle.machine.specs.Outcome.Outcomes.{Outcome, OfCrashed, OfAskedBegin, OfAskedCommit, OfEnded, OfAnsweredBegin, OfAnsweredCommit, OfHanded, OfOwnPlaced, OfOwnNotPlaced, OfEndedReadOnly, OfWrote, OfWriteFailed, OfAborted, OfVanished, OfHealed, OfFetched, OfReadDropped, OfReadStepped, OfOutcome, OfOutcomeFailed, OfCompleted, left_by, told_by_outcome}
 use Rattle.isolation_laws.proofs.Requests.ClientsOpen.{read_keeps_entry}
-use Rattle.cause_laws.specs.Shows.{Tells}
-use Rattle.request_completion.specs.Turns.{Turn, Rests, AsksBegin, AsksCommit, Writes, Frees, Undoes, Vanishes, SessionsTakeTurns}
+use Rattle.cause_laws.specs.ShownInvariant.{Tells}
+use Rattle.request_completion.specs.SessionTransitions.{SessionTransition, Rests, AsksBegin, AsksCommit, Writes, Frees, Undoes, Vanishes, SessionsTakeTurns}
 use Rattle.request_completion.proofs.EndedCauses.{ended_leaves}
 use Rattle.request_completion.proofs.EndingItems.{last_none, answered_told, ends_none}
 use Rattle.request_completion.proofs.SessionTurns.{aborted_undone, one_turn, still_turn}
@@ -22,7 +22,7 @@ use Rattle.request_completion.proofs.TurnsOfRequests.{ended_by, ended_other, beg
 use Rattle.request_completion.proofs.TurnsOfWork.{placing_turn, placing_other, resolve_turn, resolve_other, completed_turn}
 use Rattle.request_completion.proofs.TurnsOfCrashes.{crash_turn}
 
-turn_of : (w : State) (h : List Item) (o : Outcome w) (s : ℕ) (c d : Client) → Tells w h → AreDue w (told_by_outcome w o) → ClientAt w.clients s c → ClientAt (left_by w o).clients s d → Turn h s c (told_by_outcome w o) d
+turn_of : (w : State) (h : List Item) (o : Outcome w) (s : ℕ) (c d : Client) → ExplainedInvariant w h → AreDue w (told_by_outcome w o) → ClientAt w.clients s c → ClientAt (left_by w o).clients s d → SessionTransition h s c (told_by_outcome w o) d
 turn_of w h (OfCrashed k) s c d tells due at there = crash_turn w h k s c d tells at there
 turn_of w h (OfAskedBegin k) s c d tells due at there =
     one_turn w h _ k.session k.c _ s c d k.client_at (AsksBegin k.node k.free (ap asked_state k.free) refl) (λ other. ends_none w (OfAskedBegin k) s refl) at there
@@ -59,4 +59,4 @@ turn_of w h o s c d tells due at there = still_turn w h (told_by_outcome w o) s 
 pub session_turns : SessionsTakeTurns
 session_turns w h e fate s c d tells at there =
     let (o, state, items, accepts, due) = comes_by w h e fate tells.stands in
-    subst (λ (xs : List Item). Turn h s c xs d) (sym items) (turn_of w h o s c d tells (subst (AreDue w) items due) at (subst (λ (v : State). ClientAt v.clients s d) state there))
+    subst (λ (xs : List Item). SessionTransition h s c xs d) (sym items) (turn_of w h o s c d tells (subst (AreDue w) items due) at (subst (λ (v : State). ClientAt v.clients s d) state there))

@@ -13,9 +13,9 @@ use Rattle.machine.proofs.Outcome.PlainItems.{none_silent}
 use Rattle.machine.specs.Outcome.OutcomesOfRequests.{Ended}
 use Rattle.machine.specs.Outcome.OutcomesOfStamps.{AnsweredBegin, AnsweredCommit, HandedOver, answered_client}
 use Rattle.machine.specs.Outcome.Outcomes.{OfAnsweredBegin, OfHanded}
-use Rattle.cause_laws.specs.Shows.{Tells}
+use Rattle.cause_laws.specs.ShownInvariant.{Tells}
 use Rattle.request_completion.specs.Closings.{leaves_cells}
-use Rattle.request_completion.specs.Turns.{NoneEnds, NoCommit, Turn, Begins, LosesBegin, Hands, Refuses}
+use Rattle.request_completion.specs.SessionTransitions.{NoneEnds, NoCommit, SessionTransition, Begins, LosesBegin, Hands, Refuses}
 use Rattle.request_completion.proofs.OwingItems.{only_is}
 use Rattle.request_completion.proofs.OwingOutcomes.{among}
 use Rattle.request_completion.proofs.EndingItems.{silent_ends, last_none, ends_none}
@@ -31,7 +31,7 @@ refused_no_commit s why items is not = record {
     cause_of : (s : ℕ) (why : Cause) (start : ℕ) → item.Refused (Session s) (cause.Open start) ≡ item.Refused (Session s) why → why ≡ cause.Open start
     cause_of s why start same = cc
 
-pub ended_by : (w : State) (h : List Item) (k : Ended w) (request : Request) → Tells w h → leaves_cells k.why ≡ true → k.held.request ≡ request → Turn h k.session k.c k.items (after_refusal request k.c)
+pub ended_by : (w : State) (h : List Item) (k : Ended w) (request : Request) → ExplainedInvariant w h → leaves_cells k.why ≡ true → k.held.request ≡ request → SessionTransition h k.session k.c k.items (after_refusal request k.c)
 ended_by w h k (Begin asker) tells leaves is = heard_turn h k.session k.c (client_freed k.c) k.items (λ alive.
     LosesBegin (asking_of w h k.node k.session asker k.i k.held k.c tells k.at k.has k.client_at is alive) refl
     (asked_of w h k.node k.session k.i k.held (Begin asker) tells k.at k.has is) (refused_no_commit k.session k.why k.items k.tells (λ start same. open_leaves start (subst (λ (why : Cause). leaves_cells why ≡ true) same leaves))))
@@ -45,15 +45,15 @@ pub ended_other : (w : State) (k : Ended w) (s : ℕ) → (s ≡ k.session → �
 ended_other w k s other = last_none s k.session [] (item.Refused (Session k.session) k.why) k.items k.tells none_silent (λ ends. ends.0) other
 
 -- ---- a begin is answered, a commit is answered or handed over
-pub begun_turn : (w : State) (h : List Item) (k : AnsweredBegin w) → Tells w h → Turn h k.session k.c (item.Begin k.session k.start ∷ []) (unless_gone k.c (client_begun k.c k.start k.i.epoch))
+pub begun_turn : (w : State) (h : List Item) (k : AnsweredBegin w) → ExplainedInvariant w h → SessionTransition h k.session k.c (item.Begin k.session k.start ∷ []) (unless_gone k.c (client_begun k.c k.start k.i.epoch))
 begun_turn w h k tells = heard_turn h k.session k.c (client_begun k.c k.start k.i.epoch) _ (λ alive.
     Begins (asking_of w h k.node k.session k.asker k.i k.held k.c tells k.at k.has k.client_at k.request_is alive) refl refl
     (asked_of w h k.node k.session k.i k.held (Begin k.asker) tells k.at k.has k.request_is) (ends_none w (OfAnsweredBegin k) k.session refl))
 
-pub answer_turn : (w : State) (h : List Item) (k : AnsweredCommit w) → Tells w h → Turn h k.session k.c k.items (unless_gone k.c (answered_client k.by k.c k.commit))
+pub answer_turn : (w : State) (h : List Item) (k : AnsweredCommit w) → ExplainedInvariant w h → SessionTransition h k.session k.c k.items (unless_gone k.c (answered_client k.by k.c k.commit))
 answer_turn w h k tells = heard_turn h k.session k.c (answered_client k.by k.c k.commit) k.items (λ alive.
     answered_turn h k.session k.start k.commit k.c [] k.items k.by (committing_of w h k.node k.session k.asker k.start k.keys k.i k.held k.c tells k.at k.has k.client_at k.request_is alive) none_silent k.tells)
 
-pub handed_turn : (w : State) (h : List Item) (k : HandedOver w) → Tells w h → Turn h k.session k.c k.items (unless_gone k.c (client_handed k.c k.commit))
+pub handed_turn : (w : State) (h : List Item) (k : HandedOver w) → ExplainedInvariant w h → SessionTransition h k.session k.c k.items (unless_gone k.c (client_handed k.c k.commit))
 handed_turn w h k tells = heard_turn h k.session k.c (client_handed k.c k.commit) k.items (λ alive.
     Hands (waiting_of w h k.node k.session k.asker k.start k.keys k.i k.held k.c tells k.at k.has k.client_at k.request_is alive).0 refl refl (ends_none w (OfHanded k) k.session refl))

@@ -18,13 +18,13 @@ use Rattle.machine.specs.Outcome.OutcomesOfPlacings.{AtPlacing, own_told}
 use Rattle.machine.specs.Outcome.OutcomesOfWork.{OutcomeStepped, CompletedOne}
 use Rattle.machine.specs.Outcome.Outcomes.{OfCompleted}
 use Rattle.isolation_laws.proofs.Requests.ClientsAfter.{has_by}
-use Rattle.cause_laws.specs.Shows.{Tells}
-use Rattle.request_completion.specs.Turns.{NoneEnds, IsCommitting, Turn, Frees}
+use Rattle.cause_laws.specs.ShownInvariant.{Tells}
+use Rattle.request_completion.specs.SessionTransitions.{NoneEnds, IsCommitting, SessionTransition, Frees}
 use Rattle.request_completion.proofs.EndingItems.{silent_ends, last_none, answered_told, own_front, own_is, own_silent, ends_none}
 use Rattle.request_completion.proofs.SessionTurns.{answered_turn, settled_turn, asks_turn}
 
 -- ---- a session places its commit
-placing_waits : (w : State) (h : List Item) (it : AtPlacing w) → Tells w h → IsCommitting h it.session it.start it.c
+placing_waits : (w : State) (h : List Item) (it : AtPlacing w) → ExplainedInvariant w h → IsCommitting h it.session it.start it.c
 placing_waits w h it tells =
     let asked = tells.shows.placing.each it.session it.start it.commit it.c it.client_at it.placing it.start_is it.commit_is in
     record { state = inr it.placing; start_is = it.start_is; asked = (asked.node, asked.asked) }
@@ -33,7 +33,7 @@ placing_waits w h it tells =
 placed_is : (by : Settled) (front items : List Item) (session start commit : ℕ) → items ≡ own_told by session start commit → front ++ items ≡ (front ++ own_front by session start) ++ answered_item by session start commit ∷ []
 placed_is by front items session start commit is = ap (λ (xs : List Item). front ++ xs) (is ∙ own_is by session start commit) ∙ sym (append_assoc front (own_front by session start) (answered_item by session start commit ∷ []))
 
-pub placing_turn : (w : State) (h : List Item) (it : AtPlacing w) (front items : List Item) (by : Settled) → Tells w h → AllSilent front → items ≡ own_told by it.session it.start it.commit → Turn h it.session it.c (front ++ items) (answered_client by it.c it.commit)
+pub placing_turn : (w : State) (h : List Item) (it : AtPlacing w) (front items : List Item) (by : Settled) → ExplainedInvariant w h → AllSilent front → items ≡ own_told by it.session it.start it.commit → SessionTransition h it.session it.c (front ++ items) (answered_client by it.c it.commit)
 placing_turn w h it front items by tells silent is =
     answered_turn h it.session it.start it.commit it.c (front ++ own_front by it.session it.start) (front ++ items) by (placing_waits w h it tells)
     (All-append Silent front (own_front by it.session it.start) silent (own_silent by it.session it.start)) (placed_is by front items it.session it.start it.commit is)
@@ -44,7 +44,7 @@ placing_other w it front items by s silent is other =
     (All-append Silent front (own_front by it.session it.start) silent (own_silent by it.session it.start)) (λ ends. answered_told s by it.session it.start it.commit ends) other
 
 -- ---- the resolve of an own commit
-pub resolve_turn : (w : State) (h : List Item) (k : OutcomeStepped w) → Tells w h → Turn h k.it.session k.it.c k.items (client_settled k.it.c k.x (settle_turn k.x (told_by (settle_ask k.x) w.rows w.pairs)))
+pub resolve_turn : (w : State) (h : List Item) (k : OutcomeStepped w) → ExplainedInvariant w h → SessionTransition h k.it.session k.it.c k.items (client_settled k.it.c k.x (settle_turn k.x (told_by (settle_ask k.x) w.rows w.pairs)))
 resolve_turn w h k tells =
     let begun = tells.stands.holds.requests.have_begun.begun k.it.session k.it.c k.it.client_at (has_by k.it.c.entry.state phase.OpenOutcome k.it.is_open refl) in
     settled_turn h k.it.session begun.0 k.it.c k.x k.first k.items (settle_turn k.x (told_by (settle_ask k.x) w.rows w.pairs)) k.it.is_open begun.1 k.silent
@@ -60,10 +60,10 @@ pub resolve_other : (w : State) (k : OutcomeStepped w) (s : ℕ) → (s ≡ k.it
 resolve_other w k s other = resolve_other_by s k.it.session k.it.c.entry.start (settle_turn k.x (told_by (settle_ask k.x) w.rows w.pairs)) k.first k.items k.tells k.silent other
 
 -- ---- a completion
-pub completed_turn : (w : State) (h : List Item) (k : CompletedOne w) → Turn h k.session k.c k.items k.left
+pub completed_turn : (w : State) (h : List Item) (k : CompletedOne w) → SessionTransition h k.session k.c k.items k.left
 completed_turn w h k =
     let none : NoneEnds k.session k.items = ends_none w (OfCompleted k) k.session refl in
     elim k.left_is [
-      | inl goes ↦ subst (λ (d : Client). Turn h k.session k.c k.items d) (sym goes.0) (asks_turn h k.session k.c k.undo k.asks k.items k.completing none)
-      | inr freed ↦ subst (λ (d : Client). Turn h k.session k.c k.items d) (sym freed.0) (Frees (inr (k.undo, k.completing)) refl none)
+      | inl goes ↦ subst (λ (d : Client). SessionTransition h k.session k.c k.items d) (sym goes.0) (asks_turn h k.session k.c k.undo k.asks k.items k.completing none)
+      | inr freed ↦ subst (λ (d : Client). SessionTransition h k.session k.c k.items d) (sym freed.0) (Frees (inr (k.undo, k.completing)) refl none)
     ]

@@ -14,7 +14,7 @@ use Rattle.machine.specs.Machine.{stepped}
 use Rattle.cause_rules.specs.Asks.{its_ask}
 use Rattle.cause_rules.specs.OpenAsks.{open_asks_of}
 use Rattle.isolation_laws.specs.Words.{ClientAt}
-use Rattle.cause_laws.specs.Shows.{Tells}
+use Rattle.cause_laws.specs.ShownInvariant.{Tells}
 
 -- the refusal ends a commit, and leaves cells to erase
 abbrev pub leaves_cells : Cause → Bool
@@ -49,7 +49,7 @@ pub record IsAlone (w : State) (s : ℕ) : Type 0 where
   pub alone : (client.entry.state ≡ phase.OpenOutcome) ⊎ (client.entry.state ≡ phase.Placing)
 
 abbrev pub OwingNeedsAnAsk : Type 0
-OwingNeedsAnAsk = (w : State) (h : List Item) (e : Event) (fate : Fate) (s : ℕ) (x : Item) → Tells w h → x ∈ (stepped w e fate).items → Owes s x → HasOpenAsk h s ⊎ IsAlone w s
+OwingNeedsAnAsk = (w : State) (h : List Item) (e : Event) (fate : Fate) (s : ℕ) (x : Item) → ExplainedInvariant w h → x ∈ (stepped w e fate).items → Owes s x → HasOpenAsk h s ⊎ IsAlone w s
 
 -- the session's last ask was for the commit of the transaction with this start
 pub record IsAskedFor (h : List Item) (s start : ℕ) : Type 0 where
@@ -58,4 +58,4 @@ pub record IsAskedFor (h : List Item) (s start : ℕ) : Type 0 where
 
 abbrev pub CommitsAreAsked : Type 0
 CommitsAreAsked =
-    (w : State) (h : List Item) (e : Event) (fate : Fate) (s start commit : ℕ) → Tells w h → item.Committed s start commit ∈ (stepped w e fate).items → IsAskedFor h s start ⊎ IsAlone w s
+    (w : State) (h : List Item) (e : Event) (fate : Fate) (s start commit : ℕ) → ExplainedInvariant w h → item.Committed s start commit ∈ (stepped w e fate).items → IsAskedFor h s start ⊎ IsAlone w s

@@ -17,12 +17,12 @@ use Rattle.machine.specs.Machine.{stepped}
 use Rattle.machine.specs.Clients.{client_freed}
 use Rattle.machine.specs.Events.Step.{after_asks}
 use Rattle.isolation_laws.specs.Words.{ClientAt}
-use Rattle.isolation_laws.specs.Sound.{Stands}
+use Rattle.isolation_laws.specs.Sound.{ReachedInvariant}
 
 -- a step that is refused as idle finds none
 abbrev pub IdleStepsCompleteNothing : Type 0
 IdleStepsCompleteNothing =
-    (w : State) (h : List Item) (s : ℕ) (fate : Fate) (c : Client) (undo : Bool) → Stands w h → ClientAt w.clients s c → item.Refused (Session s) cause.Idle ∈ (stepped w (event.Step s) fate).items → c.entry.state ≡ phase.Completing undo → ⊥
+    (w : State) (h : List Item) (s : ℕ) (fate : Fate) (c : Client) (undo : Bool) → ReachedInvariant w h → ClientAt w.clients s c → item.Refused (Session s) cause.Idle ∈ (stepped w (event.Step s) fate).items → c.entry.state ≡ phase.Completing undo → ⊥
 
 -- the first of what is left is told as done, or the call failed
 abbrev pub TellsFirst : ℕ → List Ask → List Item → Type 0
@@ -31,13 +31,13 @@ TellsFirst s (asked ∷ asks) items = ((answer : Told) × (items ≡ step_item (
 
 abbrev pub CompletionStepsTell : Type 0
 CompletionStepsTell =
-    (w : State) (h : List Item) (s : ℕ) (fate : Fate) (c : Client) (undo : Bool) → Stands w h → ClientAt w.clients s c → c.entry.state ≡ phase.Completing undo →
+    (w : State) (h : List Item) (s : ℕ) (fate : Fate) (c : Client) (undo : Bool) → ReachedInvariant w h → ClientAt w.clients s c → c.entry.state ≡ phase.Completing undo →
     (asks : List Ask) × (c.under_way ≡ Completes asks) × TellsFirst s asks (stepped w (event.Step s) fate).items
 
 -- a client whose completion is under way is moved by its own steps alone, or vanishes
 abbrev pub OthersLeaveCompletions : Type 0
 OthersLeaveCompletions =
-    (w : State) (h : List Item) (e : Event) (fate : Fate) (s : ℕ) (c d : Client) (undo : Bool) → Stands w h → ClientAt w.clients s c → c.entry.state ≡ phase.Completing undo →
+    (w : State) (h : List Item) (e : Event) (fate : Fate) (s : ℕ) (c d : Client) (undo : Bool) → ReachedInvariant w h → ClientAt w.clients s c → c.entry.state ≡ phase.Completing undo →
     (e ≡ event.Step s → ⊥) → (e ≡ event.Vanish s → ⊥) → ClientAt (stepped w e fate).state.clients s d → d ≡ c
 
 -- its own step goes on to what is left, or has failed and frees the session

@@ -6,7 +6,7 @@ use Rattle.history_book.specs.declared.item.Item.{Item}
 use Rattle.machine.specs.declared.event.Event.{Event}
 use Rattle.machine.specs.State.{State, opening}
 use Rattle.machine.specs.Machine.{Move, Steady, stepped, state_after, history_after}
-use Rattle.cause_laws.specs.Shows.{Tells}
+use Rattle.cause_laws.specs.ShownInvariant.{Tells}
 use Rattle.request_completion.specs.Ends.{AreToldWaits, AreToldOpen, AreRemoved, AreErased, Ends}
 
 -- before the first event
@@ -15,7 +15,7 @@ EndsAtFirst = (setup : SetupNumbers) → Ends (opening setup) []
 
 -- an event keeps it so in every state that is reached
 abbrev pub EventsKeepEnds : Type 0
-EventsKeepEnds = (w : State) (h : List Item) (e : Event) (fate : Fate) → Tells w h → Ends w h → Ends (stepped w e fate).state (h ++ (stepped w e fate).items)
+EventsKeepEnds = (w : State) (h : List Item) (e : Event) (fate : Fate) → ExplainedInvariant w h → Ends w h → Ends (stepped w e fate).state (h ++ (stepped w e fate).items)
 
 -- where an instance says of a session that it was told to wait, this stands in the history, behind the session's last ask
 abbrev pub ToldWaitsStand : Type 0

@@ -13,11 +13,11 @@ use Rattle.machine.specs.State.{Client, State}
 use Rattle.machine.specs.Machine.{stepped}
 use Rattle.cause_rules.specs.OpenAsks.{open_asks_of}
 use Rattle.isolation_laws.specs.Words.{ClientAt}
-use Rattle.cause_laws.specs.Shows.{Tells}
+use Rattle.cause_laws.specs.ShownInvariant.{Tells}
 
 abbrev pub LostAsksAreOver : Type 0
 LostAsksAreOver =
-    (w : State) (h : List Item) (e : Event) (fate : Fate) (actor : Actor) (n s : ℕ) → Tells w h → item.Refused actor (cause.NoOracle n) ∈ (stepped w e fate).items → open_asks_of h n s ≡ 0
+    (w : State) (h : List Item) (e : Event) (fate : Fate) (actor : Actor) (n s : ℕ) → ExplainedInvariant w h → item.Refused actor (cause.NoOracle n) ∈ (stepped w e fate).items → open_asks_of h n s ≡ 0
 
 -- the node holds a request of the session that was told to wait
 pub record WasTold (post : Option InstanceEntry) (s : ℕ) : Type 0 where

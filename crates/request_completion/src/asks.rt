@@ -2,7 +2,7 @@
 ghost use Rattle.request_completion.specs.Closings.{OwingNeedsAnAsk, CommitsAreAsked};
 ghost use Rattle.request_completion.specs.Overs.{OverStaysOver, ClosedAsksAreOver};
 ghost use Rattle.request_completion.specs.Silences.{LostAsksAreOver, SilentAnswersRepeat};
-ghost use Rattle.request_completion.specs.Turns.{BeginsAreAsked};
+ghost use Rattle.request_completion.specs.SessionTransitions.{BeginsAreAsked};
 
 /// What is over stays so, until the session asks again.
 pub fn over_stays_over()

@@ -6,8 +6,8 @@ use Rattle.history_book.specs.declared.item.Actor.{Actor}
 use Rattle.script_data.specs.declared.line.Line.{Line}
 use Rattle.script_data.specs.Data.{ScriptData}
 use Rattle.command_semantics.specs.Answers.{same_actor}
-use Rattle.turn_rules.specs.declared.ahead.Ahead.{Ahead}
-use Rattle.turn_rules.specs.declared.ahead.Ahead.TheVariants.{Passes}
+use Rattle.turn_rules.specs.declared.ahead.NextAction.{NextAction}
+use Rattle.turn_rules.specs.declared.ahead.NextAction.TheVariants.{Passes}
 use Rattle.turn_rules.specs.declared.seat.Holds.{Holds}
 use Rattle.turn_rules.specs.declared.seat.Seat.{Seat}
 use Rattle.turn_rules.specs.Seats.{present_line}
@@ -47,7 +47,7 @@ place_missing script c names held seated actor k is = ap place_in (sym (is_found
 pub line_present : (script : ScriptData) (s : Seated) → IsSeated script s → line_of s ≡ present_line script s.seat
 line_present script s k = ap (λ (ls : List Line). slice_get ls s.seat.place) k.lines
 
-pub ahead_found : (script : ScriptData) (c : Carried) (names : List (List ℕ)) (held : List Holds) (seated : List Seated) (actor : Actor) (aim : ℕ) (s : Seated) (ahead : Ahead) → SitsAt script c names held seated → seated_of seated actor ≡ Some s → ahead ≡ ahead_at script c s.seat (line_of s) aim → ahead ≡ own_ahead script c actor aim
+pub ahead_found : (script : ScriptData) (c : Carried) (names : List (List ℕ)) (held : List Holds) (seated : List Seated) (actor : Actor) (aim : ℕ) (s : Seated) (ahead : NextAction) → SitsAt script c names held seated → seated_of seated actor ≡ Some s → ahead ≡ ahead_at script c s.seat (line_of s) aim → ahead ≡ own_ahead script c actor aim
 ahead_found script c names held seated actor aim s ahead k is has =
     let f : IsFound script (Some s) (seat_of c.seats actor) = is_found script c names held seated actor (Some s) k is in
     has ∙ ap (λ (line : Option Line). ahead_at script c s.seat line aim) (line_present script s f.1) ∙ ap (λ (o : Option Seat). ahead_in script c o aim) (sym f.0)

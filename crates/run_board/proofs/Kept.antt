@@ -7,10 +7,10 @@ use Rattle.port_io.specs.declared.weather.Fate.{Fate}
 use Rattle.history_book.specs.declared.item.Item.{Item}
 use Rattle.machine.specs.declared.event.Event.{Event}
 use Rattle.event_parts.specs.declared.stopped.Stopped.{Stopped}
-use Rattle.command_semantics.specs.declared.point.Halt.{Halt}
-use Rattle.command_semantics.specs.Halts.{halt_of}
+use Rattle.command_semantics.specs.declared.point.Interruption.{Interruption}
+use Rattle.command_semantics.specs.Interruptions.{halt_of}
 use Rattle.command_semantics.specs.Runs.{played}
-use Rattle.cluster_core.specs.Whole.{Whole}
+use Rattle.cluster_core.specs.ClusterModel.{ClusterModel}
 use Rattle.planned_cluster.specs.Standing.{StandsAt, Reaches, PlaysOn, clocks_at}
 use Rattle.turn_rules.specs.declared.seat.Holds.{Holds}
 use Rattle.turn_rules.specs.declared.turn.Turn.{Turn}
@@ -26,7 +26,7 @@ use Rattle.run_board.specs.Seating.{after_turn, after_passing}
 -- the cluster with its clock and the fates ahead, the names that were posted, what the stages hold, who is seated, and which nodes
 -- lack stamps
 pub record Kept : Type 0 where
-  pub whole : Whole
+  pub whole : ClusterModel
   pub clock : ℕ
   pub ahead : Store → ℕ → Fate
   pub names : List (List ℕ)
@@ -46,9 +46,9 @@ pub record Call : Type 0 where
   pub turn : Turn
   pub event : Event
   pub answer : Result Unit Stopped
-  pub stop : Option Halt
+  pub stop : Option Interruption
   pub before : ℕ
-  pub now : Whole
+  pub now : ClusterModel
   pub after : ℕ
   pub later : Store → ℕ → Fate
 

@@ -2,13 +2,13 @@
 use Rattle.std.proofs.Common.{◌≡◌, ℕ, zero, suc, ◌⊎◌, Bool, true, false, List, [], ◌∷◌, Option, Some, None, inl, inr, refl, sym, ap}
 use Rattle.std.specs.Prelude.{replicate, slice_index_or, slice_set}
 use Rattle.std.proofs.lemmas.Bool.{true≢false}
-use Rattle.command_semantics.specs.declared.point.Halt.{Halt}
-use Rattle.command_semantics.specs.declared.point.Halt.TheVariants as halt
+use Rattle.command_semantics.specs.declared.point.Interruption.{Interruption}
+use Rattle.command_semantics.specs.declared.point.Interruption.TheVariants as halt
 use Rattle.turn_rules.specs.declared.turn.Turn.TheVariants as turn
 use Rattle.run_board.specs.Making.{finds_no_stamp, lacking_after, cleared}
 
 -- a decision that finds no stamp is noted, and no other
-pub noted : (lacking : List Bool) (node session : ℕ) (stop : Option Halt) → finds_no_stamp stop ≡ true → lacking_after lacking (turn.Decide node session) stop ≡ slice_set lacking node true
+pub noted : (lacking : List Bool) (node session : ℕ) (stop : Option Interruption) → finds_no_stamp stop ≡ true → lacking_after lacking (turn.Decide node session) stop ≡ slice_set lacking node true
 noted lacking node session (Some halt.NoStamp) is = refl
 noted lacking node session (Some halt.NotYet) is = absurd (true≢false (sym is))
 noted lacking node session (Some halt.Refused) is = absurd (true≢false (sym is))

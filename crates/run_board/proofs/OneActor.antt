@@ -11,7 +11,7 @@ use Rattle.machine.specs.declared.event.Event.{Event}
 use Rattle.machine.specs.State.{State}
 use Rattle.script_data.specs.declared.line.Line.{Line}
 use Rattle.script_data.specs.Data.{ScriptData}
-use Rattle.command_semantics.specs.declared.point.Halt.{Halt}
+use Rattle.command_semantics.specs.declared.point.Interruption.{Interruption}
 use Rattle.command_semantics.specs.declared.point.View.{View}
 use Rattle.command_semantics.specs.Answers.{same_actor}
 use Rattle.command_semantics.specs.Next.{Clocks}
@@ -34,7 +34,7 @@ use Rattle.run_board.proofs.OtherViews.{others_see}
 use Rattle.run_board.proofs.PassedOnce.{HasPassed, AllHavePassed, all_have_passed}
 
 -- ---- the turn leaves the seats of others
-stays_put : (t : Turn) (halt : Option Halt) (asked : Bool) (s : Seated) (session : ℕ) → touched t ≡ Some session → same_actor s.seat.actor (Session session) ≡ false → after_turn t halt asked s ≡ s
+stays_put : (t : Turn) (halt : Option Interruption) (asked : Bool) (s : Seated) (session : ℕ) → touched t ≡ Some session → same_actor s.seat.actor (Session session) ≡ false → after_turn t halt asked s ≡ s
 stays_put (turn.Own (Session r) aim) halt asked s session own other =
     ap (λ (q : ℕ). cond (same_actor s.seat.actor (Session q)) (record s { seat = gone_on_at (line_of s) halt asked s.seat }) s) (same_Some r session own)
     ∙ ap (λ (mine : Bool). cond mine (record s { seat = gone_on_at (line_of s) halt asked s.seat }) s) other
@@ -45,15 +45,15 @@ stays_put (turn.Put node r) halt asked s session own other = refl
 stays_put (turn.Answer node r) halt asked s session own other = refl
 stays_put (turn.Extend node) halt asked s session own other = refl
 
-at_line : (line : Option Line) (halt : Option Halt) (asked : Bool) (s : Seated) → (gone_on_at line halt asked s.seat).actor ≡ s.seat.actor
+at_line : (line : Option Line) (halt : Option Interruption) (asked : Bool) (s : Seated) → (gone_on_at line halt asked s.seat).actor ≡ s.seat.actor
 at_line None halt asked s = refl
 at_line (Some line) halt asked s = refl
 
-at_seat : (b : Bool) (line : Option Line) (halt : Option Halt) (asked : Bool) (s : Seated) → (cond b (record s { seat = gone_on_at line halt asked s.seat }) s).seat.actor ≡ s.seat.actor
+at_seat : (b : Bool) (line : Option Line) (halt : Option Interruption) (asked : Bool) (s : Seated) → (cond b (record s { seat = gone_on_at line halt asked s.seat }) s).seat.actor ≡ s.seat.actor
 at_seat true line halt asked s = at_line line halt asked s
 at_seat false line halt asked s = refl
 
-same_seat : (t : Turn) (halt : Option Halt) (asked : Bool) (s : Seated) → (after_turn t halt asked s).seat.actor ≡ s.seat.actor
+same_seat : (t : Turn) (halt : Option Interruption) (asked : Bool) (s : Seated) → (after_turn t halt asked s).seat.actor ≡ s.seat.actor
 same_seat (turn.Own actor aim) halt asked s = at_seat (same_actor s.seat.actor actor) (line_of s) halt asked s
 same_seat (turn.Accept node r) halt asked s = refl
 same_seat (turn.Decide node r) halt asked s = refl
@@ -80,7 +80,7 @@ no_session actor session other is = true≢false (sym (ap (λ (a : Actor). same_
 record Frame (script : ScriptData) (w left : State) (session : ℕ) : Type 0 where
   views : (actor : Actor) → (actor ≡ Session session → ⊥) → view_of left actor ≡ view_of w actor
 
-one_by : (script : ScriptData) (clocks : Clocks) (w left : State) (t : Turn) (halt : Option Halt) (asked : Bool) (session : ℕ) (s : Seated) → touched t ≡ Some session → Frame script w left session → IsSeated script s → SeatHasPassed script w s.seat
+one_by : (script : ScriptData) (clocks : Clocks) (w left : State) (t : Turn) (halt : Option Interruption) (asked : Bool) (session : ℕ) (s : Seated) → touched t ≡ Some session → Frame script w left session → IsSeated script s → SeatHasPassed script w s.seat
     → (mine : Bool) → same_actor s.seat.actor (Session session) ≡ mine → passing_of session clocks left (after_turn t halt asked s) ≡ after_passing clocks left (after_turn t halt asked s)
 one_by script clocks w left t halt asked session s own frame k has true mine =
     let now : Seated = after_turn t halt asked s in

@@ -8,7 +8,7 @@ use Rattle.history_book.specs.declared.item.Item.{Item}
 use Rattle.machine.specs.declared.event.Event.{Event}
 use Rattle.machine.specs.declared.event.Event.TheVariants as event
 use Rattle.script_data.specs.Data.{ScriptData}
-use Rattle.isolation_laws.specs.Sound.{Stands}
+use Rattle.isolation_laws.specs.Sound.{ReachedInvariant}
 use Rattle.command_semantics.specs.Runs.{Played, step_of, played}
 use Rattle.planned_cluster.proofs.Playable.{playable_at_first}
 use Rattle.turn_rules.specs.declared.turn.Turn.{Turn}
@@ -58,7 +58,7 @@ told_stays script c e is quiet = absurd (is (none_there (step_of script c.played
 quiet_stays : (script : ScriptData) (c : Carried) (made e : Event) → Some made ≡ Some e → StaysPlayed script c made → StaysPlayed script c e
 quiet_stays script c made e is stays = subst (λ (x : Event). StaysPlayed script c x) (same_Some made e is) stays
 
-stays_by : (laws : ToldLaws) (script : ScriptData) (c : Carried) (t : Turn) (e : Event) → Stands c.played.state c.played.items → IsInPlace c.played.state t → event_of script c t ≡ Some e → ((actor : Actor) (aim : ℕ) → t ≡ turn.Own actor aim → IsTold script c.played e) → StaysPlayed script c e
+stays_by : (laws : ToldLaws) (script : ScriptData) (c : Carried) (t : Turn) (e : Event) → ReachedInvariant c.played.state c.played.items → IsInPlace c.played.state t → event_of script c t ≡ Some e → ((actor : Actor) (aim : ℕ) → t ≡ turn.Own actor aim → IsTold script c.played e) → StaysPlayed script c e
 stays_by laws script c (turn.Own actor aim) e stands in_place is own = told_stays script c e (own actor aim refl)
 stays_by laws script c (turn.Accept node s) e stands in_place is own = told_stays script c e (laws.stage script c (turn.Accept node s) e stands tt is in_place)
 stays_by laws script c (turn.Put node s) e stands in_place is own = told_stays script c e (laws.stage script c (turn.Put node s) e stands tt is in_place)

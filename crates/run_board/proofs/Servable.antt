@@ -13,7 +13,7 @@ use Rattle.system_parts.specs.declared.instance.Place.TheVariants as place
 use Rattle.system_parts.specs.declared.instance.Progress.TheVariants as progress
 use Rattle.system_parts.specs.Instance.{InstanceEntry}
 use Rattle.machine.specs.State.{State}
-use Rattle.isolation_laws.specs.Sound.{Stands}
+use Rattle.isolation_laws.specs.Sound.{ReachedInvariant}
 use Rattle.command_semantics.proofs.Serving.{Serving}
 use Rattle.turn_rules.specs.declared.turn.Turn.{Turn}
 use Rattle.turn_rules.specs.declared.turn.Turn.TheVariants as turn
@@ -62,7 +62,7 @@ lacks w node i at used waits =
     let told : IsToldUsedUp (Some (Some i)) = subst (λ (o : Option (Option InstanceEntry)). IsToldUsedUp o) at used in
     subst (λ (o : Option (Option InstanceEntry)). LacksStamps o) (sym at) (told.0, waits)
 
-pub lacks_stamps : (w : State) (h : List Item) (node s : ℕ) → Stands w h → IsInPlace w (turn.Decide node s) → IsToldUsedUp (slice_get w.nodes node) → LacksStamps (slice_get w.nodes node)
+pub lacks_stamps : (w : State) (h : List Item) (node s : ℕ) → ReachedInvariant w h → IsInPlace w (turn.Decide node s) → IsToldUsedUp (slice_get w.nodes node) → LacksStamps (slice_get w.nodes node)
 lacks_stamps w h node s stands asks used =
     let k : Serving w h s (node, place.Accepted) = serving w h node s place.Accepted stands asks in
     let accepted : k.served.held.progress ≡ progress.Accepted = is_accepted w h node s k in

@@ -18,8 +18,8 @@ use Rattle.command_semantics.specs.declared.point.Point.TheVariants.{Opens, Driv
 use Rattle.command_semantics.specs.declared.point.View.{View}
 use Rattle.command_semantics.specs.Next.{Clocks, is_served, finish_next, places, placing_next, idle_next, read_next, steps_next, session_opens}
 use Rattle.command_semantics.specs.Views.{view_of}
-use Rattle.turn_rules.specs.declared.ahead.Ahead.{Ahead}
-use Rattle.turn_rules.specs.declared.ahead.Ahead.TheVariants.{Waits, Passes}
+use Rattle.turn_rules.specs.declared.ahead.NextAction.{NextAction}
+use Rattle.turn_rules.specs.declared.ahead.NextAction.TheVariants.{Waits, Passes}
 use Rattle.turn_rules.specs.declared.ahead.Why.TheVariants.{Reply, Name}
 use Rattle.turn_rules.specs.declared.turn.Turn.{Turn}
 use Rattle.turn_rules.specs.declared.turn.Turn.TheVariants as turn
@@ -50,10 +50,10 @@ abbrev IfOf : ℕ → Option Event → Type 0
 IfOf s None = Unit {0}
 IfOf s (Some e) = IsEventOf s e
 
-abbrev AheadOf : ℕ → Ahead → Type 0
-AheadOf s ahead = IfOf s (made_by ahead)
+abbrev NextActionOf : ℕ → NextAction → Type 0
+NextActionOf s ahead = IfOf s (made_by ahead)
 
-made_of : (s : ℕ) (found : Option Event) → IfOf s found → AheadOf s (made_next found)
+made_of : (s : ℕ) (found : Option Event) → IfOf s found → NextActionOf s (made_next found)
 made_of s None is = tt
 made_of s (Some e) is = is
 
@@ -85,20 +85,20 @@ steps_of s doing.OpenOutcome = refl
 steps_of s doing.Completing = refl
 steps_of s _ = tt
 
-waits_of : (s : ℕ) (served : Bool) → AheadOf s (cond served (Waits Reply) Passes)
+waits_of : (s : ℕ) (served : Bool) → NextActionOf s (cond served (Waits Reply) Passes)
 waits_of s true = tt
 waits_of s false = tt
 
-drive_of : (s : ℕ) (line : Verb) (view : View) (request : Option (ℕ × Place)) → AheadOf s (drive_ahead s line view request)
+drive_of : (s : ℕ) (line : Verb) (view : View) (request : Option (ℕ × Place)) → NextActionOf s (drive_ahead s line view request)
 drive_of s line view None = made_of s (placing_next s view.doing (places line)) (placing_of s view.doing (places line))
 drive_of s line view (Some request) = waits_of s (is_served line request.1)
 
-collect_of : (s : ℕ) (view : View) (unawaited : Bool) (request : Option (ℕ × Place)) → AheadOf s (collect_ahead s view unawaited request)
+collect_of : (s : ℕ) (view : View) (unawaited : Bool) (request : Option (ℕ × Place)) → NextActionOf s (collect_ahead s view unawaited request)
 collect_of s view unawaited (Some request) = tt
 collect_of s view true None = made_of s (placing_next s view.doing true) (placing_of s view.doing true)
 collect_of s view false None = made_of s (idle_next s view.doing) (idle_of s view.doing)
 
-opens_of : (s : ℕ) (clocks : Clocks) (posted : Bool) (line : Verb) (view : View) (unawaited : Bool) → AheadOf s (own_opens clocks posted (Session s) line view unawaited)
+opens_of : (s : ℕ) (clocks : Clocks) (posted : Bool) (line : Verb) (view : View) (unawaited : Bool) → NextActionOf s (own_opens clocks posted (Session s) line view unawaited)
 opens_of s clocks true (verb.Await name) view unawaited = tt
 opens_of s clocks false (verb.Await name) view unawaited = tt
 opens_of s clocks posted verb.Collect view unawaited = collect_of s view unawaited view.request
@@ -118,7 +118,7 @@ opens_of s clocks posted verb.Step view unawaited = refl
 opens_of s clocks posted verb.Finish view unawaited = refl
 opens_of s clocks posted _ view unawaited = tt
 
-own_of : (s : ℕ) (clocks : Clocks) (posted : Bool) (line : Verb) (at : Point) (view : View) (unawaited : Bool) → AheadOf s (own_next clocks posted (Session s) line at view unawaited)
+own_of : (s : ℕ) (clocks : Clocks) (posted : Bool) (line : Verb) (at : Point) (view : View) (unawaited : Bool) → NextActionOf s (own_next clocks posted (Session s) line at view unawaited)
 own_of s clocks posted line Opens view unawaited = opens_of s clocks posted line view unawaited
 own_of s clocks posted line Drives view unawaited = drive_of s line view view.request
 own_of s clocks posted line Extends view unawaited = tt

@@ -25,11 +25,11 @@ use Rattle.machine.specs.Events.Decide.{both_verdict, both_if_accepted, both_hel
 use Rattle.isolation_laws.specs.Words.{InstanceAt, ClientAt}
 use Rattle.machine.specs.Fits.{StopOf}
 use Rattle.machine.proofs.Lookups.{set_found}
-use Rattle.command_semantics.specs.declared.point.Halt.{Halt}
-use Rattle.command_semantics.specs.declared.point.Halt.TheVariants as halt
-use Rattle.command_semantics.specs.Halts.{halt_of}
+use Rattle.command_semantics.specs.declared.point.Interruption.{Interruption}
+use Rattle.command_semantics.specs.declared.point.Interruption.TheVariants as halt
+use Rattle.command_semantics.specs.Interruptions.{halt_of}
 use Rattle.system_parts.specs.declared.instance.Place.{Place}
-use Rattle.isolation_laws.specs.Sound.{Stands}
+use Rattle.isolation_laws.specs.Sound.{ReachedInvariant}
 use Rattle.command_semantics.proofs.Driving.{serving_at}
 use Rattle.command_semantics.proofs.Serving.{Serving, node_step, on_both}
 use Rattle.turn_rules.specs.Lawful.{is_accepted_by, session_view}
@@ -95,7 +95,7 @@ any_set P (first ∷ others) zero was now has so = ap (λ (b : Bool). b || list_
 any_set P (first ∷ others) (suc s) was now has so = any_by P first (slice_set others s (Some now)) (P first) refl (any_set P others s was now has so)
 
 -- ---- where no stamp was found, none is left, and the request was told so
-abbrev is_lack : Option Halt → Bool
+abbrev is_lack : Option Interruption → Bool
 is_lack (Some halt.NoStamp) = true
 is_lack _ = false
 
@@ -125,7 +125,7 @@ accepted_at (progress.Drawn stamp) is = absurd (cc)
 accepted_at (progress.Settled stamp how) is = absurd (cc)
 accepted_at (progress.Handed stamp) is = absurd (cc)
 
-pub serving : (w : State) (h : List Item) (node session : ℕ) (at : Place) → Stands w h → (session_view w session).request ≡ Some (node, at) → Serving w h session (node, at)
+pub serving : (w : State) (h : List Item) (node session : ℕ) (at : Place) → ReachedInvariant w h → (session_view w session).request ≡ Some (node, at) → Serving w h session (node, at)
 serving w h node session at stands is = serving_at w h session (node, at) stands is
 
 pub is_accepted : (w : State) (h : List Item) (node session : ℕ) (k : Serving w h session (node, place.Accepted)) → k.served.held.progress ≡ progress.Accepted

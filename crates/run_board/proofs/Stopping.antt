@@ -6,20 +6,20 @@ use Rattle.machine.specs.declared.event.Event.{Event}
 use Rattle.machine.specs.Effect.{Stop}
 use Rattle.event_parts.specs.declared.stopped.Stopped.{Stopped}
 use Rattle.event_parts.specs.declared.stopped.Stopped.TheVariants.{Refused, StoreFault, NoMemory}
-use Rattle.command_semantics.specs.declared.point.Halt.{Halt}
-use Rattle.command_semantics.specs.declared.point.Halt.TheVariants as halt
-use Rattle.command_semantics.specs.Halts.{halt_of, refused_by}
+use Rattle.command_semantics.specs.declared.point.Interruption.{Interruption}
+use Rattle.command_semantics.specs.declared.point.Interruption.TheVariants as halt
+use Rattle.command_semantics.specs.Interruptions.{halt_of, refused_by}
 use Rattle.planned_cluster.specs.Standing.{Reaches}
 use Rattle.turn_rules.specs.declared.turn.Turn.{Turn}
 use Rattle.run_board.specs.Making.{step_in, TurnsBy, Makes, halted}
 use Rattle.run_board.specs.Run.{Ran}
 
 -- the event was made
-pub record Went (stop : Option Stop) (found : Option Halt) (after : Type 0) : Type 0 where
+pub record Went (stop : Option Stop) (found : Option Interruption) (after : Type 0) : Type 0 where
   pub stopped : found ≡ halt_of stop
   pub stands : after
 
-pub went : (stop : Option Stop) (answer : Result Unit Stopped) (found : Option Halt) (before after : Type 0) → Reaches stop answer before after → halted answer ≡ Some found → Went stop found after
+pub went : (stop : Option Stop) (answer : Result Unit Stopped) (found : Option Interruption) (before after : Type 0) → Reaches stop answer before after → halted answer ≡ Some found → Went stop found after
 went stop (Ok done) found before after k is = record { stopped = sym (same_Some None found is) ∙ sym (ap halt_of k.0); stands = k.1 }
 went stop (Err (Refused why)) found before after k is = record { stopped = sym (same_Some (Some (refused_by why)) found is) ∙ sym (ap halt_of k.0); stands = k.1 }
 went stop (Err (StoreFault store)) found before after k is = record { stopped = sym (same_Some (Some halt.Faulted) found is) ∙ sym (ap halt_of k.0); stands = k.1 }
@@ -32,7 +32,7 @@ stood stop (Err (Refused why)) before after k is = absurd (none-some (Some (refu
 stood stop (Err (StoreFault store)) before after k is = absurd (none-some (Some halt.Faulted) (sym is))
 stood stop (Err NoMemory) before after k is = k
 
-pub makes : (old : Ran) (t : Turn) (e : Event) (answer : Result Unit Stopped) (found : Option Halt) (before after : Type 0) (new : Ran) → Reaches (step_in old e).stop answer before after → halted answer ≡ Some found → TurnsBy old t e new → Makes old t e answer new
+pub makes : (old : Ran) (t : Turn) (e : Event) (answer : Result Unit Stopped) (found : Option Interruption) (before after : Type 0) (new : Ran) → Reaches (step_in old e).stop answer before after → halted answer ≡ Some found → TurnsBy old t e new → Makes old t e answer new
 makes old t e (Ok done) found before after new k is made = record { stopped = k.0; made = made }
 makes old t e (Err (Refused why)) found before after new k is made = record { stopped = k.0; made = made }
 makes old t e (Err (StoreFault store)) found before after new k is made = record { stopped = k.0; made = made }

@@ -10,9 +10,9 @@ use Rattle.machine.specs.declared.event.Event.{Event}
 use Rattle.machine.specs.declared.event.Event.TheVariants as event
 use Rattle.machine.specs.State.{State}
 use Rattle.script_data.specs.Data.{ScriptData}
-use Rattle.command_semantics.specs.declared.point.Halt.{Halt}
-use Rattle.command_semantics.specs.declared.point.Halt.TheVariants as halt
-use Rattle.command_semantics.specs.Halts.{halt_of}
+use Rattle.command_semantics.specs.declared.point.Interruption.{Interruption}
+use Rattle.command_semantics.specs.declared.point.Interruption.TheVariants as halt
+use Rattle.command_semantics.specs.Interruptions.{halt_of}
 use Rattle.command_semantics.specs.Runs.{Played, fate_of, step_of, played}
 use Rattle.command_semantics.proofs.Serving.{Serving}
 use Rattle.planned_cluster.specs.Standing.{StandsAt}
@@ -36,21 +36,21 @@ one_more_node w node lacking now all = λ m is. elim (noted_at lacking node m is
   | inr there ↦ all m there
 ]
 
-lacks_by_halt : (w : State) (node s : ℕ) (lacking : List Bool) (stop : Option Halt) → (stop ≡ Some halt.NoStamp → IsToldUsedUp (slice_get w.nodes node)) → AreToldUsedUp w lacking → AreToldUsedUp w (lacking_after lacking (turn.Decide node s) stop)
+lacks_by_halt : (w : State) (node s : ℕ) (lacking : List Bool) (stop : Option Interruption) → (stop ≡ Some halt.NoStamp → IsToldUsedUp (slice_get w.nodes node)) → AreToldUsedUp w lacking → AreToldUsedUp w (lacking_after lacking (turn.Decide node s) stop)
 lacks_by_halt w node s lacking (Some halt.NoStamp) now all = one_more_node w node lacking (now refl) all
 lacks_by_halt w node s lacking (Some halt.NotYet) now all = all
 lacks_by_halt w node s lacking (Some halt.Refused) now all = all
 lacks_by_halt w node s lacking (Some halt.Faulted) now all = all
 lacks_by_halt w node s lacking None now all = all
 
-decide_used : (script : ScriptData) (turns : List Turn) (lacking : List Bool) (node s : ℕ) (e : Event) (stop : Option Halt) → IsCarriedOut script turns lacking → IsInPlace (carried script turns).played.state (turn.Decide node s) → Some (event.Decide node s) ≡ Some e → stop ≡ halt_of (step_of script (carried script turns).played e).stop → stop ≡ Some halt.NoStamp → IsToldUsedUp (slice_get (step_of script (carried script turns).played e).state.nodes node)
+decide_used : (script : ScriptData) (turns : List Turn) (lacking : List Bool) (node s : ℕ) (e : Event) (stop : Option Interruption) → IsCarriedOut script turns lacking → IsInPlace (carried script turns).played.state (turn.Decide node s) → Some (event.Decide node s) ≡ Some e → stop ≡ halt_of (step_of script (carried script turns).played e).stop → stop ≡ Some halt.NoStamp → IsToldUsedUp (slice_get (step_of script (carried script turns).played e).state.nodes node)
 decide_used script turns lacking node s e stop k in_place is stopped none =
     let c : Carried = carried script turns in
     let found : Serving c.played.state c.played.items s (node, place.Accepted) = serving c.played.state c.played.items node s place.Accepted (facts script turns k.sound k.few).reached.stands in_place in
     subst (λ (x : Event). halt_of (step_of script c.played x).stop ≡ Some halt.NoStamp → IsToldUsedUp (slice_get (step_of script c.played x).state.nodes node)) (same_Some (event.Decide node s) e is)
     (decide_lacks c.played.state c.played.items node s (fate_of script c.played (event.Decide node s)) found (is_accepted c.played.state c.played.items node s found)) (sym stopped ∙ none)
 
-pub lacks_on : (script : ScriptData) (turns : List Turn) (lacking nodes : List Bool) (t : Turn) (e : Event) (stop : Option Halt) → IsCarriedOut script turns lacking → IsInPlace (carried script turns).played.state t → event_of script (carried script turns) t ≡ Some e → stop ≡ halt_of (step_of script (carried script turns).played e).stop → AreToldUsedUp (step_of script (carried script turns).played e).state nodes → AreToldUsedUp (step_of script (carried script turns).played e).state (lacking_after nodes t stop)
+pub lacks_on : (script : ScriptData) (turns : List Turn) (lacking nodes : List Bool) (t : Turn) (e : Event) (stop : Option Interruption) → IsCarriedOut script turns lacking → IsInPlace (carried script turns).played.state t → event_of script (carried script turns) t ≡ Some e → stop ≡ halt_of (step_of script (carried script turns).played e).stop → AreToldUsedUp (step_of script (carried script turns).played e).state nodes → AreToldUsedUp (step_of script (carried script turns).played e).state (lacking_after nodes t stop)
 lacks_on script turns lacking nodes (turn.Decide node s) e stop k in_place is stopped all = lacks_by_halt (step_of script (carried script turns).played e).state node s nodes stop (decide_used script turns lacking node s e stop k in_place is stopped) all
 lacks_on script turns lacking nodes (turn.Own actor aim) e stop k in_place is stopped all = all
 lacks_on script turns lacking nodes (turn.Accept node s) e stop k in_place is stopped all = all

@@ -19,9 +19,9 @@ use Rattle.machine.specs.State.{State}
 use Rattle.event_parts.specs.Served.{decides_at, is_to_decide, is_to_put, answers_at, is_to_answer}
 use Rattle.event_parts.specs.declared.stopped.Stopped.{Stopped}
 use Rattle.script_data.specs.Data.{ScriptData}
-use Rattle.isolation_laws.specs.Sound.{Stands}
+use Rattle.isolation_laws.specs.Sound.{ReachedInvariant}
 use Rattle.command_semantics.proofs.Serving.{Serving}
-use Rattle.cluster_core.specs.Whole.{Whole}
+use Rattle.cluster_core.specs.ClusterModel.{ClusterModel}
 use Rattle.cluster_core.specs.Served.{held_found, held_in, is_served, LeavesRoom, NeverLacksIf, most_reserved}
 use Rattle.cluster_core.proofs.RoomMoves.{room_rises, served_spends}
 use Rattle.turn_rules.specs.declared.turn.Turn.{Turn}
@@ -66,23 +66,23 @@ answers_by (Commit s start keys) Asked is = absurd (cc)
 answers_by (Commit s start keys) Accepted is = absurd (cc)
 answers_by (Commit s start keys) (Drawn stamp) is = absurd (cc)
 
-decide_serves : (w : State) (h : List Item) (node s : ℕ) → Stands w h → IsInPlace w (turn.Decide node s) → is_served w (event.Decide node s) ≡ true
+decide_serves : (w : State) (h : List Item) (node s : ℕ) → ReachedInvariant w h → IsInPlace w (turn.Decide node s) → is_served w (event.Decide node s) ≡ true
 decide_serves w h node s stands in_place =
     let k : Serving w h s (node, place.Accepted) = serving w h node s place.Accepted stands in_place in
     ap is_to_decide (held_here w h node s place.Accepted k) ∙ decides_by k.served.held.progress k.served.place_is
 
-put_serves : (w : State) (h : List Item) (node s : ℕ) → Stands w h → IsInPlace w (turn.Put node s) → is_served w (event.Put node s) ≡ true
+put_serves : (w : State) (h : List Item) (node s : ℕ) → ReachedInvariant w h → IsInPlace w (turn.Put node s) → is_served w (event.Put node s) ≡ true
 put_serves w h node s stands in_place =
     let k : Serving w h s (node, place.Drawn) = serving w h node s place.Drawn stands in_place.0 in
     ap is_to_put (held_here w h node s place.Drawn k) ∙ puts_by k.served.held.request k.served.held.progress k.served.place_is (sym k.served.commit_is ∙ in_place.1)
 
-answer_serves : (w : State) (h : List Item) (node s : ℕ) → Stands w h → IsInPlace w (turn.Answer node s) → is_served w (event.Answer node s) ≡ true
+answer_serves : (w : State) (h : List Item) (node s : ℕ) → ReachedInvariant w h → IsInPlace w (turn.Answer node s) → is_served w (event.Answer node s) ≡ true
 answer_serves w h node s stands in_place =
     let at : Place = answered_from (asks_commit w s) in
     let k : Serving w h s (node, at) = serving w h node s at stands in_place in
     ap is_to_answer (held_here w h node s at k) ∙ answers_by k.served.held.request k.served.held.progress (k.served.place_is ∙ ap answered_from k.served.commit_is)
 
-is_served_here : (script : ScriptData) (c : Carried) (t : Turn) (e : Event) → Stands c.played.state c.played.items → IsInPlace c.played.state t → event_of script c t ≡ Some e → serves t ≡ true → is_served c.played.state e ≡ true
+is_served_here : (script : ScriptData) (c : Carried) (t : Turn) (e : Event) → ReachedInvariant c.played.state c.played.items → IsInPlace c.played.state t → event_of script c t ≡ Some e → serves t ≡ true → is_served c.played.state e ≡ true
 is_served_here script c (turn.Decide node s) e stands in_place is served = subst (λ (x : Event). is_served c.played.state x ≡ true) (same_Some (event.Decide node s) e is) (decide_serves c.played.state c.played.items node s stands in_place)
 is_served_here script c (turn.Put node s) e stands in_place is served = subst (λ (x : Event). is_served c.played.state x ≡ true) (same_Some (event.Put node s) e is) (put_serves c.played.state c.played.items node s stands in_place)
 is_served_here script c (turn.Answer node s) e stands in_place is served = subst (λ (x : Event). is_served c.played.state x ≡ true) (same_Some (event.Answer node s) e is) (answer_serves c.played.state c.played.items node s stands in_place)
@@ -115,7 +115,7 @@ pub record HasRoom (t : Turn) (e : Event) (spare len capacity : ℕ) : Type 0 wh
   pub more : serves t ≡ false → len + spare + most_reserved e + 1 ≤ capacity
 
 -- the room that is kept after the call has been there
-pub record MovesRoom (t : Turn) (e : Event) (old now : Whole) : Type 0 where
+pub record MovesRoom (t : Turn) (e : Event) (old now : ClusterModel) : Type 0 where
   pub rises : now.spare ≤ old.spare + most_reserved e
   pub spends : serves t ≡ true → now.spare + length now.history ≡ old.spare + length old.history
   pub serving : serves t ≡ true → IsServing e
@@ -125,15 +125,15 @@ still_by t e spare now len capacity true served room rises serving = omega (arit
 still_by t e spare now len capacity false served room rises serving = omega (arith, room.more served, rises)
 
 -- where no turn was added
-pub still_room : (t : Turn) (e : Event) (old now : Whole) (len capacity : ℕ) → HasRoom t e old.spare len capacity → MovesRoom t e old now → len + now.spare ≤ capacity
+pub still_room : (t : Turn) (e : Event) (old now : ClusterModel) (len capacity : ℕ) → HasRoom t e old.spare len capacity → MovesRoom t e old now → len + now.spare ≤ capacity
 still_room t e old now len capacity room moves = still_by t e old.spare now.spare len capacity (serves t) refl room moves.rises moves.serving
 
-added_by : (old : Whole) (call : Call) (len capacity : ℕ) (served : Bool) → serves call.turn ≡ served → HasRoom call.turn call.event old.spare len capacity → MovesRoom call.turn call.event old call.now → length call.now.history ≡ length old.history + length (since call) → is_told call.event (since call) ≡ true → len + 1 + call.now.spare ≤ capacity
+added_by : (old : ClusterModel) (call : Call) (len capacity : ℕ) (served : Bool) → serves call.turn ≡ served → HasRoom call.turn call.event old.spare len capacity → MovesRoom call.turn call.event old call.now → length call.now.history ≡ length old.history + length (since call) → is_told call.event (since call) ≡ true → len + 1 + call.now.spare ≤ capacity
 added_by old call len capacity true served room moves grown told = omega (arith, room.kept, moves.spends served, grown, (moves.serving served).told (since call) told)
 added_by old call len capacity false served room moves grown told = omega (arith, room.more served, moves.rises)
 
 -- and where the turn was
-pub added_room : (old : Whole) (call : Call) (len capacity : ℕ) → HasRoom call.turn call.event old.spare len capacity → MovesRoom call.turn call.event old call.now → call.before ≡ length old.history → call.before ≤ length call.now.history → is_told call.event (since call) ≡ true → len + 1 + call.now.spare ≤ capacity
+pub added_room : (old : ClusterModel) (call : Call) (len capacity : ℕ) → HasRoom call.turn call.event old.spare len capacity → MovesRoom call.turn call.event old call.now → call.before ≡ length old.history → call.before ≤ length call.now.history → is_told call.event (since call) ≡ true → len + 1 + call.now.spare ≤ capacity
 added_room old call len capacity room moves length_is least told =
     let grown : length call.now.history ≡ length old.history + length (since call) = omega (arith, length_is, least, length-drop call.before call.now.history) in
     added_by old call len capacity (serves call.turn) refl room moves grown told
@@ -144,13 +144,13 @@ never_by w e true answer is never = subst (λ (b : Bool). NeverLacksIf b answer)
 never_by w e false answer is never = tt
 
 -- a turn that serves a request is not refused memory
-pub never_lacks : (script : ScriptData) (c : Carried) (t : Turn) (e : Event) (w : State) (answer : Result Unit Stopped) → Stands c.played.state c.played.items → IsInPlace c.played.state t → event_of script c t ≡ Some e → w ≡ c.played.state → NeverLacksIf (is_served w e) answer → NeverLacksIf (serves t) answer
+pub never_lacks : (script : ScriptData) (c : Carried) (t : Turn) (e : Event) (w : State) (answer : Result Unit Stopped) → ReachedInvariant c.played.state c.played.items → IsInPlace c.played.state t → event_of script c t ≡ Some e → w ≡ c.played.state → NeverLacksIf (is_served w e) answer → NeverLacksIf (serves t) answer
 never_lacks script c t e w answer stands in_place is same never = never_by w e (serves t) answer (λ served. ap (λ (x : State). is_served x e) same ∙ is_served_here script c t e stands in_place is served) never
 
 -- ---- of a turn that can be made where the run stands
-pub room_moved : (r : Ran) (kept : Kept) (t : Turn) (e : Event) (now : Whole) (answer : Result Unit Stopped) → IsMade r kept → CanTurn r t e → length kept.whole.history ≤ length now.history → LeavesRoom e kept.whole now answer → MovesRoom t e kept.whole now
+pub room_moved : (r : Ran) (kept : Kept) (t : Turn) (e : Event) (now : ClusterModel) (answer : Result Unit Stopped) → IsMade r kept → CanTurn r t e → length kept.whole.history ≤ length now.history → LeavesRoom e kept.whole now answer → MovesRoom t e kept.whole now
 room_moved r kept t e now answer k can grown room =
-    let stands : Stands (reached_by r).played.state (reached_by r).played.items = (facts r.script r.turns k.out.sound k.out.few).reached.stands in
+    let stands : ReachedInvariant (reached_by r).played.state (reached_by r).played.items = (facts r.script r.turns k.out.sound k.out.few).reached.stands in
     record {
       rises = room_rises kept.whole now e answer grown room;
       spends = λ served. served_spends kept.whole now e answer (ap (λ (w : State). is_served w e) k.stands.state ∙ is_served_here r.script (reached_by r) t e stands can.in_place can.event served) room;

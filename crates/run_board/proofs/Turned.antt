@@ -11,10 +11,10 @@ use Rattle.machine.specs.Machine.{Step}
 use Rattle.machine.specs.State.{State}
 use Rattle.script_data.specs.declared.line.Line.{Line}
 use Rattle.script_data.specs.Data.{ScriptData}
-use Rattle.command_semantics.specs.declared.point.Halt.{Halt}
+use Rattle.command_semantics.specs.declared.point.Interruption.{Interruption}
 use Rattle.command_semantics.specs.declared.point.View.{View}
 use Rattle.command_semantics.specs.Answers.{same_actor}
-use Rattle.command_semantics.specs.Halts.{halt_of}
+use Rattle.command_semantics.specs.Interruptions.{halt_of}
 use Rattle.command_semantics.specs.Next.{Clocks}
 use Rattle.command_semantics.specs.Runs.{clocks_of}
 use Rattle.command_semantics.specs.Views.{view_of}
@@ -42,11 +42,11 @@ seat_of_two : (b : Bool) (s : Seated) (seat : Seat) → (cond b (record s { seat
 seat_of_two true s seat = refl
 seat_of_two false s seat = refl
 
-goes_on : (line : Option Line) (step : Step) (halt : Option Halt) (asked : Bool) (seat : Seat) → halt ≡ halt_of step.stop → asked ≡ was_asked step.items → gone_on_at line halt asked seat ≡ with_event_at line step seat
+goes_on : (line : Option Line) (step : Step) (halt : Option Interruption) (asked : Bool) (seat : Seat) → halt ≡ halt_of step.stop → asked ≡ was_asked step.items → gone_on_at line halt asked seat ≡ with_event_at line step seat
 goes_on None step halt asked seat stopped was = refl
 goes_on (Some line) step halt asked seat stopped was = λ i. gone_on line.verb (stopped i) (was i) seat
 
-turned_seat : (script : ScriptData) (t : Turn) (step : Step) (halt : Option Halt) (asked : Bool) (s : Seated) → IsSeated script s → halt ≡ halt_of step.stop → asked ≡ was_asked step.items → (after_turn t halt asked s).seat ≡ moved script t step s.seat
+turned_seat : (script : ScriptData) (t : Turn) (step : Step) (halt : Option Interruption) (asked : Bool) (s : Seated) → IsSeated script s → halt ≡ halt_of step.stop → asked ≡ was_asked step.items → (after_turn t halt asked s).seat ≡ moved script t step s.seat
 turned_seat script (turn.Own actor aim) step halt asked s k stopped was =
     let line : line_of s ≡ present_line script s.seat = ap (λ (ls : List Line). slice_get ls s.seat.place) k.lines in
     seat_of_two (same_actor s.seat.actor actor) s (gone_on_at (line_of s) halt asked s.seat)
@@ -57,15 +57,15 @@ turned_seat script (turn.Put node session) step halt asked s k stopped was = ref
 turned_seat script (turn.Answer node session) step halt asked s k stopped was = refl
 turned_seat script (turn.Extend node) step halt asked s k stopped was = refl
 
-still_seated : (script : ScriptData) (line : Option Line) (halt : Option Halt) (asked : Bool) (s : Seated) → IsSeated script s → IsSeated script (record s { seat = gone_on_at line halt asked s.seat })
+still_seated : (script : ScriptData) (line : Option Line) (halt : Option Interruption) (asked : Bool) (s : Seated) → IsSeated script s → IsSeated script (record s { seat = gone_on_at line halt asked s.seat })
 still_seated script None halt asked s k = k
 still_seated script (Some line) halt asked s k = record { lines = k.lines; place = k.place }
 
-seated_by : (script : ScriptData) (b : Bool) (line : Option Line) (halt : Option Halt) (asked : Bool) (s : Seated) → IsSeated script s → IsSeated script (cond b (record s { seat = gone_on_at line halt asked s.seat }) s)
+seated_by : (script : ScriptData) (b : Bool) (line : Option Line) (halt : Option Interruption) (asked : Bool) (s : Seated) → IsSeated script s → IsSeated script (cond b (record s { seat = gone_on_at line halt asked s.seat }) s)
 seated_by script true line halt asked s k = still_seated script line halt asked s k
 seated_by script false line halt asked s k = k
 
-pub turned_seated : (script : ScriptData) (t : Turn) (halt : Option Halt) (asked : Bool) (s : Seated) → IsSeated script s → IsSeated script (after_turn t halt asked s)
+pub turned_seated : (script : ScriptData) (t : Turn) (halt : Option Interruption) (asked : Bool) (s : Seated) → IsSeated script s → IsSeated script (after_turn t halt asked s)
 turned_seated script (turn.Own actor aim) halt asked s k = seated_by script (same_actor s.seat.actor actor) (line_of s) halt asked s k
 turned_seated script (turn.Accept node session) halt asked s k = k
 turned_seated script (turn.Decide node session) halt asked s k = k

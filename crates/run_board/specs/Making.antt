@@ -4,9 +4,9 @@ use Rattle.history_book.specs.declared.item.Item.{Item}
 use Rattle.machine.specs.declared.event.Event.{Event}
 use Rattle.machine.specs.declared.event.Event.TheVariants as event
 use Rattle.machine.specs.Effect.{Stop, Refuses, Faults}
-use Rattle.command_semantics.specs.declared.point.Halt.{Halt}
-use Rattle.command_semantics.specs.declared.point.Halt.TheVariants as halt
-use Rattle.command_semantics.specs.Halts.{refused_by}
+use Rattle.command_semantics.specs.declared.point.Interruption.{Interruption}
+use Rattle.command_semantics.specs.declared.point.Interruption.TheVariants as halt
+use Rattle.command_semantics.specs.Interruptions.{refused_by}
 use Rattle.turn_rules.specs.declared.turn.Turn.TheVariants as turn
 use Rattle.machine.specs.Machine.{Step}
 use Rattle.event_parts.specs.declared.stopped.Stopped.{Stopped}
@@ -43,7 +43,7 @@ Makes old turn event (Err NoMemory) new = new ≡ old
 
 -- ---- what the code looks at
 -- how a call answered that its event stopped, if it was made
-abbrev pub halted : Result Unit Stopped → Option (Option Halt)
+abbrev pub halted : Result Unit Stopped → Option (Option Interruption)
 halted (Ok _) = Some None
 halted (Err (Refused why)) = Some (Some (refused_by why))
 halted (Err (StoreFault store)) = Some (Some halt.Faulted)
@@ -58,12 +58,12 @@ abbrev pub is_told : Event → List Item → Bool
 is_told (event.SweepOpen node txn) items = true
 is_told _ items = has_some items
 
-abbrev pub finds_no_stamp : Option Halt → Bool
+abbrev pub finds_no_stamp : Option Interruption → Bool
 finds_no_stamp (Some halt.NoStamp) = true
 finds_no_stamp _ = false
 
 -- whether a node's last decision found no stamp
-abbrev pub lacking_after : List Bool → Turn → Option Halt → List Bool
+abbrev pub lacking_after : List Bool → Turn → Option Interruption → List Bool
 lacking_after lacking (turn.Decide node session) (Some halt.NoStamp) = slice_set lacking node true
 lacking_after lacking _ _ = lacking
 

@@ -4,7 +4,7 @@ use Rattle.history_book.specs.declared.item.Actor.{Actor}
 use Rattle.history_book.specs.declared.item.Actor.TheVariants.{Clock, Node, Session, Janitor}
 use Rattle.machine.specs.State.{State}
 use Rattle.script_data.specs.declared.line.Line.{Line}
-use Rattle.command_semantics.specs.declared.point.Halt.{Halt}
+use Rattle.command_semantics.specs.declared.point.Interruption.{Interruption}
 use Rattle.command_semantics.specs.Answers.{same_actor}
 use Rattle.command_semantics.specs.Clocks.{HaveRoom}
 use Rattle.command_semantics.specs.Next.{Clocks}
@@ -27,11 +27,11 @@ abbrev pub seated_of : List Seated → Actor → Option Seated
 seated_of seated actor = find (λ s. same_actor s.seat.actor actor) seated
 
 -- ---- an own turn's event moves its actor's seat on from the present line's point
-abbrev pub gone_on_at : Option Line → Option Halt → Bool → Seat → Seat
+abbrev pub gone_on_at : Option Line → Option Interruption → Bool → Seat → Seat
 gone_on_at None halt asked seat = seat
 gone_on_at (Some line) halt asked seat = gone_on line.verb halt asked seat
 
-abbrev pub after_turn : Turn → Option Halt → Bool → Seated → Seated
+abbrev pub after_turn : Turn → Option Interruption → Bool → Seated → Seated
 after_turn (turn.Own actor aim) halt asked s = if same_actor s.seat.actor actor then record s { seat = gone_on_at (line_of s) halt asked s.seat } else s
 after_turn _ halt asked s = s
 

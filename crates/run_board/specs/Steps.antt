@@ -9,7 +9,7 @@ use Rattle.machine.specs.declared.event.Event.{Event}
 use Rattle.machine.specs.Effect.{Stop, Refuses, Faults}
 use Rattle.machine.specs.Readers.{term_of}
 use Rattle.machine.specs.State.{State}
-use Rattle.turn_rules.specs.declared.ahead.Ahead.TheVariants.{Waits}
+use Rattle.turn_rules.specs.declared.ahead.NextAction.TheVariants.{Waits}
 use Rattle.turn_rules.specs.declared.turn.Turn.{Turn}
 use Rattle.turn_rules.specs.declared.turn.Turn.TheVariants as turn
 use Rattle.turn_rules.specs.Seats.{lines_of}

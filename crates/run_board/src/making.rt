@@ -11,7 +11,7 @@ ghost use Rattle.run_board.specs.Making.{Makes, halted, is_told, finds_no_stamp,
 use crate::ScriptRun;
 use crate::marks::note_stage;
 use crate::seated::{go_on, pass_touched};
-use command_semantics::{Halt, refused};
+use command_semantics::{Interruption, refused};
 use history_book::Item;
 use machine::Event;
 use planned_cluster::Stopped;
@@ -139,13 +139,13 @@ pub(crate) fn since(items: &[Item], before: usize) -> &[Item]
 }
 
 /// How an event stopped, if it was made.
-fn halted(answer: &Result<(), Stopped>) -> Option<Option<Halt>>
+fn halted(answer: &Result<(), Stopped>) -> Option<Option<Interruption>>
     ensures { result ≡ halted answer.now }
 {
     match answer {
         Ok(()) => Some(None),
         Err(Stopped::Refused(cause)) => Some(Some(refused(cause))),
-        Err(Stopped::StoreFault(_)) => Some(Some(Halt::Faulted)),
+        Err(Stopped::StoreFault(_)) => Some(Some(Interruption::Faulted)),
         Err(Stopped::NoMemory) => None,
     }
 }
@@ -161,7 +161,7 @@ fn is_told(event: &Event, items: &[Item]) -> bool
 }
 
 /// Notes that a decision of the node has found no stamp.
-fn note_lack(lacking: &mut Vec<bool>, turn: &Turn, halt: Option<Halt>)
+fn note_lack(lacking: &mut Vec<bool>, turn: &Turn, halt: Option<Interruption>)
     ensures { lacking.new.items ≡ lacking_after lacking.old.items turn.now halt }
 {
     let Turn::Decide { node, .. } = turn else {
@@ -172,10 +172,10 @@ fn note_lack(lacking: &mut Vec<bool>, turn: &Turn, halt: Option<Halt>)
     }
 }
 
-fn finds_no_stamp(halt: &Option<Halt>) -> bool
+fn finds_no_stamp(halt: &Option<Interruption>) -> bool
     ensures { result ≡ finds_no_stamp halt.now }
 {
-    matches!(halt, Some(Halt::NoStamp))
+    matches!(halt, Some(Interruption::NoStamp))
 }
 
 fn set_lack(lacking: &mut Vec<bool>, node: NodeNo)

@@ -4,7 +4,7 @@ ghost use Rattle.machine.specs.Readers as read;
 ghost use Rattle.command_semantics.specs.Clocks.{HaveRoom};
 ghost use Rattle.command_semantics.specs.Next.{reading_at};
 ghost use Rattle.command_semantics.specs.Runs.{clocks_of};
-ghost use Rattle.turn_rules.specs.declared.ahead.Ahead.TheVariants.{Passes};
+ghost use Rattle.turn_rules.specs.declared.ahead.NextAction.TheVariants.{Passes};
 ghost use Rattle.turn_rules.specs.Carried.{ahead_at, aimed_node, own_ahead, event_of, made_by, name_posted};
 ghost use Rattle.turn_rules.specs.Lawful as lawful;
 ghost use Rattle.run_board.specs.Run.{reached_by};
@@ -18,7 +18,7 @@ use history_book::Actor;
 use machine::Event;
 use script_data::{Line, Verb};
 use stamp_base::{NodeNo, SessionNo, Stage, Term};
-use turn_rules::{Ahead, Seat, Turn, own_event, stage_turn};
+use turn_rules::{NextAction, Seat, Turn, own_event, stage_turn};
 
 impl ScriptRun {
     /// How many of the actor's lines are passed.
@@ -32,22 +32,22 @@ impl ScriptRun {
     }
 
     /// What is ahead of the actor's present line, where its share is aimed at this node.
-    pub(crate) fn ahead(&self, actor: &Actor, aim: NodeNo) -> Ahead
+    pub(crate) fn ahead(&self, actor: &Actor, aim: NodeNo) -> NextAction
         ensures ahead { result ≡ own_ahead self.now.script (reached_by self.now) actor.now aim }
         ensures ended { result ≡ Passes → HasEnded self.now actor.now }
     {
         match seated_of(self.seated.as_slice(), actor) {
             Some(seated) => self.ahead_at(&seated.seat, seated.line(), aim),
-            None => Ahead::Passes,
+            None => NextAction::Passes,
         }
     }
 
-    fn ahead_at(&self, seat: &Seat, line: Option<Line>, aim: NodeNo) -> Ahead
+    fn ahead_at(&self, seat: &Seat, line: Option<Line>, aim: NodeNo) -> NextAction
         requires { IfSome line (λ l. HaveRoom (reached_by self.now).played.clock self.now.script.leads l.verb) }
         ensures { result ≡ ahead_at self.now.script (reached_by self.now) seat.now line aim }
     {
         match line {
-            None => Ahead::Passes,
+            None => NextAction::Passes,
             Some(line) => {
                 own_event(
                     self.planned.clock,
@@ -159,11 +159,11 @@ impl ScriptRun {
 }
 
 /// The event that is ahead, if there is one.
-fn event_ahead(ahead: &Ahead) -> Option<Event>
+fn event_ahead(ahead: &NextAction) -> Option<Event>
     ensures { result ≡ made_by ahead.now }
 {
     match ahead {
-        Ahead::Makes(event) => Some(*event),
-        Ahead::Waits(_) | Ahead::Passes => None,
+        NextAction::Makes(event) => Some(*event),
+        NextAction::Waits(_) | NextAction::Passes => None,
     }
 }

@@ -5,7 +5,7 @@ ghost use Rattle.planned_cluster.specs.Fitting.{SessionIsThere};
 ghost use Rattle.planned_cluster.specs.Standing.{clocks_at};
 ghost use Rattle.run_board.specs.Seating.{own_lines, line_of, seated_of, after_turn, after_passing, after_passes, passing_of, touched, CanPass, AreSeatedFirst, SitsDown};
 
-use command_semantics::Halt;
+use command_semantics::Interruption;
 use history_book::Actor;
 use planned_cluster::{PlannedCluster, see_session};
 use script_data::Line;
@@ -28,7 +28,7 @@ impl Seated {
         self.lines.get(self.seat.place).copied()
     }
 
-    fn go_on(&mut self, turn: &Turn, halt: Option<Halt>, asked: bool)
+    fn go_on(&mut self, turn: &Turn, halt: Option<Interruption>, asked: bool)
         ensures { self.new ≡ after_turn turn.now halt asked self.old }
     {
         let Turn::Own { actor, .. } = turn else {
@@ -159,7 +159,7 @@ pub fn seated_of<'a>(seated: &'a [Seated], actor: &Actor) -> Option<&'a Seated>
 }
 
 /// An own turn's event moves its actor's seat.
-pub fn go_on(seated: &mut Vec<Seated>, turn: &Turn, halt: Option<Halt>, asked: bool)
+pub fn go_on(seated: &mut Vec<Seated>, turn: &Turn, halt: Option<Interruption>, asked: bool)
     ensures { seated.new.items ≡ map (after_turn turn.now halt asked) seated.old.items }
 {
     for number in 0..seated.len() {

@@ -1,6 +1,6 @@
 // The steps of actors and stages.
 ghost use Rattle.std.specs.Prelude.{◌≡◌, ◌≤◌, Some, drop, length};
-ghost use Rattle.turn_rules.specs.declared.ahead.Ahead.TheVariants.{Makes};
+ghost use Rattle.turn_rules.specs.declared.ahead.NextAction.TheVariants.{Makes};
 ghost use Rattle.turn_rules.specs.Carried.{own_ahead, event_of, carried_items};
 ghost use Rattle.turn_rules.specs.Lawful.{IsFree, IsInPlace, stage_of};
 ghost use Rattle.run_board.specs.Run.{reached_by};
@@ -14,7 +14,7 @@ use machine::Event;
 use planned_cluster::Stopped;
 use stamp_base::{NodeNo, SessionNo, Stage, Stamp, Term};
 use thread_steps::StageStep;
-use turn_rules::{Ahead, Turn, own_turns_are_told};
+use turn_rules::{NextAction, Turn, own_turns_are_told};
 
 impl ScriptRun {
     /// Makes the next event of the actor's present line, its share being aimed at this node, unless it waits or no line is left.
@@ -22,9 +22,9 @@ impl ScriptRun {
         ensures { Advances self.old actor aim result self.new }
     {
         match &self.ahead(&actor, aim) {
-            Ahead::Makes(event) => self.make_own(&actor, aim, event),
-            Ahead::Waits(why) => Advance::Waits(*why),
-            Ahead::Passes => Advance::Ended,
+            NextAction::Makes(event) => self.make_own(&actor, aim, event),
+            NextAction::Waits(why) => Advance::Waits(*why),
+            NextAction::Passes => Advance::Ended,
         }
     }
 

@@ -13,12 +13,12 @@ use Rattle.machine.specs.declared.event.Doing.TheVariants as doing
 use Rattle.machine.specs.declared.event.Event as timed
 use Rattle.script_data.specs.declared.line.Verb.{Verb}
 use Rattle.script_data.specs.declared.line.Verb.TheVariants as verb
-use Rattle.command_semantics.specs.declared.point.Halt.{Halt}
-use Rattle.command_semantics.specs.declared.point.Halt.TheVariants.{NoStamp, NotYet, Refused, Faulted}
+use Rattle.command_semantics.specs.declared.point.Interruption.{Interruption}
+use Rattle.command_semantics.specs.declared.point.Interruption.TheVariants.{NoStamp, NotYet, Refused, Faulted}
 use Rattle.command_semantics.specs.declared.point.Point.{Point}
 use Rattle.command_semantics.specs.declared.point.Point.TheVariants.{Opens, Drives, Extends, Finishes, Reads, Steps, Over}
 use Rattle.command_semantics.specs.declared.point.View.{View}
-use Rattle.command_semantics.specs.Halts.{unless_halted, after_write, after_serving, after_extending, after_stepping, after_opening, follows}
+use Rattle.command_semantics.specs.Interruptions.{unless_halted, after_write, after_serving, after_extending, after_stepping, after_opening, follows}
 use Rattle.command_semantics.specs.Next as line
 use Rattle.split_parts.specs.declared.event.Event.{Event}
 use Rattle.log_refinement.specs.Follows.{IsLater}
@@ -29,39 +29,39 @@ abbrev IsPast : Point → Type 0
 IsPast Opens = ⊥
 IsPast _ = Unit {0}
 
-past_unless : (point : Point) (halt : Option Halt) → IsPast point → IsPast (unless_halted point halt)
+past_unless : (point : Point) (halt : Option Interruption) → IsPast point → IsPast (unless_halted point halt)
 past_unless point None past = past
 past_unless point (Some halt) past = tt
 
-past_write : (halt : Option Halt) → IsPast (after_write halt)
+past_write : (halt : Option Interruption) → IsPast (after_write halt)
 past_write None = tt
 past_write (Some NoStamp) = tt
 past_write (Some NotYet) = tt
 past_write (Some Refused) = tt
 past_write (Some Faulted) = tt
 
-past_serving : (halt : Option Halt) → IsPast (after_serving halt)
+past_serving : (halt : Option Interruption) → IsPast (after_serving halt)
 past_serving None = tt
 past_serving (Some NoStamp) = tt
 past_serving (Some NotYet) = tt
 past_serving (Some Refused) = tt
 past_serving (Some Faulted) = tt
 
-past_extending : (halt : Option Halt) → IsPast (after_extending halt)
+past_extending : (halt : Option Interruption) → IsPast (after_extending halt)
 past_extending None = tt
 past_extending (Some NoStamp) = tt
 past_extending (Some NotYet) = tt
 past_extending (Some Refused) = tt
 past_extending (Some Faulted) = tt
 
-past_stepping : (halt : Option Halt) → IsPast (after_stepping halt)
+past_stepping : (halt : Option Interruption) → IsPast (after_stepping halt)
 past_stepping None = tt
 past_stepping (Some NoStamp) = tt
 past_stepping (Some NotYet) = tt
 past_stepping (Some Refused) = tt
 past_stepping (Some Faulted) = tt
 
-past_opening : (v : Verb) (halt : Option Halt) → IsPast (after_opening v halt)
+past_opening : (v : Verb) (halt : Option Interruption) → IsPast (after_opening v halt)
 past_opening (verb.Begin to) halt = past_unless Drives halt tt
 past_opening (verb.Commit to) halt = past_unless Drives halt tt
 past_opening (verb.Submit to) halt = past_unless Drives halt tt
@@ -73,7 +73,7 @@ past_opening verb.Finish halt = past_stepping halt
 past_opening (verb.Sweep node txn) halt = past_unless Steps halt tt
 past_opening _ halt = tt
 
-follows_past : (v : Verb) (point : Point) (halt : Option Halt) → IsPast (follows v point halt)
+follows_past : (v : Verb) (point : Point) (halt : Option Interruption) → IsPast (follows v point halt)
 follows_past v Opens halt = past_opening v halt
 follows_past v Drives halt = past_serving halt
 follows_past v Extends halt = past_extending halt
@@ -87,7 +87,7 @@ past_may_run actor v Opens past = absurd past
 past_may_run actor v _ past = tt
 
 -- from there the line may be run on
-pub may_run : (actor : Actor) (v : Verb) (point : Point) (halt : Option Halt) → MayRun actor v (follows v point halt)
+pub may_run : (actor : Actor) (v : Verb) (point : Point) (halt : Option Interruption) → MayRun actor v (follows v point halt)
 may_run actor v point halt = past_may_run actor v (follows v point halt) (follows_past v point halt)
 
 -- ---- the next event of a line

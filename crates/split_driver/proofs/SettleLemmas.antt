@@ -14,7 +14,7 @@ use Rattle.machine.proofs.PartsKept.{leaves_parts}
 use Rattle.planned_cluster.specs.Fitting.{SessionIsThere}
 use Rattle.planned_cluster.proofs.Playable.{playable_at_first}
 use Rattle.planned_cluster.proofs.Fitting.{lines_fit}
-use Rattle.cluster_core.specs.Whole.{Whole}
+use Rattle.cluster_core.specs.ClusterModel.{ClusterModel}
 use Rattle.thread_scripts.specs.Actors.{actors_of}
 use Rattle.split_stores.specs.declared.seat.Entry.{Entry}
 use Rattle.split_stores.specs.declared.settling.SettleStop.{SettleStop}
@@ -45,13 +45,13 @@ stops_by script plan logs (stop.Spent drawn) is are tears = absurd tears
 stops_by script plan logs stop.NoMemory is are tears = tt
 
 -- where the logs follow the lines of all actors
-pub splits_whole : (script plan : ScriptData) (logs : List Logged) (r : Result Whole SplitStop) → plan ≡ without_lines script → AllFollow script (actors_of script) logs → AreLogs script logs → SettlesBy plan (logs_of logs) r → Splits script r
+pub splits_whole : (script plan : ScriptData) (logs : List Logged) (r : Result ClusterModel SplitStop) → plan ≡ without_lines script → AllFollow script (actors_of script) logs → AreLogs script logs → SettlesBy plan (logs_of logs) r → Splits script r
 splits_whole script plan logs (Ok whole) is follow are settled = record { logs = logs; follow = follow; rise = are.rise; settled = rw (sym is) settled }
 splits_whole script plan logs (Err why) is follow are tears = stops_by script plan logs why is are tears
 
 -- where it stops, whether they follow the lines to their end or not
-pub splits_not : (script plan : ScriptData) (logs : List Logged) (why : SplitStop) (r : Result Whole SplitStop) → plan ≡ without_lines script → AreLogs script logs → SettlesBy plan (logs_of logs) r → r ≡ Err why → SplitStops script why
-splits_not script plan logs why r is are settled stopped = stops_by script plan logs why is are (subst (λ (x : Result Whole SplitStop). SettlesBy plan (logs_of logs) x) stopped settled)
+pub splits_not : (script plan : ScriptData) (logs : List Logged) (why : SplitStop) (r : Result ClusterModel SplitStop) → plan ≡ without_lines script → AreLogs script logs → SettlesBy plan (logs_of logs) r → r ≡ Err why → SplitStops script why
+splits_not script plan logs why r is are settled stopped = stops_by script plan logs why is are (subst (λ (x : Result ClusterModel SplitStop). SettlesBy plan (logs_of logs) x) stopped settled)
 
 -- ---- no lines
 -- empty logs are none
@@ -61,7 +61,7 @@ no_entries word (log ∷ logs) new =
     let first : IsNew word log = All-head (IsNew word) log logs new in
     ap (λ es. es ++ logs_of logs) first.1 ∙ no_entries word logs (All-tail (IsNew word) log logs new)
 
-pub splits_nothing : (script plan : ScriptData) (word : TableId) (logs : List Logged) (r : Result Whole SplitStop) → plan ≡ without_lines script → actors_of script ≡ [] → All (IsNew word) logs → SettlesBy plan (logs_of logs) r → Splits script r
+pub splits_nothing : (script plan : ScriptData) (word : TableId) (logs : List Logged) (r : Result ClusterModel SplitStop) → plan ≡ without_lines script → actors_of script ≡ [] → All (IsNew word) logs → SettlesBy plan (logs_of logs) r → Splits script r
 splits_nothing script plan word logs r is none new settled =
     let rise : AllRise [] = All-nil (λ (log : Logged). rises_above 0 (ticks_of log.entries) ≡ true) in
     let fronts : AllFollowSome script (actors_of script) [] = subst (λ (actors : List Actor). AllFollowSome script actors []) (sym none) tt in
@@ -76,13 +76,13 @@ setup_after script (e ∷ es) p =
     let now = timed_in script p e.event in
     setup_after script es (played_with script p e.event) ∙ (leaves_parts p.state now (fate_of script p now)).setup
 
-pub split_setup : (script : ScriptData) (r : Result Whole SplitStop) → Splits script r → IfOk r (λ (whole : Whole). whole.state.setup ≡ script.setup)
+pub split_setup : (script : ScriptData) (r : Result ClusterModel SplitStop) → Splits script r → IfOk r (λ (whole : ClusterModel). whole.state.setup ≡ script.setup)
 split_setup script (Ok whole) s =
     ap (λ (w : State). w.setup) s.settled.settled.state ∙ setup_after (without_lines script) s.settled.merged (opening_played (without_lines script))
 split_setup script (Err why) s = tt
 
 -- ---- each line
-pub split_carried : (script : ScriptData) (r : Result Whole SplitStop) → Splits script r → IfOk r (CarriedOut script)
+pub split_carried : (script : ScriptData) (r : Result ClusterModel SplitStop) → Splits script r → IfOk r (CarriedOut script)
 split_carried script (Ok whole) s = record { logs = s.logs; all = all_begin script (actors_of script) s.logs s.follow; settled = s.settled }
 split_carried script (Err why) s = tt
 
@@ -96,14 +96,14 @@ is_carried script sound few may there = record {
 }
 
 module _ (script : ScriptData) (sound : IsSound script) (few : length script.lines ≤ 131072) (may : MaySplit script) (there : All (λ (line : Line). SessionIsThere line.actor) script.lines) where
-  pub split_answers : (r : Result Whole SplitStop) → Splits script r → SettledLogsAnswer → IfOk r (λ (whole : Whole). Answers script whole.history)
+  pub split_answers : (r : Result ClusterModel SplitStop) → Splits script r → SettledLogsAnswer → IfOk r (λ (whole : ClusterModel). Answers script whole.history)
   split_answers (Ok whole) s law = law script s.logs whole (is_carried script sound few may there) s.follow s.rise s.settled
   split_answers (Err why) s law = tt
 
-  pub split_serves : (r : Result Whole SplitStop) → Splits script r → SettledLogsServe → IfOk r (λ (whole : Whole). Served script whole.history)
+  pub split_serves : (r : Result ClusterModel SplitStop) → Splits script r → SettledLogsServe → IfOk r (λ (whole : ClusterModel). Served script whole.history)
   split_serves (Ok whole) s law = law script s.logs whole (is_carried script sound few may there) s.follow s.rise s.settled
   split_serves (Err why) s law = tt
 
-  pub split_is_planned : (r : Result Whole SplitStop) → Splits script r → SettledLogsArePlanned → IfOk r (λ (whole : Whole). Planned script whole.history)
+  pub split_is_planned : (r : Result ClusterModel SplitStop) → Splits script r → SettledLogsArePlanned → IfOk r (λ (whole : ClusterModel). Planned script whole.history)
   split_is_planned (Ok whole) s law = law script s.logs whole (is_carried script sound few may there) s.follow s.rise s.settled
   split_is_planned (Err why) s law = tt

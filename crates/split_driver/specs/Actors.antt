@@ -4,7 +4,7 @@ use Rattle.atomic_table.specs.Seated.{TableId}
 use Rattle.history_book.specs.declared.item.Actor.{Actor}
 use Rattle.script_data.specs.declared.line.Line.{Line}
 use Rattle.script_data.specs.Data.{ScriptData}
-use Rattle.cluster_core.specs.Whole.{Whole}
+use Rattle.cluster_core.specs.ClusterModel.{ClusterModel}
 use Rattle.split_stores.specs.declared.seat.Entry.{Entry}
 use Rattle.split_stores.specs.declared.settling.SettleStop.{SettleStop}
 use Rattle.split_stores.specs.declared.settling.SettleStop.TheVariants as settle
@@ -84,5 +84,5 @@ TearsBy plan logs (stop.Torn tick kept replayed) = IsTornInOrder plan logs tick 
 TearsBy plan logs (stop.Spent drawn) = ⊥
 TearsBy plan logs stop.NoMemory = Unit {0}
 
-abbrev pub SettlesBy : ScriptData → List Entry → Result Whole SplitStop → Type 0
+abbrev pub SettlesBy : ScriptData → List Entry → Result ClusterModel SplitStop → Type 0
 SettlesBy plan logs r = MatchResult r (Settled plan logs) (TearsBy plan logs)

@@ -6,7 +6,7 @@ use Rattle.script_data.specs.declared.line.Line.{Line}
 use Rattle.script_data.specs.declared.line.Verb.{Verb}
 use Rattle.script_data.specs.declared.line.Verb.TheVariants as verb
 use Rattle.script_data.specs.Ticks.{tick_of}
-use Rattle.command_semantics.specs.declared.point.Halt.{Halt}
+use Rattle.command_semantics.specs.declared.point.Interruption.{Interruption}
 use Rattle.command_semantics.specs.declared.point.Point.{Point}
 use Rattle.command_semantics.specs.declared.point.Point.TheVariants.{Opens}
 use Rattle.machine.specs.declared.event.Event as timed
@@ -49,7 +49,7 @@ pub record StopsAt (e : Event) (old new : Logged) (why : PlayStop) : Type 0 wher
   pub told : TellsDrawn new.entries why
 
 -- one entry of the event was added, unless the actor stops
-abbrev pub Enters : Event → Logged → Logged → Result (Option Halt) PlayStop → Type 0
+abbrev pub Enters : Event → Logged → Logged → Result (Option Interruption) PlayStop → Type 0
 Enters e old new result = MatchResult result (λ _. AddsOne e old new) (StopsAt e old new)
 
 -- the last entry is this one, of the event

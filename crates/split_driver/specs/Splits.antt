@@ -5,7 +5,7 @@ use Rattle.history_book.specs.declared.item.Item.{Item}
 use Rattle.script_data.specs.Data.{ScriptData}
 use Rattle.session_script.specs.declared.mode.Mode.TheVariants.{Split}
 use Rattle.session_script.specs.Script.{script_of}
-use Rattle.cluster_core.specs.Whole.{Whole}
+use Rattle.cluster_core.specs.ClusterModel.{ClusterModel}
 use Rattle.thread_scripts.specs.Actors.{actors_of}
 use Rattle.split_stores.specs.Logs.{Logged}
 use Rattle.split_stores.specs.Merged.{Settled, IsTornInOrder}
@@ -32,7 +32,7 @@ SplitScriptsMaySplit = (bytes : List ℕ) (script : ScriptData) → script_of by
 
 -- ---- what comes of it
 -- the logs of all actors with lines, each of which is of its actor's lines, in rising ticks, settle into it
-pub record SplitsTo (script : ScriptData) (whole : Whole) : Type 0 where
+pub record SplitsTo (script : ScriptData) (whole : ClusterModel) : Type 0 where
   pub logs : List Logged
   pub follow : AllFollow script (actors_of script) logs
   pub rise : AllRise logs
@@ -40,7 +40,7 @@ pub record SplitsTo (script : ScriptData) (whole : Whole) : Type 0 where
 
 -- what it has come to is settled from logs in which each line of the script has its first event, once and in the order of its actor's
 -- lines: also a line that appends no item. A collect alone may have none, where nothing is there to collect.
-pub record CarriedOut (script : ScriptData) (whole : Whole) : Type 0 where
+pub record CarriedOut (script : ScriptData) (whole : ClusterModel) : Type 0 where
   pub logs : List Logged
   pub all : AllBegin script (actors_of script) logs
   pub settled : Settled (without_lines script) (logs_of logs) whole
@@ -72,5 +72,5 @@ SplitStops script (stop.Torn tick kept replayed) = TearsAt script tick kept repl
 SplitStops script (stop.Spent drawn) = IsSpentAt script drawn
 SplitStops script stop.NoMemory = Unit {0}
 
-abbrev pub Splits : ScriptData → Result Whole SplitStop → Type 0
+abbrev pub Splits : ScriptData → Result ClusterModel SplitStop → Type 0
 Splits script r = MatchResult r (SplitsTo script) (SplitStops script)

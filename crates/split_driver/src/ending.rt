@@ -28,7 +28,7 @@ use std::thread::Parker;
 #[derive(Clone, Copy, Debug, PartialEq, Eq)]
 pub(crate) enum End {
     /// Each with the end of its lines.
-    Whole,
+    ClusterModel,
     GaveUp,
     NoMemory,
     Spent { drawn: u64 },
@@ -37,7 +37,7 @@ pub(crate) enum End {
 impl End {
     /// With one actor more, which ended so. That ticks are spent goes before want of memory, and this before an actor that gave up.
     fn then(self, answer: &Result<(), PlayStop>) -> End
-        ensures whole { result ≡ End.Whole → (self ≡ End.Whole) × IsThrough answer.now }
+        ensures whole { result ≡ End.ClusterModel → (self ≡ End.ClusterModel) × IsThrough answer.now }
         ensures spent { IsSpentFrom self answer.now result }
     {
         match (self, answer) {
@@ -45,7 +45,7 @@ impl End {
             (_, Err(PlayStop::Spent { drawn })) => End::Spent { drawn: *drawn },
             (End::NoMemory, _) | (_, Err(PlayStop::NoMemory)) => End::NoMemory,
             (End::GaveUp, _) | (_, Err(_)) => End::GaveUp,
-            (End::Whole, Ok(())) => End::Whole,
+            (End::ClusterModel, Ok(())) => End::ClusterModel,
         }
     }
 }
@@ -64,7 +64,7 @@ pub(crate) fn finish<R: Wait>(
     ensures { Splits (data_of script.now) result }
 {
     match end_of(&played) {
-        End::Whole => settle_whole(alloc, script, split, played),
+        End::ClusterModel => settle_whole(alloc, script, split, played),
         End::GaveUp => settle_torn(rt, alloc, script, split, played),
         End::NoMemory => Err(SplitStop::NoMemory),
         End::Spent { drawn } => Err(SplitStop::Spent { drawn }),
@@ -73,10 +73,10 @@ pub(crate) fn finish<R: Wait>(
 
 // How all actors together have ended.
 fn end_of(played: &[Job]) -> End
-    ensures whole { result ≡ End.Whole → All (λ p. IsThrough p.answer) played.now }
+    ensures whole { result ≡ End.ClusterModel → All (λ p. IsThrough p.answer) played.now }
     ensures spent { IsSpentBy played.now result }
 {
-    let mut end = End::Whole;
+    let mut end = End::ClusterModel;
     for one in played {
         end = end.then(&one.answer);
     }

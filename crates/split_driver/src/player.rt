@@ -20,7 +20,7 @@ use crate::opening::first_event;
 use crate::owing::same_actor;
 use crate::plain::plain_event;
 use crate::{PlayStop, Posting};
-use command_semantics::{Halt, Point, follows, refused};
+use command_semantics::{Interruption, Point, follows, refused};
 use event_parts::Stopped;
 use history_book::{Actor, Cause, Item};
 use script_data::{Line, Verb};
@@ -237,7 +237,7 @@ impl<R: Wait, G: PartGate> Player<'_, R, G> {
         account: &mut Account,
         verb: &Verb,
         event: Event,
-    ) -> Result<Option<Halt>, PlayStop>
+    ) -> Result<Option<Interruption>, PlayStop>
         requires word { seat.old.word ≡ self.now.split.now.id }
         requires paid { is_paid account.old ≡ true }
         requires rises { CanRise event seat.old.entries }
@@ -263,7 +263,7 @@ impl<R: Wait, G: PartGate> Player<'_, R, G> {
         seat: &mut ActorSeat,
         account: &mut Account,
         event: Event,
-    ) -> Result<Option<Halt>, PlayStop>
+    ) -> Result<Option<Interruption>, PlayStop>
         requires word { seat.old.word ≡ self.now.split.now.id }
         requires paid { is_paid account.old ≡ true }
         requires rises { CanRise event seat.old.entries }
@@ -288,7 +288,7 @@ impl<R: Wait, G: PartGate> Player<'_, R, G> {
         seat: &mut ActorSeat,
         account: &mut Account,
         event: Event,
-    ) -> Result<Option<Halt>, PlayStop>
+    ) -> Result<Option<Interruption>, PlayStop>
         requires word { seat.old.word ≡ self.now.split.now.id }
         requires later { follows.IsLater self.now.actor event }
         ensures word { seat.new.word ≡ seat.old.word }
@@ -306,7 +306,7 @@ impl<R: Wait, G: PartGate> Player<'_, R, G> {
     }
 
     /// Makes an event, and says how it stopped, if it did.
-    fn make(&self, seat: &mut ActorSeat, event: Event) -> Result<Option<Halt>, PlayStop>
+    fn make(&self, seat: &mut ActorSeat, event: Event) -> Result<Option<Interruption>, PlayStop>
         requires word { seat.old.word ≡ self.now.split.now.id }
         requires rises { CanRise event seat.old.entries }
         ensures word { seat.new.word ≡ seat.old.word }
@@ -318,13 +318,13 @@ impl<R: Wait, G: PartGate> Player<'_, R, G> {
 }
 
 /// How an event stopped. A refusal and a fault are no end of the lines: they stand in the log.
-fn told(made: Made) -> Result<Option<Halt>, PlayStop>
+fn told(made: Made) -> Result<Option<Interruption>, PlayStop>
     ensures { (event : Event) (old new : Logged) → Makes event made old new → Enters event old new result }
 {
     match made {
         Made::Did => Ok(None),
         Made::Stopped(Stopped::Refused(cause)) => Ok(Some(refused(&cause))),
-        Made::Stopped(Stopped::StoreFault(_)) => Ok(Some(Halt::Faulted)),
+        Made::Stopped(Stopped::StoreFault(_)) => Ok(Some(Interruption::Faulted)),
         Made::Stopped(Stopped::NoMemory) => Err(PlayStop::NoMemory),
         Made::Spent { drawn } => Err(PlayStop::Spent { drawn }),
         Made::NoMemory => Err(PlayStop::NoMemory),
@@ -341,12 +341,12 @@ fn newest(seat: &ActorSeat) -> &Entry
 }
 
 /// Whether the line cannot go on: the parts of the event did not agree, or nothing is under way and yet something is owed.
-fn is_lost(entry: &Entry, halt: Option<Halt>, paid: bool) -> bool {
+fn is_lost(entry: &Entry, halt: Option<Interruption>, paid: bool) -> bool {
     is_torn(entry, halt) || !paid && shows_idle(entry.kept.as_slice())
 }
 
 /// The parts of the event did not agree. An open of a sweep alone appends nothing where it is made.
-fn is_torn(entry: &Entry, halt: Option<Halt>) -> bool {
+fn is_torn(entry: &Entry, halt: Option<Interruption>) -> bool {
     match (entry.event, halt) {
         (Event::SweepOpen { .. }, _) => false,
         (_, None) => entry.kept.is_empty(),

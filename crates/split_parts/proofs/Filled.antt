@@ -14,7 +14,7 @@ use Rattle.system_parts.specs.Record.{Leasing}
 use Rattle.event_parts.specs.declared.stopped.Stopped.{Stopped}
 use Rattle.event_parts.specs.declared.stopped.Stopped.TheVariants.{Refused, StoreFault, NoMemory}
 use Rattle.cluster_core.specs.Required.{CanMake}
-use Rattle.cluster_core.specs.Whole.{Whole, MakesStep}
+use Rattle.cluster_core.specs.ClusterModel.{ClusterModel, MakesStep}
 use Rattle.split_parts.specs.Acts.{Acts, asked_of, noted, step_of, stopped_of}
 use Rattle.split_parts.specs.Agrees.{CallsFit}
 use Rattle.split_parts.specs.Making.{Ends, called_after}
@@ -55,8 +55,8 @@ can_make_then x e swapped can = subst (λ (v : State). CanMake v e) (sym (filled
 pub record Round : Type 0 where
   pub swap : Swap
   pub event : Event
-  pub old : Whole
-  pub now : Whole
+  pub old : ClusterModel
+  pub now : ClusterModel
   pub after : Parts
 
 -- the store that the event asks
@@ -90,7 +90,7 @@ after_leases asked (Err (Refused why)) rules l leases = called_leases asked rule
 after_leases asked (Err (StoreFault s)) rules l leases = called_leases asked rules l leases
 after_leases asked (Err NoMemory) rules l leases = leases
 
-made_setup : (s : State) (e : Event) (fate : Fate) (old now : Whole) (result : Result Unit Stopped) → old.state ≡ s → MakesStep (stepped s e fate) old now result → now.state.setup ≡ s.setup
+made_setup : (s : State) (e : Event) (fate : Fate) (old now : ClusterModel) (result : Result Unit Stopped) → old.state ≡ s → MakesStep (stepped s e fate) old now result → now.state.setup ≡ s.setup
 made_setup s e fate old now (Ok _) at made = ap (λ (v : State). v.setup) made.parts ∙ (leaves_parts s e fate).setup
 made_setup s e fate old now (Err (Refused why)) at made = ap (λ (v : State). v.setup) made.parts ∙ (leaves_parts s e fate).setup
 made_setup s e fate old now (Err (StoreFault x)) at made = ap (λ (v : State). v.setup) made.parts ∙ (leaves_parts s e fate).setup

@@ -11,7 +11,7 @@ ghost use Rattle.split_parts.specs.Parts.{LeasesBySetup, filled, seen, setup_of}
 
 use crate::direct::act_direct;
 use crate::{Event, Lent};
-use cluster_core::Engine;
+use cluster_core::ClusterState;
 use event_parts::Stopped;
 use history_book::Item;
 use machine::Event as TimedEvent;
@@ -63,7 +63,7 @@ fn act_timed(
         return act_direct(alloc, lent, event);
     }
     let name = lent.new_name(event)?;
-    let mut engine = Engine::open(alloc, setup)?;
+    let mut engine = ClusterState::open(alloc, setup)?;
     lent.swap(&mut engine);
     let made = lent.make(&mut engine, event);
     lent.swap(&mut engine);

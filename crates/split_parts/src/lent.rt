@@ -6,7 +6,7 @@ ghost use Rattle.split_parts.specs.Swaps.{client_at, client_in};
 use crate::parts::{
     CellsPart, ClockPart, JanitorPart, MasterPart, NamesPart, NodePart, SessionPart, TablePart,
 };
-use cluster_core::Engine;
+use cluster_core::ClusterState;
 use stamp_base::SessionNo;
 
 /// The parts that are lent to an event: sixteen sessions by their numbers, the janitor, the clock, a node, the three stores, and
@@ -40,7 +40,7 @@ pub struct Lent<'a> {
 
 impl Lent<'_> {
     /// The session's client and the engine's stand for each other from now on, where the session is lent.
-    pub(crate) fn swap_session(&mut self, engine: &mut Engine, number: usize)
+    pub(crate) fn swap_session(&mut self, engine: &mut ClusterState, number: usize)
         requires { number < 16 }
         ensures state { engine.new.state ≡ client_in engine.old.state number (slice_index_or (sessions_seen self.old) number None) }
         ensures history { engine.new.history ≡ engine.old.history }
@@ -70,7 +70,7 @@ impl Lent<'_> {
     }
 }
 
-fn swap_session(engine: &mut Engine, number: usize, part: &mut Option<&mut SessionPart>)
+fn swap_session(engine: &mut ClusterState, number: usize, part: &mut Option<&mut SessionPart>)
     requires { number < 16 }
     ensures state { engine.new.state ≡ client_in engine.old.state number (behind session_of part.old) }
     ensures history { engine.new.history ≡ engine.old.history }

@@ -3,14 +3,14 @@ ghost use Rattle.std.specs.Prelude.{◌≡◌, ◌≤◌, ◌^◌, ◌↔◌, If
 ghost use Rattle.stamp_base.specs.Setups.{numbers_of};
 ghost use Rattle.machine.specs.Machine.{asks, stepped};
 ghost use Rattle.cluster_core.specs.Required.{CanMake};
-ghost use Rattle.cluster_core.specs.Whole.{MakesStep};
+ghost use Rattle.cluster_core.specs.ClusterModel.{MakesStep};
 ghost use Rattle.split_parts.specs.Acts.{noted, timed_by};
 ghost use Rattle.split_parts.specs.Agrees.{CallsFit, ClockFits};
 ghost use Rattle.split_parts.specs.Making.{AddsIf, called_after};
 ghost use Rattle.split_parts.specs.Parts.{base_by, behind, called, fate_of, lead_by, LeasesBySetup, posted_of, reading_by, seen, setup_of};
 
 use crate::{Event, Lent};
-use cluster_core::Engine;
+use cluster_core::ClusterState;
 use event_parts::Stopped;
 use machine::Event as TimedEvent;
 use port_io::{Fate, OneFate};
@@ -169,7 +169,11 @@ impl Lent<'_> {
     }
 
     /// The engine, which the parts fill up, makes the event under the fate that is planned for its store call, which is counted.
-    pub(crate) fn make(&mut self, engine: &mut Engine, event: &TimedEvent) -> Result<(), Stopped>
+    pub(crate) fn make(
+        &mut self,
+        engine: &mut ClusterState,
+        event: &TimedEvent,
+    ) -> Result<(), Stopped>
         requires calls { CallsFit (seen self.old) (asks engine.old.state event.now) }
         requires can { CanMake engine.old.state event.now }
         ensures made { MakesStep (stepped engine.old.state event.now (fate_of (seen self.old) (asks engine.old.state event.now))) engine.old engine.new result }

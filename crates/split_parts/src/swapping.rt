@@ -5,11 +5,11 @@ ghost use Rattle.split_parts.specs.Parts.{behind, given, given_sessions, given_f
 
 use crate::Lent;
 use crate::parts::{CellsPart, JanitorPart, MasterPart, NodePart, TablePart};
-use cluster_core::Engine;
+use cluster_core::ClusterState;
 
 impl Lent<'_> {
     /// Each lent part and the engine's stand for each other from now on. Clock, names and counts of calls stay.
-    pub(crate) fn swap(&mut self, engine: &mut Engine)
+    pub(crate) fn swap(&mut self, engine: &mut ClusterState)
         requires { IfSome (seen self.old).master (λ part. part.rules ≡ rules_of engine.old.state.setup) }
         ensures state { engine.new.state ≡ with_lent engine.old.state (seen self.old) }
         ensures history { engine.new.history ≡ engine.old.history }
@@ -27,7 +27,7 @@ impl Lent<'_> {
         swap_master(engine, &mut self.master);
     }
 
-    fn swap_sessions(&mut self, engine: &mut Engine)
+    fn swap_sessions(&mut self, engine: &mut ClusterState)
         ensures state { engine.new.state ≡ record engine.old.state { clients = lent_clients 16 engine.old.state.clients (sessions_seen self.old) } }
         ensures history { engine.new.history ≡ engine.old.history }
         ensures sessions { sessions_seen self.new ≡ given_sessions 16 (sessions_seen self.old) engine.old.state.clients }
@@ -40,7 +40,7 @@ impl Lent<'_> {
     }
 }
 
-fn swap_janitor(engine: &mut Engine, part: &mut Option<&mut JanitorPart>)
+fn swap_janitor(engine: &mut ClusterState, part: &mut Option<&mut JanitorPart>)
     ensures state { engine.new.state ≡ record engine.old.state { sweep = or_else (behind janitor_of part.old) engine.old.state.sweep } }
     ensures history { engine.new.history ≡ engine.old.history }
     ensures part { behind janitor_of part.new ≡ given (behind janitor_of part.old) engine.old.state.sweep }
@@ -51,7 +51,7 @@ fn swap_janitor(engine: &mut Engine, part: &mut Option<&mut JanitorPart>)
     }
 }
 
-fn swap_node(engine: &mut Engine, part: &mut Option<&mut NodePart>)
+fn swap_node(engine: &mut ClusterState, part: &mut Option<&mut NodePart>)
     ensures state { engine.new.state ≡ record engine.old.state { nodes = lent_nodes engine.old.state.nodes (behind node_of part.old) } }
     ensures history { engine.new.history ≡ engine.old.history }
     ensures part { behind node_of part.new ≡ given_node engine.old.state.nodes (behind node_of part.old) }
@@ -62,7 +62,7 @@ fn swap_node(engine: &mut Engine, part: &mut Option<&mut NodePart>)
     }
 }
 
-fn swap_cells(engine: &mut Engine, part: &mut Option<&mut CellsPart>)
+fn swap_cells(engine: &mut ClusterState, part: &mut Option<&mut CellsPart>)
     ensures state { engine.new.state ≡ record engine.old.state { rows = lent_rows engine.old.state.rows (behind cells_of part.old) } }
     ensures history { engine.new.history ≡ engine.old.history }
     ensures part { behind cells_of part.new ≡ given_rows engine.old.state.rows (behind cells_of part.old) }
@@ -73,7 +73,7 @@ fn swap_cells(engine: &mut Engine, part: &mut Option<&mut CellsPart>)
     }
 }
 
-fn swap_table(engine: &mut Engine, part: &mut Option<&mut TablePart>)
+fn swap_table(engine: &mut ClusterState, part: &mut Option<&mut TablePart>)
     ensures state { engine.new.state ≡ record engine.old.state { pairs = lent_pairs engine.old.state.pairs (behind table_of part.old) } }
     ensures history { engine.new.history ≡ engine.old.history }
     ensures part { behind table_of part.new ≡ given_pairs engine.old.state.pairs (behind table_of part.old) }
@@ -84,7 +84,7 @@ fn swap_table(engine: &mut Engine, part: &mut Option<&mut TablePart>)
     }
 }
 
-fn swap_master(engine: &mut Engine, part: &mut Option<&mut MasterPart>)
+fn swap_master(engine: &mut ClusterState, part: &mut Option<&mut MasterPart>)
     requires { IfSome (behind master_of part.old) (λ part. part.rules ≡ rules_of engine.old.state.setup) }
     ensures state { engine.new.state ≡ record engine.old.state { master = lent_master engine.old.state.master (behind master_of part.old) } }
     ensures history { engine.new.history ≡ engine.old.history }

@@ -20,7 +20,7 @@ use Rattle.command_semantics.proofs.Ending.{opening_reached}
 use Rattle.command_semantics.proofs.Timing.{Timed, InTime, in_time}
 use Rattle.command_semantics.specs.SoFar.{ReadsClocks}
 use Rattle.command_semantics.specs.Orders.{EventsStayTold, IsTold}
-use Rattle.cluster_core.specs.Whole.{Whole}
+use Rattle.cluster_core.specs.ClusterModel.{ClusterModel}
 use Rattle.planned_cluster.specs.Standing.{StandsAt}
 use Rattle.split_parts.specs.declared.event.Event.{Event}
 use Rattle.split_parts.specs.declared.event.Event.TheVariants as event
@@ -81,7 +81,7 @@ unfolding entries_played
 none_played script = refl
 
 -- the first entries were made again, the cluster stands where they lead to, and the clock has room for the others
-pub record StandsAfter (script : ScriptData) (done left : List Entry) (whole : Whole) (clock : ℕ) (ahead : Store → ℕ → Fate) : Type 0 where
+pub record StandsAfter (script : ScriptData) (done left : List Entry) (whole : ClusterModel) (clock : ℕ) (ahead : Store → ℕ → Fate) : Type 0 where
   pub stands : StandsAt script (merged_played script done) whole clock ahead
   pub told : IsTold script (merged_played script done)
   pub replayed : AllReplayed script done
@@ -96,7 +96,7 @@ pub record IsOnTime (script : ScriptData) : Type 0 where
 none_replayed : (script : ScriptData) → AllReplayed script []
 none_replayed script = record { at = λ place x found. absurd (some_is_none _ found) }
 
-pub stands_first : (script : ScriptData) (merged : List Entry) (whole : Whole) (clock : ℕ) (ahead : Store → ℕ → Fate) → IsSound script → StandsAt script (opening_played script) whole clock ahead → risen_by merged ≤ 28587302322176 → StandsAfter script [] merged whole clock ahead
+pub stands_first : (script : ScriptData) (merged : List Entry) (whole : ClusterModel) (clock : ℕ) (ahead : Store → ℕ → Fate) → IsSound script → StandsAt script (opening_played script) whole clock ahead → risen_by merged ≤ 28587302322176 → StandsAfter script [] merged whole clock ahead
 stands_first script merged whole clock ahead sound at few =
     let none : merged_played script [] ≡ opening_played script = none_played script in
     record {
@@ -115,19 +115,19 @@ timed_next script p e on_time told room =
 first_fits : (clock : ℕ) (e : Entry) (rest : List Entry) → clock + risen_by (e ∷ rest) ≤ 28587302322176 → clock + rise_of e.event ≤ 28587302322176
 first_fits clock e rest room = omega (arith, room, sum_by-cons (λ (x : Entry). rise_of x.event) e rest)
 
-pub next_fits : (script : ScriptData) (done left rest : List Entry) (e : Entry) (whole : Whole) (clock : ℕ) (ahead : Store → ℕ → Fate) → left ≡ e ∷ rest → StandsAfter script done left whole clock ahead → clock + rise_of e.event ≤ 2 ^ 60
+pub next_fits : (script : ScriptData) (done left rest : List Entry) (e : Entry) (whole : ClusterModel) (clock : ℕ) (ahead : Store → ℕ → Fate) → left ≡ e ∷ rest → StandsAfter script done left whole clock ahead → clock + rise_of e.event ≤ 2 ^ 60
 next_fits script done left rest e whole clock ahead split h =
     let few : (merged_played script done).clock + rise_of e.event ≤ 28587302322176 = first_fits _ e rest (subst (λ (es : List Entry). (merged_played script done).clock + risen_by es ≤ 28587302322176) split h.room) in
     omega (arith, few, h.stands.time)
 
-steady_there : (script : ScriptData) (p : Played) (e : Event) (whole : Whole) (clock : ℕ) (leads : List ℕ) → whole.state ≡ p.state → clock ≡ p.clock → leads ≡ script.leads → p.state.setup ≡ script.setup → IsSteadyAt script.setup.skew p.state.seen (reading_of (timed_in script p e)) → IsSteadyAt whole.state.setup.skew whole.state.seen (reading_of (timed_at clock leads e))
+steady_there : (script : ScriptData) (p : Played) (e : Event) (whole : ClusterModel) (clock : ℕ) (leads : List ℕ) → whole.state ≡ p.state → clock ≡ p.clock → leads ≡ script.leads → p.state.setup ≡ script.setup → IsSteadyAt script.setup.skew p.state.seen (reading_of (timed_in script p e)) → IsSteadyAt whole.state.setup.skew whole.state.seen (reading_of (timed_at clock leads e))
 steady_there script p e whole clock leads state time same setup steady =
     let of_state : IsSteadyAt p.state.setup.skew p.state.seen (reading_of (timed_in script p e)) = subst (λ (s : SetupNumbers). IsSteadyAt s.skew p.state.seen (reading_of (timed_in script p e))) (sym setup) steady in
     let here : IsSteadyAt whole.state.setup.skew whole.state.seen (reading_of (timed_in script p e)) = subst (λ (w : State). IsSteadyAt w.setup.skew w.seen (reading_of (timed_in script p e))) (sym state) of_state in
     let at_clock : IsSteadyAt whole.state.setup.skew whole.state.seen (reading_of (timed_at clock script.leads e)) = subst (λ (n : ℕ). IsSteadyAt whole.state.setup.skew whole.state.seen (reading_of (timed_at n script.leads e))) (sym time) here in
     subst (λ (ls : List ℕ). IsSteadyAt whole.state.setup.skew whole.state.seen (reading_of (timed_at clock ls e))) (sym same) at_clock
 
-pub next_steady : (script : ScriptData) (done left rest : List Entry) (e : Entry) (whole : Whole) (clock : ℕ) (leads : List ℕ) (ahead : Store → ℕ → Fate) → left ≡ e ∷ rest → IsOnTime script → leads ≡ script.leads → StandsAfter script done left whole clock ahead → IsSteadyAt whole.state.setup.skew whole.state.seen (reading_of (timed_at clock leads e.event))
+pub next_steady : (script : ScriptData) (done left rest : List Entry) (e : Entry) (whole : ClusterModel) (clock : ℕ) (leads : List ℕ) (ahead : Store → ℕ → Fate) → left ≡ e ∷ rest → IsOnTime script → leads ≡ script.leads → StandsAfter script done left whole clock ahead → IsSteadyAt whole.state.setup.skew whole.state.seen (reading_of (timed_at clock leads e.event))
 next_steady script done left rest e whole clock leads ahead split on_time same h =
     let few : (merged_played script done).clock + rise_of e.event ≤ 28587302322176 = first_fits _ e rest (subst (λ (es : List Entry). (merged_played script done).clock + risen_by es ≤ 28587302322176) split h.room) in
     steady_there script (merged_played script done) e.event whole clock leads h.stands.state h.stands.time same h.told.reached.setup (timed_next script (merged_played script done) e.event on_time h.told few).steady
@@ -139,7 +139,7 @@ kept_push script done e kept here =
     ∙ flat_map_more (λ (x : Entry). x.kept.items) [] done e
 
 -- one more entry was made again, and agreed
-pub stands_more : EventsStayTold → (script : ScriptData) (done left rest : List Entry) (e : Entry) (old new : Whole) (clock later : ℕ) (ahead now : Store → ℕ → Fate) → left ≡ e ∷ rest → IsOnTime script → StandsAfter script done left old clock ahead → IsReplayed script (merged_played script done) e → StandsAt script (played_with script (merged_played script done) e.event) new later now → StandsAfter script (done ++ e ∷ []) rest new later now
+pub stands_more : EventsStayTold → (script : ScriptData) (done left rest : List Entry) (e : Entry) (old new : ClusterModel) (clock later : ℕ) (ahead now : Store → ℕ → Fate) → left ≡ e ∷ rest → IsOnTime script → StandsAfter script done left old clock ahead → IsReplayed script (merged_played script done) e → StandsAt script (played_with script (merged_played script done) e.event) new later now → StandsAfter script (done ++ e ∷ []) rest new later now
 stands_more law script done left rest e old new clock later ahead now split on_time h here at =
     let p : Played = merged_played script done in
     let next : Played = played_with script p e.event in
@@ -163,7 +163,7 @@ left_at merged i e within is = drop_more merged i e within ∙ ap (λ (x : Entry
 pub done_at : (merged : List Entry) (i : ℕ) (e : Entry) → i < length merged → e ≡ slice_index_or merged i e → take i merged ++ e ∷ [] ≡ take (i + 1) merged
 done_at merged i e within is = ap (λ (x : Entry). take i merged ++ x ∷ []) is ∙ sym (take_more merged i e within)
 
-pub settled_at : (script : ScriptData) (merged left : List Entry) (i : ℕ) (whole : Whole) (clock : ℕ) (ahead : Store → ℕ → Fate) → length merged ≤ i → StandsAfter script (take i merged) left whole clock ahead → IsSettledAt script merged whole
+pub settled_at : (script : ScriptData) (merged left : List Entry) (i : ℕ) (whole : ClusterModel) (clock : ℕ) (ahead : Store → ℕ → Fate) → length merged ≤ i → StandsAfter script (take i merged) left whole clock ahead → IsSettledAt script merged whole
 settled_at script merged left i whole clock ahead past h =
     let all : take i merged ≡ merged = take_all i merged past in
     let at : StandsAfter script merged left whole clock ahead = subst (λ (es : List Entry). StandsAfter script es left whole clock ahead) all h in

@@ -6,7 +6,7 @@ use Rattle.machine.specs.declared.event.Event as machine
 use Rattle.machine.specs.declared.event.Event.TheVariants as timed
 use Rattle.script_data.specs.Data.{ScriptData}
 use Rattle.command_semantics.specs.Runs.{Played, played, opening_played, step_of}
-use Rattle.cluster_core.specs.Whole.{Whole}
+use Rattle.cluster_core.specs.ClusterModel.{ClusterModel}
 use Rattle.split_parts.specs.declared.event.Event.{Event}
 use Rattle.split_parts.specs.declared.event.Event.TheVariants as event
 use Rattle.split_stores.specs.declared.seat.Entry.{Entry}
@@ -78,14 +78,14 @@ kept_items entries = flat_map (λ e. e.kept.items) entries
 
 -- the cluster is where these entries lead to in this order, all of which kept what their steps append; and its history is what
 -- they kept, each item once
-pub record IsSettledAt (script : ScriptData) (merged : List Entry) (whole : Whole) : Type 0 where
+pub record IsSettledAt (script : ScriptData) (merged : List Entry) (whole : ClusterModel) : Type 0 where
   pub replayed : AllReplayed script merged
   pub state : whole.state ≡ (merged_played script merged).state
   pub items : whole.history ≡ (merged_played script merged).items
   pub history : whole.history ≡ kept_items merged
 
 -- so it is with the entries of all logs, in the order of their ticks
-pub record Settled (script : ScriptData) (logs : List Entry) (whole : Whole) : Type 0 where
+pub record Settled (script : ScriptData) (logs : List Entry) (whole : ClusterModel) : Type 0 where
   pub merged : List Entry
   pub in_order : InTickOrder logs merged
   pub settled : IsSettledAt script merged whole

@@ -6,7 +6,7 @@ use Rattle.command_semantics.specs.Runs.{Played}
 use Rattle.command_semantics.specs.Laws.{IsPlayable}
 use Rattle.command_semantics.specs.Planned.{with_tick, ticks_in, Planned}
 use Rattle.command_semantics.specs.Orders.{TimedEvent}
-use Rattle.cluster_core.specs.Whole.{Whole}
+use Rattle.cluster_core.specs.ClusterModel.{ClusterModel}
 use Rattle.split_parts.specs.declared.event.Event.{Event}
 use Rattle.split_parts.specs.declared.event.Event.TheVariants as event
 use Rattle.split_stores.specs.declared.seat.Entry.{Entry}
@@ -31,10 +31,10 @@ without_lines script = record script { lines = [] }
 
 -- what is settled by a script's plan is settled by the script
 abbrev pub SettledByPlans : Type 0
-SettledByPlans = (script : ScriptData) (logs : List Entry) (whole : Whole) (settled : Settled (without_lines script) logs whole) → IsSettledAt script settled.merged whole
+SettledByPlans = (script : ScriptData) (logs : List Entry) (whole : ClusterModel) (settled : Settled (without_lines script) logs whole) → IsSettledAt script settled.merged whole
 
 -- and its history is as planned, where the clock ticks as the script's lines say
 abbrev pub SettledIsPlanned : Type 0
 SettledIsPlanned =
-    (script : ScriptData) (logs : List Entry) (whole : Whole) (settled : Settled (without_lines script) logs whole) → AreInRange script.setup → IsPlayable script 0 script.lines → rises_in settled.merged ≡ ticks_in script.lines →
+    (script : ScriptData) (logs : List Entry) (whole : ClusterModel) (settled : Settled (without_lines script) logs whole) → AreInRange script.setup → IsPlayable script 0 script.lines → rises_in settled.merged ≡ ticks_in script.lines →
     Planned script whole.history

@@ -9,7 +9,7 @@ ghost use Rattle.split_stores.specs.declared.seat.Entry.{Entry as LoggedEntry};
 use crate::seat::{ActorSeat, Entry};
 use stamp_base::NoMemory;
 use std::alloc::Global;
-use tick_word::{TickSeat, TickWord};
+use tick_word::{TickHandle, TickWord};
 
 /// The entries of all seats of the word in the order of their ticks. Each seat's log raises the base clock by less than 2^40.
 pub(crate) fn merge(
@@ -33,7 +33,7 @@ fn gather(
     entries: &mut Vec<Entry>,
     word: &TickWord,
     seats: Vec<ActorSeat>,
-) -> Result<Option<TickSeat>, NoMemory>
+) -> Result<Option<TickHandle>, NoMemory>
     requires of_word { All (λ s. s.word ≡ word.now.id) seats.items }
     requires none { entries.old.items ≡ [] }
     ensures of_word { IfOk result (IsOf word.now.id) }
@@ -67,7 +67,7 @@ fn by_tick(entries: Vec<Entry>) -> Result<Vec<Entry>, NoMemory>
 }
 
 /// The last tick. All up to it were drawn.
-fn ended(word: TickWord, whole: Option<TickSeat>) -> u64
+fn ended(word: TickWord, whole: Option<TickHandle>) -> u64
     requires of_word { IsOf word.id whole }
     requires all { parts_by whole ≡ word.seats }
     ensures { AreTicks result (drawn_by whole) }
@@ -79,7 +79,7 @@ fn ended(word: TickWord, whole: Option<TickSeat>) -> u64
 }
 
 /// The seat with what was joined so far.
-fn joined(word: &TickWord, whole: Option<TickSeat>, seat: TickSeat) -> TickSeat
+fn joined(word: &TickWord, whole: Option<TickHandle>, seat: TickHandle) -> TickHandle
     requires whole { IsOf word.now.id whole }
     requires seat { seat.word ≡ word.now.id }
     ensures word { result.word ≡ word.now.id }

@@ -11,13 +11,13 @@ use split_parts::{NodePart, SessionPart};
 use stamp_base::{NoMemory, NodeNo, SessionNo};
 use std::alloc::Global;
 use std::sync::Mutex;
-use tick_word::{TickSeat, TickWord};
+use tick_word::{TickHandle, TickWord};
 
 /// One seat with one part for each actor.
 pub(crate) fn cut(
     alloc: Global,
     word: &TickWord,
-    rest: TickSeat,
+    rest: TickHandle,
     actors: usize,
 ) -> Result<Vec<ActorSeat>, NoMemory>
     requires word { rest.word ≡ word.now.id }

@@ -8,7 +8,7 @@ use history_book::Item;
 use stamp_base::NoMemory;
 use std::alloc::Global;
 use std::marker::Model;
-use tick_word::{TickSeat, TickWord};
+use tick_word::{TickHandle, TickWord};
 
 /// An event, the tick that it drew, and the items that it appended.
 #[derive(Drop)]
@@ -23,7 +23,7 @@ pub struct Entry {
 pub struct ActorSeat {
     pub(crate) entries: Vec<Entry>,
     pub(crate) risen: u64,
-    pub(crate) seat: TickSeat,
+    pub(crate) seat: TickHandle,
 }
 
 impl Model for ActorSeat {
@@ -39,7 +39,7 @@ impl Model for ActorSeat {
 }
 
 impl ActorSeat {
-    pub(crate) fn new(alloc: Global, seat: TickSeat) -> ActorSeat
+    pub(crate) fn new(alloc: Global, seat: TickHandle) -> ActorSeat
         requires { (seat.parts ≡ 1) × (seat.drawn ≡ []) }
         ensures { IsNew seat.word result }
     {

@@ -6,4 +6,4 @@ mod rule;
 mod word;
 
 pub use rule::TickView;
-pub use word::{PART_LIMIT, SEAT_LIMIT, TickSeat, TickWord};
+pub use word::{PART_LIMIT, SEAT_LIMIT, TickHandle, TickWord};

@@ -33,11 +33,11 @@ impl Model for TickWord {
 
 /// The right to draw ticks, in one part for each thread, with the ticks that were drawn through it.
 #[derive(Drop)]
-pub struct TickSeat {
+pub struct TickHandle {
     seat: WordSeat,
 }
 
-impl Model for TickSeat {
+impl Model for TickHandle {
     ghost use Rattle.std.specs.Prelude.{◌≡◌, []};
     ghost use Rattle.tick_word.specs.Seats.{Seated, seated};
 
@@ -50,30 +50,30 @@ impl Model for TickSeat {
 
 impl TickWord {
     /// A word of which nothing was drawn, and a seat with all its parts, at most `PART_LIMIT`.
-    pub fn open(alloc: Global, seats: u64) -> Result<(TickWord, TickSeat), NoMemory>
+    pub fn open(alloc: Global, seats: u64) -> Result<(TickWord, TickHandle), NoMemory>
         requires { seats ≤ PART_LIMIT }
         ensures word { IfOk result (λ made. made.0.seats ≡ seats) }
         ensures seat { IfOk result (λ made. made.1 ≡ seated made.0.id seats []) }
     {
         let (table, seat) = Word::of_words(alloc, &[0], &seats)?;
-        Ok((TickWord { table }, TickSeat { seat }))
+        Ok((TickWord { table }, TickHandle { seat }))
     }
 
     /// A seat with one part, which a seat that has drawn nothing gives away.
-    pub fn split(&self, seat: &mut TickSeat) -> TickSeat
+    pub fn split(&self, seat: &mut TickHandle) -> TickHandle
         requires word { seat.old.word ≡ self.now.id }
         requires parts { (0 < seat.old.parts) × (seat.old.drawn ≡ []) }
         ensures left { seat.new ≡ seated self.now.id (seat.old.parts - 1) [] }
         ensures made { result ≡ seated self.now.id 1 [] }
     {
-        TickSeat {
+        TickHandle {
             seat: self.table.shared.split_seat::<Cut>(&mut seat.seat),
         }
     }
 
     /// Draws the next tick: no other draw gives it, and it is above all that the seat has drawn. A seat draws at most
     /// `SEAT_LIMIT` ticks.
-    pub fn draw(&self, seat: &mut TickSeat) -> u64
+    pub fn draw(&self, seat: &mut TickHandle) -> u64
         requires word { seat.old.word ≡ self.now.id }
         requires parts { seat.old.parts ≡ 1 }
         requires room { length seat.old.drawn < seat_limit }
@@ -84,24 +84,24 @@ impl TickWord {
     }
 
     /// Two seats become one, which has drawn what both have.
-    pub fn join(&self, seat: TickSeat, other: TickSeat) -> TickSeat
+    pub fn join(&self, seat: TickHandle, other: TickHandle) -> TickHandle
         requires { (seat.word ≡ self.now.id) × (other.word ≡ self.now.id) }
         ensures { result ≡ seated self.now.id (seat.parts + other.parts) (seat.drawn ++ other.drawn) }
     {
-        let TickSeat { seat: mut mine } = seat;
-        let TickSeat { seat: theirs } = other;
+        let TickHandle { seat: mut mine } = seat;
+        let TickHandle { seat: theirs } = other;
         self.table.shared.join_seat::<Together>(&mut mine, theirs);
-        TickSeat { seat: mine }
+        TickHandle { seat: mine }
     }
 
     /// The last tick. The seat, which has every part, has drawn all ticks from 1 to it, each once.
-    pub fn close(self, seat: TickSeat) -> u64
+    pub fn close(self, seat: TickHandle) -> u64
         requires word { seat.word ≡ self.id }
         requires parts { seat.parts ≡ self.seats }
         ensures { AreTicks result seat.drawn }
     {
         let TickWord { table } = self;
-        let TickSeat { seat: all } = seat;
+        let TickHandle { seat: all } = seat;
         let closed = table.close_with(all);
         let last = closed.word(0);
         closed.free();

@@ -12,8 +12,8 @@ use Rattle.command_semantics.specs.declared.point.Point.{Point}
 use Rattle.command_semantics.specs.declared.point.Point.TheVariants.{Opens, Drives, Extends, Finishes, Reads, Steps, Over}
 use Rattle.command_semantics.specs.declared.point.View.{View}
 use Rattle.command_semantics.specs.Next.{Clocks, is_served, places, name_opens, finish_next, placing_next, idle_next, extend_next, read_next, steps_next, collect_next, drive_next, serves, clock_opens, node_opens, session_opens, session_next, janitor_next, opens_alone, next}
-use Rattle.turn_rules.specs.declared.ahead.Ahead.{Ahead}
-use Rattle.turn_rules.specs.declared.ahead.Ahead.TheVariants.{Makes, Waits, Passes}
+use Rattle.turn_rules.specs.declared.ahead.NextAction.{NextAction}
+use Rattle.turn_rules.specs.declared.ahead.NextAction.TheVariants.{Makes, Waits, Passes}
 use Rattle.turn_rules.specs.declared.ahead.Why.{Why}
 use Rattle.turn_rules.specs.Waiting.{made_next, drive_ahead, collect_ahead, own_opens, own_next}
 use Rattle.turn_rules.specs.Seats.{is_passed}
@@ -77,13 +77,13 @@ next_alike one two (Session session) v point view = session_alike one two sessio
 next_alike one two Janitor v point view = same_next (janitor_next v view point)
 
 -- ---- what is ahead
-abbrev pub Alike : Ahead → Ahead → Type 0
+abbrev pub Alike : NextAction → NextAction → Type 0
 Alike (Makes e) (Makes f) = Unit {0}
 Alike (Waits why) (Waits other) = why ≡ other
 Alike Passes Passes = Unit {0}
 Alike _ _ = ⊥
 
-alike_same : (ahead : Ahead) → Alike ahead ahead
+alike_same : (ahead : NextAction) → Alike ahead ahead
 alike_same (Makes e) = tt
 alike_same (Waits why) = refl
 alike_same Passes = tt
@@ -113,13 +113,13 @@ ahead_alike one two posted (Session session) v Extends view unawaited = tt
 ahead_alike one two posted actor v point view unawaited = alike_next one two actor v point view
 
 -- ---- one is passed, waits or makes an event where the other does
-pub passed_alike : (one two : Ahead) → Alike one two → is_passed one ≡ is_passed two
+pub passed_alike : (one two : NextAction) → Alike one two → is_passed one ≡ is_passed two
 passed_alike (Makes e) (Makes f) alike = refl
 passed_alike (Waits why) (Waits other) alike = refl
 passed_alike Passes Passes alike = refl
 passed_alike _ _ alike = absurd alike
 
-pub waits_alike : (one two : Ahead) (why : Why) → Alike one two → one ≡ Waits why → two ≡ Waits why
+pub waits_alike : (one two : NextAction) (why : Why) → Alike one two → one ≡ Waits why → two ≡ Waits why
 waits_alike (Waits on) (Waits other) why alike is = ap (λ (w : Why). Waits w) (sym alike) ∙ is
 waits_alike (Makes e) two why alike is = absurd (cc)
 waits_alike Passes two why alike is = absurd (cc)

@@ -12,16 +12,16 @@ use Rattle.machine.specs.State.{State}
 use Rattle.machine.specs.Machine.{stepped}
 use Rattle.script_data.specs.declared.line.Verb.{Verb}
 use Rattle.script_data.specs.declared.line.Verb.TheVariants as verb
-use Rattle.isolation_laws.specs.Sound.{Stands}
+use Rattle.isolation_laws.specs.Sound.{ReachedInvariant}
 use Rattle.command_semantics.specs.declared.point.Point.{Point}
 use Rattle.command_semantics.specs.declared.point.Point.TheVariants.{Opens, Drives, Extends, Finishes, Reads, Steps, Over}
 use Rattle.command_semantics.specs.declared.point.View.{View}
-use Rattle.command_semantics.specs.Halts.{halt_of, follows}
+use Rattle.command_semantics.specs.Interruptions.{halt_of, follows}
 use Rattle.command_semantics.specs.Laws.{EventsLowerWhatIsLeft}
 use Rattle.command_semantics.specs.Left.{drive_left, left}
 use Rattle.command_semantics.specs.Next.{Clocks, is_served, places, placing_next, drive_next, idle_next, collect_next, next}
 use Rattle.command_semantics.specs.Views.{view_of}
-use Rattle.turn_rules.specs.declared.ahead.Ahead.TheVariants.{Waits, Passes}
+use Rattle.turn_rules.specs.declared.ahead.NextAction.TheVariants.{Waits, Passes}
 use Rattle.turn_rules.specs.declared.ahead.Why.TheVariants.{Reply, Name}
 use Rattle.turn_rules.specs.Waiting.{made_next, drive_ahead, collect_ahead, own_opens, own_next}
 use Rattle.turn_rules.specs.Carried.{made_by}
@@ -88,18 +88,18 @@ collects_session clocks Clock view e is = absurd (none-some e is)
 collects_session clocks (Node n) view e is = absurd (none-some e is)
 collects_session clocks Janitor view e is = absurd (none-some e is)
 
-collect_lowers : EventsLowerWhatIsLeft → (clocks : Clocks) (w : State) (h : List Item) (s : ℕ) (e : Event) (fate : Fate) → Stands w h → next clocks (Session s) verb.Collect Drives (view_of w (Session s)) ≡ Some e → left (stepped w e fate).state (Session s) verb.Collect (follows verb.Collect Opens (halt_of (stepped w e fate).stop)) < left w (Session s) verb.Collect Opens
+collect_lowers : EventsLowerWhatIsLeft → (clocks : Clocks) (w : State) (h : List Item) (s : ℕ) (e : Event) (fate : Fate) → ReachedInvariant w h → next clocks (Session s) verb.Collect Drives (view_of w (Session s)) ≡ Some e → left (stepped w e fate).state (Session s) verb.Collect (follows verb.Collect Opens (halt_of (stepped w e fate).stop)) < left w (Session s) verb.Collect Opens
 collect_lowers lowers clocks w h s e fate stands is =
     let less : left (stepped w e fate).state (Session s) verb.Collect (follows verb.Collect Drives (halt_of (stepped w e fate).stop)) < drive_left w s = lowers w h clocks (Session s) verb.Collect Drives e fate stands is in
     omega (arith, less)
 
-collects_lower : EventsLowerWhatIsLeft → (clocks : Clocks) (w : State) (h : List Item) (actor : Actor) (e : Event) (fate : Fate) → Stands w h → next clocks actor verb.Collect Drives (view_of w actor) ≡ Some e → left (stepped w e fate).state actor verb.Collect (follows verb.Collect Opens (halt_of (stepped w e fate).stop)) < left w actor verb.Collect Opens
+collects_lower : EventsLowerWhatIsLeft → (clocks : Clocks) (w : State) (h : List Item) (actor : Actor) (e : Event) (fate : Fate) → ReachedInvariant w h → next clocks actor verb.Collect Drives (view_of w actor) ≡ Some e → left (stepped w e fate).state actor verb.Collect (follows verb.Collect Opens (halt_of (stepped w e fate).stop)) < left w actor verb.Collect Opens
 collects_lower lowers clocks w h actor e fate stands is =
     let who = collects_session clocks actor (view_of w actor) e is in
     let mine : next clocks (Session who.0) verb.Collect Drives (view_of w (Session who.0)) ≡ Some e = subst (λ (a : Actor). next clocks a verb.Collect Drives (view_of w a) ≡ Some e) who.1 is in
     subst (λ (a : Actor). left (stepped w e fate).state a verb.Collect (follows verb.Collect Opens (halt_of (stepped w e fate).stop)) < left w a verb.Collect Opens) (sym who.1) (collect_lowers lowers clocks w h who.0 e fate stands mine)
 
-pub next_lowers : EventsLowerWhatIsLeft → (clocks : Clocks) (w : State) (h : List Item) (actor : Actor) (line : Verb) (at : Point) (e : Event) (fate : Fate) → Stands w h → IsNextOf clocks actor line at (view_of w actor) e → left (stepped w e fate).state actor line (follows line at (halt_of (stepped w e fate).stop)) < left w actor line at
+pub next_lowers : EventsLowerWhatIsLeft → (clocks : Clocks) (w : State) (h : List Item) (actor : Actor) (line : Verb) (at : Point) (e : Event) (fate : Fate) → ReachedInvariant w h → IsNextOf clocks actor line at (view_of w actor) e → left (stepped w e fate).state actor line (follows line at (halt_of (stepped w e fate).stop)) < left w actor line at
 next_lowers lowers clocks w h actor line at e fate stands (inl is) = lowers w h clocks actor line at e fate stands is
 next_lowers lowers clocks w h actor line at e fate stands (inr (at_is, line_is, is)) =
     let mine : next clocks actor verb.Collect Drives (view_of w actor) ≡ Some e = subst (λ (v : Verb). next clocks actor v Drives (view_of w actor) ≡ Some e) line_is is in

@@ -15,8 +15,8 @@ use Rattle.command_semantics.specs.declared.point.View.{View}
 use Rattle.command_semantics.specs.Answers.{clock_opening, node_opening, session_opening, name_opening, has_opening}
 use Rattle.command_semantics.specs.Next.{Clocks, is_served, finish_next, places, placing_next, idle_next, read_next, steps_next, sweep_next}
 use Rattle.command_semantics.proofs.LaterEvents.{IsLater}
-use Rattle.turn_rules.specs.declared.ahead.Ahead.{Ahead}
-use Rattle.turn_rules.specs.declared.ahead.Ahead.TheVariants.{Makes, Waits, Passes}
+use Rattle.turn_rules.specs.declared.ahead.NextAction.{NextAction}
+use Rattle.turn_rules.specs.declared.ahead.NextAction.TheVariants.{Makes, Waits, Passes}
 use Rattle.turn_rules.specs.declared.ahead.Why.TheVariants.{Reply}
 use Rattle.turn_rules.specs.Waiting.{made_next, drive_ahead, collect_ahead, own_opens, own_next}
 use Rattle.turn_rules.specs.Told.{IsForThreads}
@@ -34,11 +34,11 @@ abbrev IfKind : Actor → Option Event → Type 0
 IfKind actor None = Unit {0}
 IfKind actor (Some e) = OwnKind actor e
 
-abbrev pub AheadKind : Actor → Ahead → Type 0
-AheadKind actor (Makes e) = OwnKind actor e
-AheadKind actor _ = Unit {0}
+abbrev pub NextActionKind : Actor → NextAction → Type 0
+NextActionKind actor (Makes e) = OwnKind actor e
+NextActionKind actor _ = Unit {0}
 
-made_kind : (actor : Actor) (found : Option Event) → IfKind actor found → AheadKind actor (made_next found)
+made_kind : (actor : Actor) (found : Option Event) → IfKind actor found → NextActionKind actor (made_next found)
 made_kind actor None kind = tt
 made_kind actor (Some e) kind = kind
 
@@ -70,20 +70,20 @@ steps_kind s doing.OpenOutcome = refl
 steps_kind s doing.Completing = refl
 steps_kind s _ = tt
 
-waits_kind : (actor : Actor) (served : Bool) → AheadKind actor (cond served (Waits Reply) Passes)
+waits_kind : (actor : Actor) (served : Bool) → NextActionKind actor (cond served (Waits Reply) Passes)
 waits_kind actor true = tt
 waits_kind actor false = tt
 
-drive_kind : (s : ℕ) (line : Verb) (view : View) (request : Option (ℕ × Place)) → AheadKind (Session s) (drive_ahead s line view request)
+drive_kind : (s : ℕ) (line : Verb) (view : View) (request : Option (ℕ × Place)) → NextActionKind (Session s) (drive_ahead s line view request)
 drive_kind s line view None = made_kind (Session s) (placing_next s view.doing (places line)) (placing_kind s view.doing (places line))
 drive_kind s line view (Some request) = waits_kind (Session s) (is_served line request.1)
 
-collect_kind : (s : ℕ) (view : View) (unawaited : Bool) (request : Option (ℕ × Place)) → AheadKind (Session s) (collect_ahead s view unawaited request)
+collect_kind : (s : ℕ) (view : View) (unawaited : Bool) (request : Option (ℕ × Place)) → NextActionKind (Session s) (collect_ahead s view unawaited request)
 collect_kind s view unawaited (Some request) = tt
 collect_kind s view true None = made_kind (Session s) (placing_next s view.doing true) (placing_kind s view.doing true)
 collect_kind s view false None = made_kind (Session s) (idle_next s view.doing) (idle_kind s view.doing)
 
-session_first : (clocks : Clocks) (posted : Bool) (s : ℕ) (line : Verb) (view : View) (unawaited : Bool) → session_opening line ≡ false → AheadKind (Session s) (own_opens clocks posted (Session s) line view unawaited)
+session_first : (clocks : Clocks) (posted : Bool) (s : ℕ) (line : Verb) (view : View) (unawaited : Bool) → session_opening line ≡ false → NextActionKind (Session s) (own_opens clocks posted (Session s) line view unawaited)
 session_first clocks posted s verb.Collect view unawaited none = collect_kind s view unawaited view.request
 session_first clocks posted s verb.Abort view unawaited none = refl
 session_first clocks posted s verb.Heal view unawaited none = refl
@@ -103,7 +103,7 @@ session_first clocks posted s (verb.Await name) view unawaited none = absurd (cc
 session_first clocks posted s _ view unawaited none = tt
 
 -- ---- a node, the clock and the janitor
-node_first : (clocks : Clocks) (posted : Bool) (n : ℕ) (line : Verb) (view : View) (unawaited : Bool) → IsForThreads line → node_opening line ≡ false → AheadKind (Node n) (own_opens clocks posted (Node n) line view unawaited)
+node_first : (clocks : Clocks) (posted : Bool) (n : ℕ) (line : Verb) (view : View) (unawaited : Bool) → IsForThreads line → node_opening line ≡ false → NextActionKind (Node n) (own_opens clocks posted (Node n) line view unawaited)
 node_first clocks posted n verb.Take view unawaited on none = absurd (cc)
 node_first clocks posted n verb.Renew view unawaited on none = absurd (cc)
 node_first clocks posted n verb.Crash view unawaited on none = absurd (cc)
@@ -118,13 +118,13 @@ node_first clocks posted n (verb.Put session) view unawaited on none = absurd on
 node_first clocks posted n (verb.Answer session) view unawaited on none = absurd on
 node_first clocks posted n _ view unawaited on none = tt
 
-clock_first : (clocks : Clocks) (posted : Bool) (line : Verb) (view : View) (unawaited : Bool) → clock_opening line ≡ false → AheadKind Clock (own_opens clocks posted Clock line view unawaited)
+clock_first : (clocks : Clocks) (posted : Bool) (line : Verb) (view : View) (unawaited : Bool) → clock_opening line ≡ false → NextActionKind Clock (own_opens clocks posted Clock line view unawaited)
 clock_first clocks posted (verb.Tick by) view unawaited none = absurd (cc)
 clock_first clocks posted (verb.Post name) view unawaited none = absurd (cc)
 clock_first clocks posted (verb.Await name) view unawaited none = absurd (cc)
 clock_first clocks posted _ view unawaited none = tt
 
-janitor_first : (clocks : Clocks) (posted : Bool) (line : Verb) (view : View) (unawaited : Bool) → name_opening line ≡ false → AheadKind Janitor (own_opens clocks posted Janitor line view unawaited)
+janitor_first : (clocks : Clocks) (posted : Bool) (line : Verb) (view : View) (unawaited : Bool) → name_opening line ≡ false → NextActionKind Janitor (own_opens clocks posted Janitor line view unawaited)
 janitor_first clocks posted (verb.Sweep node txn) view unawaited none = tt
 janitor_first clocks posted (verb.OpenSweep node txn) view unawaited none = tt
 janitor_first clocks posted verb.Step view unawaited none = tt
@@ -138,13 +138,13 @@ sweep_kind true = tt
 sweep_kind false = tt
 
 -- ---- a line that opens with no item, or has opened
-first_kind : (clocks : Clocks) (posted : Bool) (actor : Actor) (line : Verb) (view : View) (unawaited : Bool) → IsForThreads line → has_opening actor line ≡ false → AheadKind actor (own_opens clocks posted actor line view unawaited)
+first_kind : (clocks : Clocks) (posted : Bool) (actor : Actor) (line : Verb) (view : View) (unawaited : Bool) → IsForThreads line → has_opening actor line ≡ false → NextActionKind actor (own_opens clocks posted actor line view unawaited)
 first_kind clocks posted Clock line view unawaited on none = clock_first clocks posted line view unawaited none
 first_kind clocks posted (Node n) line view unawaited on none = node_first clocks posted n line view unawaited on none
 first_kind clocks posted (Session s) line view unawaited on none = session_first clocks posted s line view unawaited none
 first_kind clocks posted Janitor line view unawaited on none = janitor_first clocks posted line view unawaited none
 
-pub later_kind : (clocks : Clocks) (posted : Bool) (actor : Actor) (line : Verb) (at : Point) (view : View) (unawaited : Bool) → IsLater at → AheadKind actor (own_next clocks posted actor line at view unawaited)
+pub later_kind : (clocks : Clocks) (posted : Bool) (actor : Actor) (line : Verb) (at : Point) (view : View) (unawaited : Bool) → IsLater at → NextActionKind actor (own_next clocks posted actor line at view unawaited)
 later_kind clocks posted actor line Opens view unawaited later = absurd later
 later_kind clocks posted (Session s) line Drives view unawaited later = drive_kind s line view view.request
 later_kind clocks posted (Session s) line Extends view unawaited later = tt
@@ -166,5 +166,5 @@ later_kind clocks posted (Node n) line Steps view unawaited later = tt
 later_kind clocks posted (Node n) line Over view unawaited later = tt
 later_kind clocks posted Clock line _ view unawaited later = tt
 
-pub opens_kind : (clocks : Clocks) (posted : Bool) (actor : Actor) (line : Verb) (view : View) (unawaited : Bool) → IsForThreads line → has_opening actor line ≡ false → AheadKind actor (own_next clocks posted actor line Opens view unawaited)
+pub opens_kind : (clocks : Clocks) (posted : Bool) (actor : Actor) (line : Verb) (view : View) (unawaited : Bool) → IsForThreads line → has_opening actor line ≡ false → NextActionKind actor (own_next clocks posted actor line Opens view unawaited)
 opens_kind clocks posted actor line view unawaited on none = first_kind clocks posted actor line view unawaited on none

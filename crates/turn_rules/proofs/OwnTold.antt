@@ -10,7 +10,7 @@ use Rattle.machine.specs.declared.event.Event.TheVariants as event
 use Rattle.machine.specs.State.{Client}
 use Rattle.script_data.specs.declared.line.Line.{Line}
 use Rattle.script_data.specs.Data.{ScriptData}
-use Rattle.isolation_laws.specs.Sound.{Stands}
+use Rattle.isolation_laws.specs.Sound.{ReachedInvariant}
 use Rattle.isolation_laws.specs.Words.{ClientAt}
 use Rattle.command_semantics.specs.declared.point.Point.{Point}
 use Rattle.command_semantics.specs.declared.point.Point.TheVariants.{Opens}
@@ -22,15 +22,15 @@ use Rattle.command_semantics.proofs.AlwaysFit.{Fit, found}
 use Rattle.command_semantics.proofs.LaterEvents.{IsLater}
 use Rattle.command_semantics.proofs.OpenedLines.{line_answered}
 use Rattle.command_semantics.proofs.OpeningItems.{Begins}
-use Rattle.turn_rules.specs.declared.ahead.Ahead.{Ahead}
-use Rattle.turn_rules.specs.declared.ahead.Ahead.TheVariants.{Makes, Waits, Passes}
+use Rattle.turn_rules.specs.declared.ahead.NextAction.{NextAction}
+use Rattle.turn_rules.specs.declared.ahead.NextAction.TheVariants.{Makes, Waits, Passes}
 use Rattle.turn_rules.specs.Carried.{Carried, aimed_clocks, name_posted, made_by, all_passed, at_first, carried}
 use Rattle.turn_rules.specs.Lawful.{IsTold}
 use Rattle.turn_rules.specs.Told.{IsForThreads, AreForThreads, OwnTurnsAreTold}
 use Rattle.turn_rules.specs.Waiting.{own_next}
 use Rattle.turn_rules.proofs.Facts.{Facts, facts_at_first, facts_all}
 use Rattle.turn_rules.proofs.OwnEvents.{IsNextOf}
-use Rattle.turn_rules.proofs.OwnKinds.{OwnKind, AheadKind, later_kind, opens_kind}
+use Rattle.turn_rules.proofs.OwnKinds.{OwnKind, NextActionKind, later_kind, opens_kind}
 use Rattle.turn_rules.proofs.OwnTurns.{OwnTurn, own_turn}
 use Rattle.turn_rules.proofs.OwnWalks.{OwnLine, collects_not}
 use Rattle.turn_rules.proofs.SeatLists.{Filtered, filtered}
@@ -46,7 +46,7 @@ begins_appends : (A : Item → Type 0) (items : List Item) → Begins A items �
 begins_appends A items k = subst (λ (xs : List Item). Appends xs) (sym k.is) tt
 
 -- ---- the kinds of events that open no line
-kind_made : (actor : Actor) (ahead : Ahead) (e : Event) → AheadKind actor ahead → made_by ahead ≡ Some e → OwnKind actor e
+kind_made : (actor : Actor) (ahead : NextAction) (e : Event) → NextActionKind actor ahead → made_by ahead ≡ Some e → OwnKind actor e
 kind_made actor (Makes x) e kind is = subst (λ (made : Event). OwnKind actor made) (same_Some x e is) kind
 kind_made actor (Waits why) e kind is = absurd (none-some e is)
 kind_made actor Passes e kind is = absurd (none-some e is)
@@ -54,7 +54,7 @@ kind_made actor Passes e kind is = absurd (none-some e is)
 session_found : (p : Played) (s : ℕ) → Fit p.state → s < 16 → (c : Client) × ClientAt p.state.clients s c
 session_found p s fit less = found p.state.clients s (subst (λ (n : ℕ). s < n) (sym fit.clients) less)
 
-kind_told : (script : ScriptData) (p : Played) (actor : Actor) (e : Event) → Stands p.state p.items → Fit p.state → ActorFits p.state.setup actor → OwnKind actor e → IsTold script p e
+kind_told : (script : ScriptData) (p : Played) (actor : Actor) (e : Event) → ReachedInvariant p.state p.items → Fit p.state → ActorFits p.state.setup actor → OwnKind actor e → IsTold script p e
 kind_told script p (Session s) (event.Step t) stands fit fits kind =
     let c = session_found p s fit fits in
     subst (λ (q : ℕ). IsTold script p (event.Step q)) (sym kind) (told_by script p (event.Step s) (step_told p.state p.items s (fate_of script p (event.Step s)) c.0 stands c.1))
@@ -88,7 +88,7 @@ opens_told script c actor aim e k own opening (inl is) = told_by script c.played
 first_told : (script : ScriptData) (c : Carried) (actor : Actor) (aim : ℕ) (e : Event) → AreForThreads script.lines → (k : OwnTurn script c actor aim e) → OwnLine actor (aimed_clocks script c aim) c.played.state c.played.items k.line → k.seat.point ≡ Opens → (opening : Bool) → has_opening k.line.actor k.line.verb ≡ opening → IsTold script c.played e
 first_told script c actor aim e on k own at true opening = opens_told script c actor aim e k own opening (subst (λ (p : Point). IsNextOf (aimed_clocks script c aim) k.line.actor k.line.verb p (view_of c.played.state k.line.actor) e) at k.next)
 first_told script c actor aim e on k own at false none =
-    let ahead : Ahead = own_next (aimed_clocks script c aim) (name_posted c.names k.line.verb) k.line.actor k.line.verb Opens (view_of c.played.state k.line.actor) k.seat.unawaited in
+    let ahead : NextAction = own_next (aimed_clocks script c aim) (name_posted c.names k.line.verb) k.line.actor k.line.verb Opens (view_of c.played.state k.line.actor) k.seat.unawaited in
     let makes : made_by ahead ≡ Some e = subst (λ (p : Point). made_by (own_next (aimed_clocks script c aim) (name_posted c.names k.line.verb) k.line.actor k.line.verb p (view_of c.played.state k.line.actor) k.seat.unawaited) ≡ Some e) at k.makes in
     kind_told script c.played k.line.actor e own.stands own.fit own.in_range (kind_made k.line.actor ahead e (opens_kind (aimed_clocks script c aim) (name_posted c.names k.line.verb) k.line.actor k.line.verb (view_of c.played.state k.line.actor) k.seat.unawaited (present_threads script c actor aim e on k) none) makes)
 

@@ -16,12 +16,12 @@ use Rattle.script_data.specs.declared.line.Line.{Line}
 use Rattle.script_data.specs.declared.line.Target.{Target}
 use Rattle.script_data.specs.declared.line.Verb.{Verb}
 use Rattle.script_data.specs.declared.line.Verb.TheVariants as verb
-use Rattle.isolation_laws.specs.Sound.{Stands}
+use Rattle.isolation_laws.specs.Sound.{ReachedInvariant}
 use Rattle.command_semantics.specs.declared.point.Point.{Point}
 use Rattle.command_semantics.specs.declared.point.Point.TheVariants.{Opens, Drives, Reads}
 use Rattle.command_semantics.specs.declared.point.View.{View}
 use Rattle.command_semantics.specs.Answers.{same_actor, has_opening, is_of, IsAnswer, asks_some}
-use Rattle.command_semantics.specs.Halts.{halt_of, follows}
+use Rattle.command_semantics.specs.Interruptions.{halt_of, follows}
 use Rattle.command_semantics.specs.Laws.{ActorFits, VerbFits}
 use Rattle.command_semantics.specs.Next.{Clocks, target_node, read_next, next}
 use Rattle.command_semantics.specs.Views.{view_of}
@@ -33,7 +33,7 @@ use Rattle.command_semantics.proofs.ReadLines.{ReadsKey, EndsOrReads}
 use Rattle.command_semantics.proofs.ReadSteps.{read_goes_on, read_has_next}
 use Rattle.command_semantics.proofs.ScriptWalks.{same_itself}
 use Rattle.command_semantics.proofs.Walks.{AllNot}
-use Rattle.turn_rules.specs.declared.ahead.Ahead.TheVariants.{Waits, Passes}
+use Rattle.turn_rules.specs.declared.ahead.NextAction.TheVariants.{Waits, Passes}
 use Rattle.turn_rules.specs.declared.ahead.Why.TheVariants.{Name}
 use Rattle.turn_rules.specs.Carried.{made_by}
 use Rattle.turn_rules.specs.Laws.{IsAnsweredTo}
@@ -62,7 +62,7 @@ collects_not actor line is opening = collect_none actor (ap (λ (v : Verb). has_
 
 -- what the events of a line need: the state is reached, the line is the actor's, and what it asks may be asked
 pub record OwnLine (actor : Actor) (clocks : Clocks) (w : State) (h : List Item) (line : Line) : Type 0 where
-  pub stands : Stands w h
+  pub stands : ReachedInvariant w h
   pub fit : Fit w
   pub in_range : ActorFits w.setup line.actor
   pub asks : VerbFits w.setup line.verb

@@ -23,7 +23,7 @@ use Rattle.command_semantics.specs.Views.{view_of}
 use Rattle.command_semantics.proofs.Timing.{tick_ahead}
 use Rattle.command_semantics.specs.PlannedLaws.{LinesReadClocks}
 use Rattle.command_semantics.specs.SoFar.{ReadsClocks, ticks_with, tick_at}
-use Rattle.turn_rules.specs.declared.ahead.Ahead.TheVariants.{Passes}
+use Rattle.turn_rules.specs.declared.ahead.NextAction.TheVariants.{Passes}
 use Rattle.turn_rules.specs.declared.seat.Seat.{Seat}
 use Rattle.turn_rules.specs.Seats.{lines_of, lines_left, ahead_of}
 use Rattle.turn_rules.specs.Waiting.{own_opens}

@@ -28,7 +28,7 @@ use Rattle.machine.specs.Events.Decide.{both_verdict, both_if_accepted, both_hel
 use Rattle.machine.proofs.Refusals.{same_both}
 use Rattle.script_data.specs.Data.{ScriptData}
 use Rattle.machine.specs.Fits.{StopOf}
-use Rattle.isolation_laws.specs.Sound.{Stands}
+use Rattle.isolation_laws.specs.Sound.{ReachedInvariant}
 use Rattle.command_semantics.specs.Runs.{Played, fate_of}
 use Rattle.turn_rules.specs.Told.{QuietTurnsChangeNothing}
 
@@ -150,7 +150,7 @@ quiet_both w node s f each None found posted there none = refl
 quiet_both w node s f each (Some post) None posted there none = refl
 quiet_both w node s f each (Some post) (Some c) posted there none = put_parts w node s post c (f post c) posted there (each post c posted) none
 
-stops_at : (w : State) (h : List Item) (node : ℕ) (post : Option InstanceEntry) → Stands w h → slice_get w.nodes node ≡ Some post → (i : InstanceEntry) → post ≡ Some i → StopOf i.stop
+stops_at : (w : State) (h : List Item) (node : ℕ) (post : Option InstanceEntry) → ReachedInvariant w h → slice_get w.nodes node ≡ Some post → (i : InstanceEntry) → post ≡ Some i → StopOf i.stop
 stops_at w h node post stands posted i is = stands.sound.stops.stop node i (posted ∙ ap (λ (x : Option InstanceEntry). Some x) is)
 
 -- what was played is as before

@@ -14,8 +14,8 @@ use Rattle.command_semantics.specs.Next.{Clocks}
 use Rattle.command_semantics.specs.Runs.{clocks_of, step_of}
 use Rattle.command_semantics.specs.Views.{view_of}
 use Rattle.command_semantics.proofs.ScriptWalks.{same_itself}
-use Rattle.turn_rules.specs.declared.ahead.Ahead.{Ahead}
-use Rattle.turn_rules.specs.declared.ahead.Ahead.TheVariants.{Makes, Waits, Passes}
+use Rattle.turn_rules.specs.declared.ahead.NextAction.{NextAction}
+use Rattle.turn_rules.specs.declared.ahead.NextAction.TheVariants.{Makes, Waits, Passes}
 use Rattle.turn_rules.specs.declared.seat.Seat.{Seat}
 use Rattle.turn_rules.specs.declared.turn.Turn.{Turn}
 use Rattle.turn_rules.specs.declared.turn.Turn.TheVariants as turn
@@ -24,7 +24,7 @@ use Rattle.turn_rules.specs.Carried.{Carried, seat_of, moved, with_event, seat_p
 use Rattle.turn_rules.proofs.SeatLists.{find_map, drop_next}
 
 -- ---- passing
-only_passes : (ahead : Ahead) → is_passed ahead ≡ true → ahead ≡ Passes
+only_passes : (ahead : NextAction) → is_passed ahead ≡ true → ahead ≡ Passes
 only_passes Passes is = refl
 only_passes (Makes e) is = absurd (cc)
 only_passes (Waits why) is = absurd (cc)

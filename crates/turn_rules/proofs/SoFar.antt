@@ -54,7 +54,7 @@ passed_at script c actor None at = at
 passed_at script c actor (Some seat) at =
     let w : State = c.played.state in
     let h : List Item = c.played.items in
-    passed_keeps script (clocks_of script c.played) (view_of w seat.actor) (λ (after : Seat) (lines : List Line). (after.actor ≡ actor) × StandsSo actor script.lines w h after.point lines) (λ s line lines is passes k. (k.0, stands_next actor script.lines w h lines (passed_line actor script.lines (clocks_of script c.played) true w h s.point line lines s.unawaited (present_own script s line (drop_get s.place (lines_of script s.actor) line lines is) ∙ k.0) (subst (λ (a : Actor). Rattle.turn_rules.specs.Seats.ahead_of (clocks_of script c.played) true (view_of w a) line s ≡ Rattle.turn_rules.specs.declared.ahead.Ahead.TheVariants.Passes) at.0 passes) k.1))) (lines_left script seat) seat refl at
+    passed_keeps script (clocks_of script c.played) (view_of w seat.actor) (λ (after : Seat) (lines : List Line). (after.actor ≡ actor) × StandsSo actor script.lines w h after.point lines) (λ s line lines is passes k. (k.0, stands_next actor script.lines w h lines (passed_line actor script.lines (clocks_of script c.played) true w h s.point line lines s.unawaited (present_own script s line (drop_get s.place (lines_of script s.actor) line lines is) ∙ k.0) (subst (λ (a : Actor). Rattle.turn_rules.specs.Seats.ahead_of (clocks_of script c.played) true (view_of w a) line s ≡ Rattle.turn_rules.specs.declared.ahead.NextAction.TheVariants.Passes) at.0 passes) k.1))) (lines_left script seat) seat refl at
 
 -- ---- another's event
 -- it opens no line of the actor, a read goes on, and the actor's seat stays

@@ -27,7 +27,7 @@ use Rattle.machine.specs.Events.Accept.{accept_by, accept_request, accept_on}
 use Rattle.machine.specs.Events.Extend.{extend_by, extend_on}
 use Rattle.machine.specs.Events.Put.{to_place, put_by, put_commit, put_on}
 use Rattle.script_data.specs.Data.{ScriptData}
-use Rattle.isolation_laws.specs.Sound.{Stands}
+use Rattle.isolation_laws.specs.Sound.{ReachedInvariant}
 use Rattle.machine.proofs.Lookups.{held_by}
 use Rattle.command_semantics.specs.Next.{reading_at}
 use Rattle.command_semantics.specs.Runs.{Played, fate_of, clocks_of}
@@ -86,7 +86,7 @@ by_post : (w : State) (posts : Option (Option InstanceEntry)) (f : Option Instan
 by_post w posts f post posted some = subst (λ (p : Option (Option InstanceEntry)). Appends (at_post w p f).items) (sym posted) some
 
 -- a request that stands somewhere has its node, and its session
-accept_told : (script : ScriptData) (p : Played) (node s : ℕ) (at : Place) → Stands p.state p.items → place_of p.state s ≡ Some (node, at) → (reading : ℕ) → IsTold script p (event.Accept node s reading)
+accept_told : (script : ScriptData) (p : Played) (node s : ℕ) (at : Place) → ReachedInvariant p.state p.items → place_of p.state s ≡ Some (node, at) → (reading : ℕ) → IsTold script p (event.Accept node s reading)
 accept_told script p node s at stands is reading =
     let k : Served p.state s (node, at) = is_served_at p.state s (node, at) is in
     let waits = stands.holds.requests.requests.waits node s k.holder.i k.held.request k.held.progress k.holder.at (held_by k.holder.i s k.held k.holder.has) in

@@ -25,7 +25,7 @@ use Rattle.machine.specs.Laws.{touches_clients}
 use Rattle.machine.proofs.LookedUp.{of_post, of_client, of_both}
 use Rattle.machine.proofs.PartsKept.{leaves_parts}
 use Rattle.isolation_laws.specs.Requests.{WaitsFor}
-use Rattle.isolation_laws.specs.Sound.{Stands}
+use Rattle.isolation_laws.specs.Sound.{ReachedInvariant}
 use Rattle.isolation_laws.specs.Words.{InstanceAt, ClientAt}
 use Rattle.machine.proofs.Lookups.{set_found, set_other, one_client, held_by}
 use Rattle.command_semantics.proofs.ReadLines.{ReadsKey}
@@ -44,13 +44,13 @@ waits_not (Commit session start keys) c (inl is) (inr (committing, start_is)) = 
 waits_not (Commit session start keys) c (inr is) (inl gone) = let clash : phase.Placing ≡ phase.Gone = sym is ∙ gone in cc
 waits_not (Commit session start keys) c (inr is) (inr (committing, start_is)) = let clash : phase.Placing ≡ phase.Committing = sym is ∙ committing in cc
 
-none_by : (w : State) (h : List Item) (s : ℕ) (c : Client) → Stands w h → ClientAt w.clients s c → IsUnasked c.entry.state → (node : ℕ) (i : InstanceEntry) → InstanceAt w.nodes node i → (held : Option Held) → held_of i s ≡ held → held ≡ None
+none_by : (w : State) (h : List Item) (s : ℕ) (c : Client) → ReachedInvariant w h → ClientAt w.clients s c → IsUnasked c.entry.state → (node : ℕ) (i : InstanceEntry) → InstanceAt w.nodes node i → (held : Option Held) → held_of i s ≡ held → held ≡ None
 none_by w h s c stands at is node i there None has = refl
 none_by w h s c stands at is node i there (Some held) has =
     let waits = stands.holds.requests.requests.waits node s i held.request held.progress there (held_by i s held has) in
     absurd (waits_not held.request c is (subst (λ (d : Client). WaitsFor held.request d) (one_client w.clients s waits.0 c waits.1 at) waits.2))
 
-pub none_held : (w : State) (h : List Item) (s : ℕ) (c : Client) → Stands w h → ClientAt w.clients s c → IsUnasked c.entry.state → (node : ℕ) (i : InstanceEntry) → InstanceAt w.nodes node i → held_of i s ≡ None
+pub none_held : (w : State) (h : List Item) (s : ℕ) (c : Client) → ReachedInvariant w h → ClientAt w.clients s c → IsUnasked c.entry.state → (node : ℕ) (i : InstanceEntry) → InstanceAt w.nodes node i → held_of i s ≡ None
 none_held w h s c stands at is node i there = none_by w h s c stands at is node i there (held_of i s) refl
 
 -- ---- looking up the parts
@@ -68,7 +68,7 @@ by_both w node s t f made sets not = of_both (Same w s) w f (slice_get w.nodes n
 abbrev NoneAt : ℕ → Option InstanceEntry → Type 0
 NoneAt s post = held_at post s ≡ None
 
-none_at : (w : State) (h : List Item) (s : ℕ) (c : Client) → Stands w h → ClientAt w.clients s c → IsUnasked c.entry.state → (node : ℕ) (post : Option InstanceEntry) → slice_get w.nodes node ≡ Some post → NoneAt s post
+none_at : (w : State) (h : List Item) (s : ℕ) (c : Client) → ReachedInvariant w h → ClientAt w.clients s c → IsUnasked c.entry.state → (node : ℕ) (post : Option InstanceEntry) → slice_get w.nodes node ≡ Some post → NoneAt s post
 none_at w h s c stands at is node None there = refl
 none_at w h s c stands at is node (Some i) there = none_held w h s c stands at is node i there
 
@@ -128,7 +128,7 @@ IsNotOf s e = Unit {0}
 untouched : (w : State) (s : ℕ) (e : Event) (fate : Fate) → touches_clients e ≡ false → Same w s (stepped w e fate)
 untouched w s e fate not = ap (λ (cs : List Client). slice_get cs s) ((leaves_parts w e fate).clients not)
 
-pub client_stays : (w : State) (h : List Item) (s : ℕ) (c : Client) → Stands w h → ClientAt w.clients s c → IsUnasked c.entry.state → (e : Event) (fate : Fate) → IsNotOf s e → Same w s (stepped w e fate)
+pub client_stays : (w : State) (h : List Item) (s : ℕ) (c : Client) → ReachedInvariant w h → ClientAt w.clients s c → IsUnasked c.entry.state → (e : Event) (fate : Fate) → IsNotOf s e → Same w s (stepped w e fate)
 client_stays w h s c stands at is (event.Crash node) fate not = of_post (Same w s) w _ (slice_get w.nodes node) refl (λ post there. crash_same w s node post (none_at w h s c stands at is node post there))
 client_stays w h s c stands at is (event.Accept node t reading) fate not = serve_by (with_reading w reading) s t c _ (λ post d. (accept_on node t reading post d).parts.1) at node (λ post d. refl) (λ post there mine. accept_same node t reading post c (subst (λ (q : ℕ). NoneAt q post) (sym mine) (none_at w h s c stands at is node post there)))
 client_stays w h s c stands at is (event.Decide node t) fate not = serve_by w s t c _ (λ post d. (decide_on node t post d).parts.1) at node (λ post d. refl) (λ post there mine. decide_same node t post c (subst (λ (q : ℕ). NoneAt q post) (sym mine) (none_at w h s c stands at is node post there)))
@@ -144,5 +144,5 @@ client_stays w h s c stands at is (event.Vanish t) fate not = by_client w s t _ 
 client_stays w h s c stands at is e fate not = untouched w s e fate refl
 
 -- a read under way goes on
-pub still_reads : (w : State) (h : List Item) (s key : ℕ) → Stands w h → ReadsKey w s key → (e : Event) (fate : Fate) → IsNotOf s e → ReadsKey (stepped w e fate).state s key
+pub still_reads : (w : State) (h : List Item) (s key : ℕ) → ReachedInvariant w h → ReadsKey w s key → (e : Event) (fate : Fate) → IsNotOf s e → ReadsKey (stepped w e fate).state s key
 still_reads w h s key stands k e fate not = record { c = k.c; at = client_stays w h s k.c stands k.at (inl k.work.is_open) e fate not ∙ k.at; work = k.work; key_is = k.key_is }

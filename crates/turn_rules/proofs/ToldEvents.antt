@@ -31,7 +31,7 @@ use Rattle.machine.specs.Events.Fetch.{client_put_fresh}
 use Rattle.machine.specs.Events.Place.{place_by}
 use Rattle.machine.specs.Events.Step.{work_by, work_of, read_by, settle_by, complete_by, step_by, step_at, step_on}
 use Rattle.machine.specs.Events.SweepStep.{sweep_by, sweep_lists, sweep_at, sweep_step_on}
-use Rattle.isolation_laws.specs.Sound.{Stands}
+use Rattle.isolation_laws.specs.Sound.{ReachedInvariant}
 use Rattle.isolation_laws.specs.Words.{ClientAt}
 use Rattle.command_semantics.proofs.Stepping.{stores_step, step_is, unhanded, place_is}
 use Rattle.command_semantics.proofs.Working.{ReadWork, CompleteWork, HasWork, has_work}
@@ -102,11 +102,11 @@ work_appends w s fate c at go (inr (inr (inr k))) = subst (λ (step : Step). App
 refused_step : (w : State) (s : ℕ) (fate : Fate) (c : Client) (why : Cause) → ClientAt w.clients s c → step_refusal c.entry.state (is_reading c) ≡ Some why → Appends (stepped w (event.Step s) fate).items
 refused_step w s fate c why at is = subst (λ (found : Option Client). Appends (at_client w found (λ d. stores_step w s (step_on s fate d w.rows w.pairs))).items) (sym at) (subst (λ (refusal : Option Cause). Appends (stores_step w s (step_by s fate c w.rows w.pairs refusal)).items) (sym is) tt)
 
-step_by_refusal : (w : State) (h : List Item) (s : ℕ) (fate : Fate) (c : Client) → Stands w h → ClientAt w.clients s c → (refusal : Option Cause) → step_refusal c.entry.state (is_reading c) ≡ refusal → Appends (stepped w (event.Step s) fate).items
+step_by_refusal : (w : State) (h : List Item) (s : ℕ) (fate : Fate) (c : Client) → ReachedInvariant w h → ClientAt w.clients s c → (refusal : Option Cause) → step_refusal c.entry.state (is_reading c) ≡ refusal → Appends (stepped w (event.Step s) fate).items
 step_by_refusal w h s fate c stands at (Some why) is = refused_step w s fate c why at is
 step_by_refusal w h s fate c stands at None is = work_appends w s fate c at is (has_work w h s c stands at is)
 
-pub step_told : (w : State) (h : List Item) (s : ℕ) (fate : Fate) (c : Client) → Stands w h → ClientAt w.clients s c → Appends (stepped w (event.Step s) fate).items
+pub step_told : (w : State) (h : List Item) (s : ℕ) (fate : Fate) (c : Client) → ReachedInvariant w h → ClientAt w.clients s c → Appends (stepped w (event.Step s) fate).items
 step_told w h s fate c stands at = step_by_refusal w h s fate c stands at (step_refusal c.entry.state (is_reading c)) refl
 
 -- ---- a heal and an abort
@@ -123,7 +123,7 @@ abort_appends s c phase.Open false None has = absurd has
 abort_appends s c phase.Open false (Some start) has = tt
 abort_appends s c _ reading start has = tt
 
-pub abort_told : (w : State) (h : List Item) (s : ℕ) (fate : Fate) (c : Client) → Stands w h → ClientAt w.clients s c → Appends (stepped w (event.Abort s) fate).items
+pub abort_told : (w : State) (h : List Item) (s : ℕ) (fate : Fate) (c : Client) → ReachedInvariant w h → ClientAt w.clients s c → Appends (stepped w (event.Abort s) fate).items
 abort_told w h s fate c stands at = subst (λ (found : Option Client). Appends (at_client w found (λ d. machine_step_by (abort_on s d) (λ p. with_client w s p))).items) (sym at) (abort_appends s c c.entry.state (is_reading c) c.entry.start (starts w h s c stands at))
 
 -- ---- a step of a sweep
@@ -149,9 +149,9 @@ sweeps_on : (s : Sweeping) (fate : Fate) (rows : List Row) (pairs : Pairs) → (
 sweeps_on s fate rows pairs asks None is = absurd (asks is)
 sweeps_on s fate rows pairs asks (Some asked) is = asked_appends s fate rows pairs asked
 
-sweeps_by : (w : State) (h : List Item) (fate : Fate) → Stands w h → (sweep : Option Sweeping) → w.sweep ≡ sweep → Appends (sweep_step_on fate sweep w.rows w.pairs).items
+sweeps_by : (w : State) (h : List Item) (fate : Fate) → ReachedInvariant w h → (sweep : Option Sweeping) → w.sweep ≡ sweep → Appends (sweep_step_on fate sweep w.rows w.pairs).items
 sweeps_by w h fate stands None is = tt
 sweeps_by w h fate stands (Some s) is = sweeps_on s fate w.rows w.pairs (stands.sound.sweeps.asks s is) (sweep_ask s) refl
 
-pub sweep_told : (w : State) (h : List Item) (fate : Fate) → Stands w h → Appends (stepped w event.SweepStep fate).items
+pub sweep_told : (w : State) (h : List Item) (fate : Fate) → ReachedInvariant w h → Appends (stepped w event.SweepStep fate).items
 sweep_told w h fate stands = sweeps_by w h fate stands w.sweep refl

@@ -8,7 +8,7 @@ use Rattle.history_book.specs.declared.item.Actor.TheVariants.{Clock, Node, Sess
 use Rattle.machine.specs.State.{opening}
 use Rattle.script_data.specs.declared.line.Line.{Line}
 use Rattle.script_data.specs.Data.{ScriptData}
-use Rattle.cause_laws.specs.Shows.{Tells}
+use Rattle.cause_laws.specs.ShownInvariant.{Tells}
 use Rattle.command_semantics.specs.Answers.{same_actor}
 use Rattle.command_semantics.specs.Planned.{tick_by, with_tick, ticks_in}
 use Rattle.command_semantics.proofs.Ending.{opening_reached}
@@ -42,7 +42,7 @@ clock_lines [] = refl
 clock_lines (line ∷ lines) = clock_line line (ticks_in lines) (filter (λ (l : Line). same_actor l.actor Clock) lines) (clock_lines lines) (same_actor line.actor Clock) refl
 
 -- ---- at first
-plan_at_first : PlannedAtFirst → (script : ScriptData) → AreInRange script.setup → Tells (opening script.setup) [] → OnPlan script (all_passed script (at_first script))
+plan_at_first : PlannedAtFirst → (script : ScriptData) → AreInRange script.setup → ExplainedInvariant (opening script.setup) [] → OnPlan script (all_passed script (at_first script))
 plan_at_first first script in_range tells =
     let passes : ticks_ahead script (seat_of (all_passed script (at_first script)).seats Clock) ≡ ticks_in (lines_of script Clock) = ap (λ (found : Option Seat). ticks_ahead script found) (passed_seat script (at_first script) Clock) ∙ passing_ahead script (at_first script) (first_seat Clock) refl in
     record {
@@ -57,7 +57,7 @@ unfolding ticks_in
 none_ahead script c None whole sits = refl
 none_ahead script c (Some seat) whole sits = ap (λ (lines : List Line). ticks_in (unanswered seat.point lines)) (whole_seat script c Clock seat whole sits) ∙ ap (λ (lines : List Line). ticks_in lines) (none_unanswered seat.point)
 
-pub turns_are_planned_so_far : PlanLaws → PlannedAtFirst → ((script : ScriptData) → AreInRange script.setup → Tells (opening script.setup) []) → TurnsArePlannedSoFar
+pub turns_are_planned_so_far : PlanLaws → PlannedAtFirst → ((script : ScriptData) → AreInRange script.setup → ExplainedInvariant (opening script.setup) []) → TurnsArePlannedSoFar
 turns_are_planned_so_far laws first tells script turns in_range playable = (plan_all laws script playable turns (all_passed script (at_first script)) (plan_at_first first script in_range (tells script in_range))).so_far
 
 pub turns_are_planned : PlannedInTheEnd → TurnsArePlannedSoFar → TurnsArePlanned

@@ -8,7 +8,7 @@ use Rattle.system_parts.specs.Buckets.{record_pairs, kept_commit, verdict}
 use Rattle.system_parts.specs.Instance.{least_unsettled}
 use Rattle.machine.specs.Events.Crash.{crashed_clients, all_crashed_items}
 use Rattle.machine.specs.Readers.{holder_from}
-use Rattle.turn_rules.specs.declared.ahead.Ahead.TheVariants.{Waits}
+use Rattle.turn_rules.specs.declared.ahead.NextAction.TheVariants.{Waits}
 use Rattle.turn_rules.specs.declared.ahead.Why.TheVariants.{Reply, Name}
 use Rattle.turn_rules.specs.Seats.{seats_of, passed}
 use Rattle.turn_rules.specs.Carried.{own_ahead, carried, carried_items}

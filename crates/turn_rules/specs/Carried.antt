@@ -19,8 +19,8 @@ use Rattle.command_semantics.specs.Master.{has_take}
 use Rattle.command_semantics.specs.Next.{Clocks, reading_at}
 use Rattle.command_semantics.specs.Runs.{Played, clocks_of, step_of, played, opening_played}
 use Rattle.command_semantics.specs.Views.{view_of}
-use Rattle.turn_rules.specs.declared.ahead.Ahead.{Ahead}
-use Rattle.turn_rules.specs.declared.ahead.Ahead.TheVariants.{Makes, Passes}
+use Rattle.turn_rules.specs.declared.ahead.NextAction.{NextAction}
+use Rattle.turn_rules.specs.declared.ahead.NextAction.TheVariants.{Makes, Passes}
 use Rattle.turn_rules.specs.declared.seat.Holds.{Holds}
 use Rattle.turn_rules.specs.declared.seat.Seat.{Seat}
 use Rattle.turn_rules.specs.declared.turn.Turn.{Turn}
@@ -72,14 +72,14 @@ aimed_node items aim = if has_take items aim then aim else 0
 abbrev pub aimed_clocks : ScriptData → Carried → ℕ → Clocks
 aimed_clocks script c aim = clocks c.played.clock script.leads (aimed_node c.played.items aim)
 
-abbrev pub ahead_at : ScriptData → Carried → Seat → Option Line → ℕ → Ahead
+abbrev pub ahead_at : ScriptData → Carried → Seat → Option Line → ℕ → NextAction
 ahead_at script c seat None aim = Passes
 ahead_at script c seat (Some line) aim = ahead_of (aimed_clocks script c aim) (name_posted c.names line.verb) (view_of c.played.state seat.actor) line seat
 
-abbrev pub seat_ahead : ScriptData → Carried → Seat → ℕ → Ahead
+abbrev pub seat_ahead : ScriptData → Carried → Seat → ℕ → NextAction
 seat_ahead script c seat aim = ahead_at script c seat (present_line script seat) aim
 
-abbrev pub ahead_in : ScriptData → Carried → Option Seat → ℕ → Ahead
+abbrev pub ahead_in : ScriptData → Carried → Option Seat → ℕ → NextAction
 ahead_in script c None aim = Passes
 ahead_in script c (Some seat) aim = seat_ahead script c seat aim
 
@@ -87,11 +87,11 @@ ahead_in script c (Some seat) aim = seat_ahead script c seat aim
 abbrev pub seat_of : List Seat → Actor → Option Seat
 seat_of seats actor = find (λ seat. same_actor seat.actor actor) seats
 
-abbrev pub own_ahead : ScriptData → Carried → Actor → ℕ → Ahead
+abbrev pub own_ahead : ScriptData → Carried → Actor → ℕ → NextAction
 own_ahead script c actor aim = ahead_in script c (seat_of c.seats actor) aim
 
 -- ---- the event of a turn
-abbrev pub made_by : Ahead → Option Event
+abbrev pub made_by : NextAction → Option Event
 made_by (Makes e) = Some e
 made_by _ = None
 

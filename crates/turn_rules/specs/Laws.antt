@@ -13,18 +13,18 @@ use Rattle.script_data.specs.declared.line.Line.{Line}
 use Rattle.script_data.specs.declared.line.Verb.{Verb}
 use Rattle.script_data.specs.declared.line.Verb.TheVariants as verb
 use Rattle.script_data.specs.Data.{ScriptData}
-use Rattle.isolation_laws.specs.Sound.{Stands}
+use Rattle.isolation_laws.specs.Sound.{ReachedInvariant}
 use Rattle.command_semantics.specs.declared.point.Point.{Point}
 use Rattle.command_semantics.specs.declared.point.Point.TheVariants.{Opens, Reads}
 use Rattle.command_semantics.specs.Answers.{is_of, asks_some, Answered, AnswersOnThreads}
-use Rattle.command_semantics.specs.Halts.{halt_of, follows}
+use Rattle.command_semantics.specs.Interruptions.{halt_of, follows}
 use Rattle.command_semantics.specs.Laws.{IsPlayable, IsReached, AreLinesOf}
 use Rattle.command_semantics.specs.Left.{left}
 use Rattle.command_semantics.specs.Next.{Clocks}
 use Rattle.command_semantics.specs.Planned.{ticks_in, Planned}
 use Rattle.command_semantics.specs.Views.{view_of}
 use Rattle.command_semantics.specs.SoFar.{PlannedSoFar}
-use Rattle.turn_rules.specs.declared.ahead.Ahead.TheVariants.{Makes}
+use Rattle.turn_rules.specs.declared.ahead.NextAction.TheVariants.{Makes}
 use Rattle.turn_rules.specs.declared.seat.Seat.{Seat}
 use Rattle.turn_rules.specs.declared.turn.Turn.{Turn}
 use Rattle.turn_rules.specs.Waiting.{own_next}
@@ -35,7 +35,7 @@ use Rattle.turn_rules.specs.Carried.{Carried, seat_of, carried, carried_items, A
 -- each event of an own turn lowers what is left of its line, in every state that is reached, under every fate
 abbrev pub OwnEventsLowerWhatIsLeft : Type 0
 OwnEventsLowerWhatIsLeft =
-    (w : State) (h : List Item) (clocks : Clocks) (posted : Bool) (actor : Actor) (verb : Verb) (point : Point) (unawaited : Bool) (e : Event) (fate : Fate) → Stands w h → own_next clocks posted actor verb point (view_of w actor) unawaited ≡ Makes e →
+    (w : State) (h : List Item) (clocks : Clocks) (posted : Bool) (actor : Actor) (verb : Verb) (point : Point) (unawaited : Bool) (e : Event) (fate : Fate) → ReachedInvariant w h → own_next clocks posted actor verb point (view_of w actor) unawaited ≡ Makes e →
     left (stepped w e fate).state actor verb (follows verb point (halt_of (stepped w e fate).stop)) < left w actor verb point
 
 -- ---- all facts hold, whichever turns were made

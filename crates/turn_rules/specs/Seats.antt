@@ -11,14 +11,14 @@ use Rattle.script_data.specs.declared.line.Line.{Line}
 use Rattle.script_data.specs.declared.line.Verb.{Verb}
 use Rattle.script_data.specs.declared.line.Verb.TheVariants as verb
 use Rattle.script_data.specs.Data.{ScriptData}
-use Rattle.command_semantics.specs.declared.point.Halt.{Halt}
+use Rattle.command_semantics.specs.declared.point.Interruption.{Interruption}
 use Rattle.command_semantics.specs.declared.point.Point.TheVariants.{Opens}
 use Rattle.command_semantics.specs.declared.point.View.{View}
 use Rattle.command_semantics.specs.Answers.{same_actor}
-use Rattle.command_semantics.specs.Halts.{halt_of, follows}
+use Rattle.command_semantics.specs.Interruptions.{halt_of, follows}
 use Rattle.command_semantics.specs.Next.{Clocks}
-use Rattle.turn_rules.specs.declared.ahead.Ahead.{Ahead}
-use Rattle.turn_rules.specs.declared.ahead.Ahead.TheVariants.{Passes}
+use Rattle.turn_rules.specs.declared.ahead.NextAction.{NextAction}
+use Rattle.turn_rules.specs.declared.ahead.NextAction.TheVariants.{Passes}
 use Rattle.turn_rules.specs.declared.seat.Seat.{Seat}
 use Rattle.turn_rules.specs.Waiting.{own_next}
 
@@ -54,11 +54,11 @@ still_unawaited _ unawaited = unawaited
 abbrev pub with_next_line : Line → Seat → Seat
 with_next_line line seat = record { actor = seat.actor; place = seat.place + 1; point = Opens; unawaited = still_unawaited line.verb seat.unawaited }
 
-abbrev pub ahead_of : Clocks → Bool → View → Line → Seat → Ahead
+abbrev pub ahead_of : Clocks → Bool → View → Line → Seat → NextAction
 ahead_of clocks posted view line seat = own_next clocks posted line.actor line.verb seat.point view seat.unawaited
 
 -- nothing is left to do
-abbrev pub is_passed : Ahead → Bool
+abbrev pub is_passed : NextAction → Bool
 is_passed Passes = true
 is_passed _ = false
 
@@ -79,7 +79,7 @@ abbrev pub was_asked : List Item → Bool
 was_asked items = list_any is_ask items
 
 -- the seat goes on from its point, by how the event stopped, and by whether it asked
-abbrev pub gone_on : Verb → Option Halt → Bool → Seat → Seat
+abbrev pub gone_on : Verb → Option Interruption → Bool → Seat → Seat
 gone_on verb halt asked seat = record seat { point = follows verb seat.point halt; unawaited = seat.unawaited || asked }
 
 abbrev pub with_event_of : Line → Step → Seat → Seat

@@ -8,7 +8,7 @@ use Rattle.script_data.specs.declared.line.Line.{Line}
 use Rattle.script_data.specs.declared.line.Verb.{Verb}
 use Rattle.script_data.specs.declared.line.Verb.TheVariants as verb
 use Rattle.script_data.specs.Data.{ScriptData}
-use Rattle.isolation_laws.specs.Sound.{Stands}
+use Rattle.isolation_laws.specs.Sound.{ReachedInvariant}
 use Rattle.command_semantics.specs.Laws.{IsPlayable, AreLinesOf}
 use Rattle.command_semantics.specs.Runs.{Played, step_of, played}
 use Rattle.turn_rules.specs.declared.turn.Turn.{Turn}
@@ -48,9 +48,9 @@ AlwaysTells _ = ⊥
 -- an acceptance, a put and an extension append an item wherever they can be made
 abbrev pub StageTurnsAreTold : Type 0
 StageTurnsAreTold =
-    (script : ScriptData) (c : Carried) (t : Turn) (e : Event) → Stands c.played.state c.played.items → AlwaysTells t → event_of script c t ≡ Some e → IsInPlace c.played.state t → IsTold script c.played e
+    (script : ScriptData) (c : Carried) (t : Turn) (e : Event) → ReachedInvariant c.played.state c.played.items → AlwaysTells t → event_of script c t ≡ Some e → IsInPlace c.played.state t → IsTold script c.played e
 
 -- a decision and an answer change nothing where they append nothing
 pub record QuietTurnsChangeNothing : Type 0 where
-  pub decide : (script : ScriptData) (p : Played) (node session : ℕ) → Stands p.state p.items → (step_of script p (event.Decide node session)).items ≡ [] → played script p (event.Decide node session) ≡ p
-  pub answer : (script : ScriptData) (p : Played) (node session : ℕ) → Stands p.state p.items → (step_of script p (event.Answer node session)).items ≡ [] → played script p (event.Answer node session) ≡ p
+  pub decide : (script : ScriptData) (p : Played) (node session : ℕ) → ReachedInvariant p.state p.items → (step_of script p (event.Decide node session)).items ≡ [] → played script p (event.Decide node session) ≡ p
+  pub answer : (script : ScriptData) (p : Played) (node session : ℕ) → ReachedInvariant p.state p.items → (step_of script p (event.Answer node session)).items ≡ [] → played script p (event.Answer node session) ≡ p

@@ -11,7 +11,7 @@ pub enum Why {
 
 /// What is ahead of an actor's present line.
 #[derive(Clone, Copy, Debug, PartialEq, Eq)]
-pub enum Ahead {
+pub enum NextAction {
     /// The actor makes this event.
     Makes(Event),
     /// The line waits.

@@ -10,7 +10,7 @@ mod seat;
 mod turn;
 mod worked;
 
-pub use ahead::{Ahead, Why};
+pub use ahead::{NextAction, Why};
 pub use choosing::own_event;
 pub use laws::{
     own_events_lower_what_is_left, own_turns_are_told, quiet_turns_change_nothing,

@@ -3,7 +3,7 @@ ghost use Rattle.std.specs.Prelude.{◌≡◌, ◌<◌, ◌≤◌, ◌^◌, true
 ghost use Rattle.command_semantics.specs.Clocks.{clocks, HaveRoom};
 ghost use Rattle.turn_rules.specs.Seats as seats;
 
-use crate::ahead::Ahead;
+use crate::ahead::NextAction;
 use crate::choosing::own_event;
 use crate::seat::Seat;
 use command_semantics::{Point, View};
@@ -45,7 +45,7 @@ fn is_passed(
         view,
         seat.unawaited,
     );
-    matches!(ahead, Ahead::Passes)
+    matches!(ahead, NextAction::Passes)
 }
 
 /// The seat with this line passed. Once a collect is passed, no ask is left unawaited.

@@ -2,7 +2,7 @@ ghost use Rattle.std.specs.Prelude.{◌≡◌};
 ghost use Rattle.turn_rules.specs.Seats as seats;
 ghost use Rattle.turn_rules.specs.Carried.{none_held, is_held, with_stage};
 
-use command_semantics::{Halt, Point, follows};
+use command_semantics::{Interruption, Point, follows};
 use history_book::{Actor, Item};
 use script_data::Verb;
 use stamp_base::Stage;
@@ -33,7 +33,7 @@ impl Seat {
     }
 
     /// Goes on after an event of the present line, by how the event stopped, if it did, and by whether it asked.
-    pub fn go_on(&mut self, verb: &Verb, halt: Option<Halt>, asked: bool)
+    pub fn go_on(&mut self, verb: &Verb, halt: Option<Interruption>, asked: bool)
         ensures { self.new ≡ seats.gone_on verb.now halt asked self.old }
     {
         self.point = follows(verb, self.point, halt);

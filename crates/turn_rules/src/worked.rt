@@ -1,7 +1,7 @@
 // Turns of a short script, and the history that they make.
 ghost use Rattle.std.specs.Prelude.{◌≡◌, map};
 ghost use Rattle.history_book.specs.declared.item.Actor.TheVariants.{Node, Session};
-ghost use Rattle.turn_rules.specs.declared.ahead.Ahead.TheVariants.{Waits};
+ghost use Rattle.turn_rules.specs.declared.ahead.NextAction.TheVariants.{Waits};
 ghost use Rattle.turn_rules.specs.declared.ahead.Why.TheVariants.{Reply, Name};
 ghost use Rattle.turn_rules.specs.Carried.{own_ahead, carried, carried_items};
 ghost use Rattle.turn_rules.specs.WorkedTurns as worked;

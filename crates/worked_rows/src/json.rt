@@ -60,7 +60,7 @@ static AUDITS: [Told; 15] = [
         "isolated items=2\n",
         0,
     ),
-    // Whole numbers alone, up to 64 bits.
+    // ClusterModel numbers alone, up to 64 bits.
     (
         "{\"kind\":\"begin\",\"session\":\"s0\",\"start\":1}\n{\"kind\":\"begin\",\"session\":\"s1\",\"start\":2.0}\n",
         "history line 2: not an item\n",

@@ -20,7 +20,7 @@ use Rattle.isolation_laws.specs.Words.{ClientAt}
 use Rattle.isolation_laws.specs.Requests.{WaitsFor}
 use Rattle.machine.specs.Faults.{is_fault, faults_in}
 use Rattle.isolation_laws.specs.Bare.{BareAt, IsOf, IsOwned, AreOwned}
-use Rattle.isolation_laws.specs.Holds.{Holds}
+use Rattle.isolation_laws.specs.IsolationInvariant.{IsolationInvariant}
 use Rattle.machine.proofs.Lookups.{set_found, set_other, one_client}
 use Rattle.machine.specs.Outcome.OutcomesOfSessions.{AtOpen, WriteFailed, write_failed_state}
 use Rattle.machine.specs.Outcome.OutcomesOfWork.{fetched_client, fetched_turn, read_client, read_turn, ReadDropped, CompletedOne, completed_state}
@@ -50,13 +50,13 @@ owned_on old new rows left h items fewer stays owned = record {
   ];
 }
 
-by_clients : (w : State) (h items : List Item) (new : List Client) → OwnedOn w.clients new → Holds w h → AreOwned new w.rows (h ++ items)
+by_clients : (w : State) (h items : List Item) (new : List Client) → OwnedOn w.clients new → IsolationInvariant w h → AreOwned new w.rows (h ++ items)
 by_clients w h items new stays holds = owned_on w.clients new w.rows w.rows h items (λ k t b. b) (λ k t b o. stays k t o) holds.owned
 
-by_client : (w : State) (h items : List Item) (s : ℕ) (c new : Client) → ClientAt w.clients s c → HasOn c new → Holds w h → AreOwned (slice_set w.clients s new) w.rows (h ++ items)
+by_client : (w : State) (h items : List Item) (s : ℕ) (c new : Client) → ClientAt w.clients s c → HasOn c new → IsolationInvariant w h → AreOwned (slice_set w.clients s new) w.rows (h ++ items)
 by_client w h items s c new at keeps holds = by_clients w h items (slice_set w.clients s new) (owned_set w.clients s c new at keeps) holds
 
-by_rows : (w : State) (h items : List Item) (left : List Row) → ((k t : ℕ) → BareAt left k t → BareAt w.rows k t) → Holds w h → AreOwned w.clients left (h ++ items)
+by_rows : (w : State) (h items : List Item) (left : List Row) → ((k t : ℕ) → BareAt left k t → BareAt w.rows k t) → IsolationInvariant w h → AreOwned w.clients left (h ++ items)
 by_rows w h items left fewer holds = owned_on w.clients w.clients w.rows left h items fewer (λ k t b o. o) holds.owned
 
 -- ---- clients
@@ -69,14 +69,14 @@ outcome_other same = cc
 none_wrote : (c new : Client) → c.entry.state ≡ phase.Open → c.entry.keys ≡ [] → HasOn c new
 none_wrote c new is none k t of = absurd (in_none k c.entry.keys none (has_in c k t phase.Open is of))
 
-dropped_has : (w : State) (h : List Item) (k : ReadDropped w) → Holds w h → HasOn k.c (record k.c { under_way = k.under_way })
+dropped_has : (w : State) (h : List Item) (k : ReadDropped w) → IsolationInvariant w h → HasOn k.c (record k.c { under_way = k.under_way })
 dropped_has w h k holds j t of = elim k.under_way_is [
   | inl same ↦ subst (λ (work : UnderWay). IsOf k.c.entry work j t) (sym same.0) of
   | inr reads ↦ of_work k.c.entry k.c.under_way k.under_way j t ((plain_reading w.rows h k.c reads.0.0 (work_of w h k.session k.c holds k.client_at) reads.0.1).not_completing true) of
 ]
 
 -- ---- a write
-put_owned : (w : State) (h items : List Item) (it : AtOpen w) (start key : ℕ) (value : List ℕ) (new : Client) → it.c.entry.start ≡ Some start → HasOn it.c new → Has new key start → Holds w h → AreOwned (slice_set w.clients it.session new) (put_row w.rows key start value) (h ++ items)
+put_owned : (w : State) (h items : List Item) (it : AtOpen w) (start key : ℕ) (value : List ℕ) (new : Client) → it.c.entry.start ≡ Some start → HasOn it.c new → Has new key start → IsolationInvariant w h → AreOwned (slice_set w.clients it.session new) (put_row w.rows key start value) (h ++ items)
 put_owned w h items it start key value new start_is keeps now holds = record {
   lost = holds.owned.lost;
   few = omega (arith, holds.owned.few, faults_on h items);
@@ -92,21 +92,21 @@ put_owned w h items it start key value new start_is keeps now holds = record {
 failed_has : (w : State) (k : WriteFailed w) → HasOn k.it.c (client_aborted (client_wrote k.it.c k.key))
 failed_has w k j t of = aborted_has (client_wrote k.it.c k.key) k.it.is_open j t (wrote_has k.it.c k.key k.it.is_open j t of)
 
-failed_owned : (w : State) (h : List Item) (k : WriteFailed w) (rows : List Row) → (rows ≡ w.rows) ⊎ (rows ≡ put_row w.rows k.key k.start k.value) → Holds w h → AreOwned (write_failed_state w k).clients rows (h ++ k.items)
+failed_owned : (w : State) (h : List Item) (k : WriteFailed w) (rows : List Row) → (rows ≡ w.rows) ⊎ (rows ≡ put_row w.rows k.key k.start k.value) → IsolationInvariant w h → AreOwned (write_failed_state w k).clients rows (h ++ k.items)
 failed_owned w h k rows (inl same) holds = subst (λ (all : List Row). AreOwned (write_failed_state w k).clients all (h ++ k.items)) (sym same) (by_client w h k.items k.it.session k.it.c _ k.it.client_at (failed_has w k) holds)
 failed_owned w h k rows (inr put) holds =
     subst (λ (all : List Row). AreOwned (write_failed_state w k).clients all (h ++ k.items)) (sym put)
     (put_owned w h k.items k.it k.start k.key k.value _ k.start_is (failed_has w k) (aborted_has (client_wrote k.it.c k.key) k.it.is_open k.key k.start (has_written k.it.c k.key k.start k.it.is_open k.start_is)) holds)
 
 -- ---- an offered shadow, which may have been set
-healed_owned : (w : State) (h : List Item) (it : AtOpen w) (key version commit : ℕ) (applied : Bool) (items : List Item) → Holds w h → AreOwned (slice_set w.clients it.session (record it.c { heal = None })) (if applied then with_shadow w.rows key version commit else w.rows) (h ++ items)
+healed_owned : (w : State) (h : List Item) (it : AtOpen w) (key version commit : ℕ) (applied : Bool) (items : List Item) → IsolationInvariant w h → AreOwned (slice_set w.clients it.session (record it.c { heal = None })) (if applied then with_shadow w.rows key version commit else w.rows) (h ++ items)
 healed_owned w h it key version commit applied items holds = owned_on w.clients _ w.rows _ h items
     (λ j t b. bare_if w.rows (Shadow key version commit) applied j t holds.cells.rows_are.ordered b)
     (λ j t b o. owned_set w.clients it.session it.c (record it.c { heal = None }) it.client_at (λ k u of. of) j t o)
     holds.owned
 
 -- ---- a step of a completion: where it fails its transaction is let go
-went_owned : (w : State) (h : List Item) (k : CompletedOne w) → Holds w h → AreOwned (slice_set w.clients k.session (after_asks k.c k.asks)) (rows_after k.asked w.rows) (h ++ k.items)
+went_owned : (w : State) (h : List Item) (k : CompletedOne w) → IsolationInvariant w h → AreOwned (slice_set w.clients k.session (after_asks k.c k.asks)) (rows_after k.asked w.rows) (h ++ k.items)
 went_owned w h k holds = owned_on w.clients _ w.rows (rows_after k.asked w.rows) h k.items
     (λ j t b. bare_before w.rows k.asked j t holds.cells.rows_are.ordered b)
     (λ j t b o. owned_at w.clients k.session k.c (after_asks k.c k.asks) j t k.client_at (completion_has w h k.session k.c k.undo k.asked k.asks j t holds k.client_at k.completing k.under_way b) o)
@@ -128,7 +128,7 @@ lost_or_owned w k new start j t lost start_is o = elim (cases_eq o.session k.ses
   | inr other ↦ inl (record { session = o.session; client = o.client; at = set_other w.clients k.session o.session new other ∙ o.at; its = o.its })
 ]
 
-let_go : (w : State) (h : List Item) (k : CompletedOne w) → 1 ≤ faults_in k.items → Holds w h → AreOwned (completed_state w k).clients (completed_state w k).rows (h ++ k.items)
+let_go : (w : State) (h : List Item) (k : CompletedOne w) → 1 ≤ faults_in k.items → IsolationInvariant w h → AreOwned (completed_state w k).clients (completed_state w k).rows (h ++ k.items)
 let_go w h k fault holds =
     let start = start_of w h k.session k.c (phase.Completing k.undo) holds k.client_at k.completing refl in
     record {
@@ -140,7 +140,7 @@ let_go w h k fault holds =
       ];
     }
 
-completed_owned : (w : State) (h : List Item) (k : CompletedOne w) → Holds w h → AreOwned (completed_state w k).clients (completed_state w k).rows (h ++ k.items)
+completed_owned : (w : State) (h : List Item) (k : CompletedOne w) → IsolationInvariant w h → AreOwned (completed_state w k).clients (completed_state w k).rows (h ++ k.items)
 completed_owned w h k holds = elim k.left_is [
   | inl goes ↦
       subst (λ (b : Bool). AreOwned (slice_set w.clients k.session k.left) (if b then rows_after k.asked w.rows else w.rows) (h ++ k.items)) (sym goes.1)
@@ -149,7 +149,7 @@ completed_owned w h k holds = elim k.left_is [
 ]
 
 -- ---- all outcomes
-pub owned_kept : (w : State) (h : List Item) (o : Outcome w) → Holds w h → AreOwned (left_by w o).clients (left_by w o).rows (h ++ told_by_outcome w o)
+pub owned_kept : (w : State) (h : List Item) (o : Outcome w) → IsolationInvariant w h → AreOwned (left_by w o).clients (left_by w o).rows (h ++ told_by_outcome w o)
 owned_kept w h (OfCrashed k) holds = by_clients w h k.items _ (owned_crashed k.i.requests w.clients (λ s c held at has. waits_for w h k.node s k.i held c holds k.at has at)) holds
 owned_kept w h (OfAskedBegin k) holds = by_client w h _ k.session k.c _ k.client_at (λ j t of. absurd (free_none k.c j t k.free of)) holds
 owned_kept w h (OfAskedCommit k) holds = by_client w h k.items k.session k.c _ k.client_at (asked_has k.c k.is_open) holds

@@ -20,7 +20,7 @@ use Rattle.machine.specs.Events.Step.{after_asks}
 use Rattle.isolation_laws.specs.Words.{ClientAt}
 use Rattle.isolation_laws.specs.UnderWay.{IsFinish}
 use Rattle.isolation_laws.specs.Bare.{MayHave, BareAt}
-use Rattle.isolation_laws.specs.Holds.{Holds}
+use Rattle.isolation_laws.specs.IsolationInvariant.{IsolationInvariant}
 use Rattle.isolation_laws.proofs.Stores.CellsStay.{shadow_cases}
 use Rattle.isolation_laws.proofs.Stores.CellsMove.{bare_not_shadowed}
 use Rattle.isolation_laws.proofs.Stores.StoreMoves.{AskFits}
@@ -85,7 +85,7 @@ finish_ends : (t c : ℕ) (ks : List ℕ) → [] ≡ finish_asks t c ks → ⊥
 finish_ends t c [] is = no_asks (ask.Remove t) [] (sym is)
 finish_ends t c (k ∷ ks) is = no_asks (ask.Shadow k t c) (finish_asks t c ks) (sym is)
 
-finished_none : (w : State) (h : List Item) (t c k : ℕ) (asked : Ask) → Holds w h → IsFinish w.rows h t c (asked ∷ []) → BareAt w.rows k t → ⊥
+finished_none : (w : State) (h : List Item) (t c k : ℕ) (asked : Ask) → IsolationInvariant w h → IsFinish w.rows h t c (asked ∷ []) → BareAt w.rows k t → ⊥
 finished_none w h t c k asked holds finish b = elim (finish_first t c finish.left asked [] finish.shape) [
   | inl last ↦
       let fits : AskFits w h (ask.Remove t) = subst (λ (a : Ask). AskFits w h a) last.1 (finish_fits w h t c asked [] holds finish) in
@@ -93,13 +93,13 @@ finished_none w h t c k asked holds finish b = elim (finish_first t c finish.lef
   | inr more ↦ finish_ends t c more.1 more.4
 ]
 
-finished_on : (w : State) (h : List Item) (s : ℕ) (c : Client) (asked : Ask) (asks : List Ask) (k t : ℕ) → Holds w h → ClientAt w.clients s c → c.entry.state ≡ phase.Completing false → c.under_way ≡ Completes (asked ∷ asks) → BareAt w.rows k t → Has c k t → Has (after_asks c asks) k t
+finished_on : (w : State) (h : List Item) (s : ℕ) (c : Client) (asked : Ask) (asks : List Ask) (k t : ℕ) → IsolationInvariant w h → ClientAt w.clients s c → c.entry.state ≡ phase.Completing false → c.under_way ≡ Completes (asked ∷ asks) → BareAt w.rows k t → Has c k t → Has (after_asks c asks) k t
 finished_on w h s c asked [] k t holds at is busy b of =
     let f = (work_of w h s c holds at).finish (asked ∷ []) is busy in
     absurd (finished_none w h f.0 f.1 k asked holds f.4 (subst (λ (q : ℕ). BareAt w.rows k q) (same_Some t f.0 (sym of.0 ∙ f.2)) b))
 finished_on w h s c asked (a ∷ more) k t holds at is busy b of = (of.0, subst (λ (state : SessionState). MayHave state c.entry.keys (Completes (a ∷ more)) t k) (sym is) tt)
 
 -- ---- a step of a completion
-pub completion_has : (w : State) (h : List Item) (s : ℕ) (c : Client) (undo : Bool) (asked : Ask) (asks : List Ask) (k t : ℕ) → Holds w h → ClientAt w.clients s c → c.entry.state ≡ phase.Completing undo → c.under_way ≡ Completes (asked ∷ asks) → BareAt (rows_after asked w.rows) k t → Has c k t → Has (after_asks c asks) k t
+pub completion_has : (w : State) (h : List Item) (s : ℕ) (c : Client) (undo : Bool) (asked : Ask) (asks : List Ask) (k t : ℕ) → IsolationInvariant w h → ClientAt w.clients s c → c.entry.state ≡ phase.Completing undo → c.under_way ≡ Completes (asked ∷ asks) → BareAt (rows_after asked w.rows) k t → Has c k t → Has (after_asks c asks) k t
 completion_has w h s c true asked asks k t holds at is busy b of = undo_has w.rows c asked asks k t holds.cells.rows_are.ordered is busy b of
 completion_has w h s c false asked asks k t holds at is busy b of = finished_on w h s c asked asks k t holds at is busy (bare_before w.rows asked k t holds.cells.rows_are.ordered b) of

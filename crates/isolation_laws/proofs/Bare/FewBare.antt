@@ -17,7 +17,7 @@ use Rattle.system_parts.specs.Rows.{looked, fetched, AreFalling}
 use Rattle.machine.specs.State.{Client, State}
 use Rattle.isolation_laws.specs.Words.{ClientAt}
 use Rattle.isolation_laws.specs.Bare.{is_bare, BareCellsAreFew}
-use Rattle.isolation_laws.specs.Holds.{Holds}
+use Rattle.isolation_laws.specs.IsolationInvariant.{IsolationInvariant}
 use Rattle.isolation_laws.proofs.Reading.SeesFetched.{are_fetched}
 
 -- ---- members, by the test
@@ -123,7 +123,7 @@ bare_is None is = refl
 bare_is (Some commit) is = absurd (cc)
 
 -- ---- each is of a session, or was let go
-owned_version : (w : State) (h : List Item) (key upto q : ℕ) → (holds : Holds w h) → is_member (λ (a : ℕ) (b : ℕ). a == b) (versions_of (fetched w.rows key upto)) q ≡ true → q ∈ (starts_of w.clients ++ holds.owned.lost)
+owned_version : (w : State) (h : List Item) (key upto q : ℕ) → (holds : IsolationInvariant w h) → is_member (λ (a : ℕ) (b : ℕ). a == b) (versions_of (fetched w.rows key upto)) q ≡ true → q ∈ (starts_of w.clients ++ holds.owned.lost)
 owned_version w h key upto q holds is =
     let cell = bare_version (λ (c : Cell). looked w.rows key c.version ≡ Some c) q (fetched w.rows key upto) (are_fetched w h key upto holds).found is in
     elim (holds.owned.each key q (record { cell = cell.0; there = subst (λ (t : ℕ). looked w.rows key t ≡ Some cell.0) cell.3 cell.1; bare = bare_is cell.0.shadow cell.2 })) [
@@ -135,7 +135,7 @@ as_many : (cells : List Cell) → length (versions_of cells) ≡ length (filter 
 unfolding versions_of
 as_many cells = length-map (filter is_bare cells) (λ (c : Cell). c.version)
 
-pub few_bare : (w : State) (h : List Item) → Holds w h → BareCellsAreFew w h
+pub few_bare : (w : State) (h : List Item) → IsolationInvariant w h → BareCellsAreFew w h
 few_bare w h holds key upto =
     let cells : List Cell = fetched w.rows key upto in
     let all : List ℕ = starts_of w.clients ++ holds.owned.lost in

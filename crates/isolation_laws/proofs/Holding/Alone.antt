@@ -16,7 +16,7 @@ use Rattle.isolation_laws.specs.Cells.{CellFacts}
 use Rattle.isolation_laws.specs.Begins.{AreFreshBegins, AreSettledBelow}
 use Rattle.isolation_laws.specs.ReadSets.{AreReadSets}
 use Rattle.isolation_laws.specs.UnderWay.{UnderWayFacts}
-use Rattle.isolation_laws.specs.Holds.{Holds}
+use Rattle.isolation_laws.specs.IsolationInvariant.{IsolationInvariant}
 use Rattle.isolation_laws.proofs.Pushed.{written_keys-quiet}
 use Rattle.isolation_laws.proofs.Memory.MemoryStays.{SameMemory, RecordsNothing, nothing_quiet, nothing_more, memory_same}
 use Rattle.isolation_laws.proofs.Requests.PendingAfter.{FewerPending}
@@ -174,7 +174,7 @@ items_more c h x items told plain unstamped unasked quiet = record {
 }
 
 -- by a frame
-pub alone_frame : (w : State) (h : List Item) (o : Outcome w) → Frame w h (left_by w o) (told_by_outcome w o) → Holds w h → Alone w h o
+pub alone_frame : (w : State) (h : List Item) (o : Outcome w) → Frame w h (left_by w o) (told_by_outcome w o) → IsolationInvariant w h → Alone w h o
 alone_frame w h o f holds = record {
   nodes = nodes_all (changes o) w.nodes (left_by w o).nodes f.nodes;
   clients = clients_all (changes o) w.clients (left_by w o).clients f.clients;
@@ -188,10 +188,10 @@ alone_frame w h o f holds = record {
 }
 
 -- ---- each group of facts is kept where nothing that it reads changes
-pub memory_alone : (w : State) (h : List Item) (o : Outcome w) → Alone w h o → (changes o).memory ≡ false → Holds w h → MemoryFacts w.setup (left_by w o).nodes (h ++ told_by_outcome w o)
+pub memory_alone : (w : State) (h : List Item) (o : Outcome w) → Alone w h o → (changes o).memory ≡ false → IsolationInvariant w h → MemoryFacts w.setup (left_by w o).nodes (h ++ told_by_outcome w o)
 memory_alone w h o a is holds = memory_same w.setup w.nodes (left_by w o).nodes h (h ++ told_by_outcome w o) (a.nodes.memory is) (a.items.records is) holds.memory
 
-pub read_sets_alone : (w : State) (h : List Item) (o : Outcome w) → Alone w h o → (changes o).held ≡ false → (changes o).opened ≡ false → (changes o).reading ≡ false → SameReads w.clients (left_by w o).clients → Holds w h → AreReadSets w.setup (left_by w o).clients (left_by w o).nodes (h ++ told_by_outcome w o)
+pub read_sets_alone : (w : State) (h : List Item) (o : Outcome w) → Alone w h o → (changes o).held ≡ false → (changes o).opened ≡ false → (changes o).reading ≡ false → SameReads w.clients (left_by w o).clients → IsolationInvariant w h → AreReadSets w.setup (left_by w o).clients (left_by w o).nodes (h ++ told_by_outcome w o)
 read_sets_alone w h o a held opened reading same holds =
     read_sets_stay w h (told_by_outcome w o) (left_by w o).clients (left_by w o).nodes same (a.clients.opened opened) (a.clients.reading reading)
     (fewer_commits w.nodes (left_by w o).nodes (a.nodes.held held)) (none_more h (told_by_outcome w o) (a.items.reads reading)) holds

@@ -15,7 +15,7 @@ use Rattle.machine.specs.StoreSteps.{rows_after, pairs_after}
 use Rattle.machine.specs.Quiet.{Quiet, AllQuiet}
 use Rattle.isolation_laws.specs.Cells.{CellFacts}
 use Rattle.isolation_laws.specs.UnderWay.{UnderWayFacts}
-use Rattle.isolation_laws.specs.Holds.{Holds}
+use Rattle.isolation_laws.specs.IsolationInvariant.{IsolationInvariant}
 use Rattle.machine.specs.Outcome.OutcomesOfSessions.{Healed}
 use Rattle.machine.specs.Outcome.OutcomesOfWork.{MayHaveMarked}
 use Rattle.isolation_laws.proofs.Requests.PendingFewer.{fewer_settled}
@@ -45,15 +45,15 @@ use Rattle.isolation_laws.proofs.Holding.Frames.{NodesFrame, nodes_stay, nodes_a
 
 -- ---- stores
 -- the table may have got a mark
-stores_marked : (w : State) (h : List Item) (pairs : Pairs) → MayHaveMarked w.pairs pairs → Holds w h → StoresFrame w h w.rows pairs
+stores_marked : (w : State) (h : List Item) (pairs : Pairs) → MayHaveMarked w.pairs pairs → IsolationInvariant w h → StoresFrame w h w.rows pairs
 stores_marked w h pairs marked holds = record { cells = cells_may_mark w h pairs holds marked; shadows = shadows_same h w.rows }
 
 -- a step on the stores may have been made
-cells_if : (w : State) (h : List Item) (asked : Ask) (applied : Bool) → Holds w h → AskFits w h asked → CellFacts w.clients w.nodes (if applied then rows_after asked w.rows else w.rows) (if applied then pairs_after asked w.pairs else w.pairs) h
+cells_if : (w : State) (h : List Item) (asked : Ask) (applied : Bool) → IsolationInvariant w h → AskFits w h asked → CellFacts w.clients w.nodes (if applied then rows_after asked w.rows else w.rows) (if applied then pairs_after asked w.pairs else w.pairs) h
 cells_if w h asked true holds fits = cells_stepped w h asked holds fits
 cells_if w h asked false holds fits = holds.cells
 
-stores_if : (w : State) (h : List Item) (asked : Ask) (applied : Bool) → Holds w h → AskFits w h asked → FillsPlaced h asked → StoresFrame w h (if applied then rows_after asked w.rows else w.rows) (if applied then pairs_after asked w.pairs else w.pairs)
+stores_if : (w : State) (h : List Item) (asked : Ask) (applied : Bool) → IsolationInvariant w h → AskFits w h asked → FillsPlaced h asked → StoresFrame w h (if applied then rows_after asked w.rows else w.rows) (if applied then pairs_after asked w.pairs else w.pairs)
 stores_if w h asked applied holds fits fills = record {
   cells = cells_if w h asked applied holds fits;
   shadows = shadows_if h w.rows (rows_after asked w.rows) applied (shadows_after h w.rows asked holds.isolated.stamped fills);
@@ -72,18 +72,18 @@ ask_rows rows key txn point.Table = refl
 ask_rows rows key txn point.Marking = refl
 ask_rows rows key txn (point.LastLook met) = refl
 
-pub settle_cells : (w : State) (h : List Item) (x : Settling) → Holds w h → CellFacts w.clients w.nodes w.rows (pairs_after (settle_ask x) w.pairs) h
+pub settle_cells : (w : State) (h : List Item) (x : Settling) → IsolationInvariant w h → CellFacts w.clients w.nodes w.rows (pairs_after (settle_ask x) w.pairs) h
 settle_cells w h x holds = subst (λ (rows : List Row). CellFacts w.clients w.nodes rows (pairs_after (settle_ask x) w.pairs) h) (ask_rows w.rows x.key x.txn x.point) (cells_stepped w h (settle_ask x) holds (ask_fits w h x.key x.txn x.point))
 
-stores_settled : (w : State) (h : List Item) (x : Settling) → Holds w h → StoresFrame w h w.rows (pairs_after (settle_ask x) w.pairs)
+stores_settled : (w : State) (h : List Item) (x : Settling) → IsolationInvariant w h → StoresFrame w h w.rows (pairs_after (settle_ask x) w.pairs)
 stores_settled w h x holds = record { cells = settle_cells w h x holds; shadows = shadows_same h w.rows }
 
 -- an offered shadow may have been set
-healed_cells : (w : State) (h : List Item) (k : Healed w) (applied : Bool) → Holds w h → CellFacts w.clients w.nodes (if applied then with_shadow w.rows k.key k.version k.commit else w.rows) w.pairs h
+healed_cells : (w : State) (h : List Item) (k : Healed w) (applied : Bool) → IsolationInvariant w h → CellFacts w.clients w.nodes (if applied then with_shadow w.rows k.key k.version k.commit else w.rows) w.pairs h
 healed_cells w h k true holds = cells_shadow w.clients w.nodes w.rows w.pairs h k.key k.version k.commit holds.isolated.stamped (never_live w h holds) (heal_placed w h k holds) holds.cells
 healed_cells w h k false holds = holds.cells
 
-stores_healed : (w : State) (h : List Item) (k : Healed w) → Holds w h → StoresFrame w h (if k.applied then with_shadow w.rows k.key k.version k.commit else w.rows) w.pairs
+stores_healed : (w : State) (h : List Item) (k : Healed w) → IsolationInvariant w h → StoresFrame w h (if k.applied then with_shadow w.rows k.key k.version k.commit else w.rows) w.pairs
 stores_healed w h k holds = record {
   cells = healed_cells w h k k.applied holds;
   shadows = shadows_if h w.rows (with_shadow w.rows k.key k.version k.commit) k.applied (shadows_set h w.rows k.key k.version k.commit holds.isolated.stamped (heal_placed w h k holds));
@@ -108,23 +108,23 @@ is_framed (OfSweepListed k) = false
 is_framed _ = true
 
 -- by what it leaves of requests and sessions, where nothing of them is told
-untold : (w : State) (h : List Item) (left : State) (items : List Item) → AllQuiet items → w.seen ≤ left.seen → NodesFrame w.nodes left.nodes → FewerReading w.clients left.clients → StoresFrame w h left.rows left.pairs → Leaves w h left.nodes left.clients → UnderWayFacts left.clients left.sweep left.rows left.pairs (h ++ items) → Holds w h → Frame w h left items
+untold : (w : State) (h : List Item) (left : State) (items : List Item) → AllQuiet items → w.seen ≤ left.seen → NodesFrame w.nodes left.nodes → FewerReading w.clients left.clients → StoresFrame w h left.rows left.pairs → Leaves w h left.nodes left.clients → UnderWayFacts left.clients left.sweep left.rows left.pairs (h ++ items) → IsolationInvariant w h → Frame w h left items
 untold w h left items quiet up nodes reading stores leaves under_way holds =
     frame w h left items quiet up nodes leaves.pending (record { opened = leaves.opened; reading = reading }) stores
     (requests_silent w h (h ++ items) left.nodes left.clients (silent_quiet h items quiet) leaves holds) under_way
 
 -- a client alone changes, and the stores
-by_client : (w : State) (h items : List Item) (clients : List Client) (rows : List Row) (pairs : Pairs) → AllQuiet items → FewerReading w.clients clients → StoresFrame w h rows pairs → Leaves w h w.nodes clients → UnderWayFacts clients w.sweep rows pairs (h ++ items) → Holds w h → Frame w h (record w { clients = clients; rows = rows; pairs = pairs }) items
+by_client : (w : State) (h items : List Item) (clients : List Client) (rows : List Row) (pairs : Pairs) → AllQuiet items → FewerReading w.clients clients → StoresFrame w h rows pairs → Leaves w h w.nodes clients → UnderWayFacts clients w.sweep rows pairs (h ++ items) → IsolationInvariant w h → Frame w h (record w { clients = clients; rows = rows; pairs = pairs }) items
 by_client w h items clients rows pairs quiet reading stores leaves under_way holds =
     untold w h (record w { clients = clients; rows = rows; pairs = pairs }) items quiet (omega arith) (nodes_stay w.nodes) reading stores leaves under_way holds
 
 -- the sweep alone changes, and the stores
-by_sweep : (w left : State) (h items : List Item) → AllQuiet items → StoresFrame w h left.rows left.pairs → UnderWayFacts w.clients left.sweep left.rows left.pairs (h ++ items) → Holds w h → Frame w h (record w { sweep = left.sweep; rows = left.rows; pairs = left.pairs }) items
+by_sweep : (w left : State) (h items : List Item) → AllQuiet items → StoresFrame w h left.rows left.pairs → UnderWayFacts w.clients left.sweep left.rows left.pairs (h ++ items) → IsolationInvariant w h → Frame w h (record w { sweep = left.sweep; rows = left.rows; pairs = left.pairs }) items
 by_sweep w left h items quiet stores under_way holds =
     untold w h (record w { sweep = left.sweep; rows = left.rows; pairs = left.pairs }) items quiet (omega arith) (nodes_stay w.nodes) (same_reading w.clients) stores (leaves_alone w h holds) under_way holds
 
 -- ---- the frame of each
-pub framed : (w : State) (h : List Item) (o : Outcome w) → Holds w h → is_framed o ≡ true → Frame w h (left_by w o) (told_by_outcome w o)
+pub framed : (w : State) (h : List Item) (o : Outcome w) → IsolationInvariant w h → is_framed o ≡ true → Frame w h (left_by w o) (told_by_outcome w o)
 framed w h (OfStill k) holds is = untold w h (left_by w (OfStill k)) k.items k.quiet k.up (nodes_alike w.nodes k.nodes k.alike) (same_reading w.clients) (stores_stay w h holds) (leaves_still w h k holds) (under_way_same w h _ holds (calm_quiet h k.items k.quiet)) holds
 framed w h (OfCrashed k) holds is = untold w h (left_by w (OfCrashed k)) k.items k.quiet (omega arith) (nodes_ended w.nodes k.node) (reading_after w (OfCrashed k) refl) (stores_stay w h holds) (leaves_crashed w h k holds) (under_way_crashed w h k holds) holds
 framed w h (OfEnded k) holds is = untold w h (left_by w (OfEnded k)) k.items k.quiet k.up (nodes_over w.nodes k.node k.session k.i k.at) (reading_after w (OfEnded k) refl) (stores_stay w h holds) (leaves_ended w h k holds) (under_way_ended w h k holds) holds

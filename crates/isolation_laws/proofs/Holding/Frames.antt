@@ -15,7 +15,7 @@ use Rattle.isolation_laws.specs.Numbers.{NumberFacts}
 use Rattle.isolation_laws.specs.Requests.{RequestFacts}
 use Rattle.isolation_laws.specs.Cells.{CellFacts}
 use Rattle.isolation_laws.specs.UnderWay.{UnderWayFacts}
-use Rattle.isolation_laws.specs.Holds.{Holds}
+use Rattle.isolation_laws.specs.IsolationInvariant.{IsolationInvariant}
 use Rattle.machine.specs.Outcome.OutcomesOfRecord.{AlikeNodes}
 use Rattle.machine.specs.Outcome.OutcomesOfStamps.{AtDrawn, settled_nodes}
 use Rattle.isolation_laws.proofs.Numbers.NumbersStay.{SameNumbers, numbered_same, numbered_alike, numbered_ended, numbered_set, numbered}
@@ -101,7 +101,7 @@ pub record StoresFrame (w : State) (h : List Item) (rows : List Row) (pairs : Pa
   pub cells : CellFacts w.clients w.nodes rows pairs h
   pub shadows : ShadowsStay h w.rows rows
 
-pub stores_stay : (w : State) (h : List Item) → Holds w h → StoresFrame w h w.rows w.pairs
+pub stores_stay : (w : State) (h : List Item) → IsolationInvariant w h → StoresFrame w h w.rows w.pairs
 stores_stay w h holds = record { cells = holds.cells; shadows = shadows_same h w.rows }
 
 -- ---- all of them, with items that no fact reads
@@ -130,7 +130,7 @@ frame w h left items quiet up nodes pending clients stores requests under_way = 
 }
 
 -- ---- what is kept by a frame
-pub numbers_framed : (w : State) (h : List Item) (left : State) (items : List Item) → Frame w h left items → Holds w h → NumberFacts w.setup left.seen left.nodes w.master (h ++ items)
+pub numbers_framed : (w : State) (h : List Item) (left : State) (items : List Item) → Frame w h left items → IsolationInvariant w h → NumberFacts w.setup left.seen left.nodes w.master (h ++ items)
 numbers_framed w h left items f holds = quiet_one w h left.nodes left.seen items f.nodes.numbers f.up f.quiet holds
 
 pub live_framed : (w : State) (h : List Item) (left : State) (items : List Item) → Frame w h left items → FewerLive w.clients w.nodes left.clients left.nodes

@@ -11,7 +11,7 @@ use Rattle.history_book.proofs.MemberLemmas.{AtEach-push}
 use Rattle.machine.specs.State.{State}
 use Rattle.isolation_laws.specs.Words.{Begun}
 use Rattle.machine.specs.Quiet.{AllQuiet}
-use Rattle.isolation_laws.specs.Holds.{Holds}
+use Rattle.isolation_laws.specs.IsolationInvariant.{IsolationInvariant}
 use Rattle.isolation_laws.proofs.Pushed.{in_append}
 use Rattle.machine.specs.Outcome.OutcomesOfStamps.{AnsweredBegin, answered_begin_items}
 use Rattle.machine.specs.Outcome.Outcomes.{Outcome, OfPlaced, OfOwnPlaced, OfAnsweredBegin, told_by_outcome}
@@ -25,7 +25,7 @@ pub data Stamping (w : State) (items : List Item) : Type 0 where
   StampsPlaced : (p : PlacedPending w) (rest : List Item) → AllQuiet rest → items ≡ placed_item w p ∷ rest → Stamping w items
   StampsBegin : (k : AnsweredBegin w) → items ≡ answered_begin_items w k → Stamping w items
 
-pub stamping : (w : State) (h : List Item) (o : Outcome w) → Holds w h → Stamping w (told_by_outcome w o)
+pub stamping : (w : State) (h : List Item) (o : Outcome w) → IsolationInvariant w h → Stamping w (told_by_outcome w o)
 stamping w h (OfPlaced k) holds = StampsPlaced (by_its_node w h k holds) k.items k.quiet refl
 stamping w h (OfOwnPlaced k) holds = StampsPlaced (by_its_session w k) k.items k.quiet refl
 stamping w h (OfAnsweredBegin k) holds = StampsBegin k refl

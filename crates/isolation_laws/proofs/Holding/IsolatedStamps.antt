@@ -8,7 +8,7 @@ use Rattle.machine.specs.State.{State}
 use Rattle.isolation_laws.specs.Words.{Begun, DrewCommit}
 use Rattle.isolation_laws.specs.Numbers.{AreNewDraws, AreBegun, ArePlaced}
 use Rattle.isolation_laws.specs.Memory.{DrawnApart}
-use Rattle.isolation_laws.specs.Holds.{Holds}
+use Rattle.isolation_laws.specs.IsolationInvariant.{IsolationInvariant}
 use Rattle.isolation_laws.proofs.OnceEach.{drawn_once, commit_above_start}
 use Rattle.machine.specs.Outcome.OutcomesOfStamps.{AnsweredBegin, answered_begin_items}
 use Rattle.machine.specs.Outcome.Outcomes.{Outcome, told_by_outcome}
@@ -55,14 +55,14 @@ placed_is : (t u c d : ℕ) → item.Placed t c ≡ item.Placed u d → (t ≡ u
 placed_is t u c d same = (cc, cc)
 
 -- the transaction of a commit that was placed earlier is another, and so is its commit
-placed_new : (w : State) (h : List Item) (p : PlacedPending w) → Holds w h → (u d : ℕ) → Committed h u d → (u ≢ p.coming.start) × (d ≢ p.commit)
+placed_new : (w : State) (h : List Item) (p : PlacedPending w) → IsolationInvariant w h → (u d : ℕ) → Committed h u d → (u ≢ p.coming.start) × (d ≢ p.commit)
 placed_new w h p holds u d placed =
     let drew = placed_drew w h p holds in
     let other : u ≢ p.coming.start = λ same. drew.1 d (subst (λ t. Committed h t d) same placed) in
     let was = holds.numbers.placed.drawn u d placed in
     (other, λ same. other (draws_differ was.0 p.coming.session was.1 drew.0.0 was.2 drew.0.1 u p.coming.start d p.commit (drawn_once h was.0 p.coming.session was.1 drew.0.0 was.2 drew.0.1 u p.coming.start (Some d) (Some p.commit) holds.numbers.new was.3 drew.0.2 same)))
 
-stamped_placed_one : (w : State) (h : List Item) (p : PlacedPending w) → Holds w h → Stamped (h ++ item.Placed p.coming.start p.commit ∷ [])
+stamped_placed_one : (w : State) (h : List Item) (p : PlacedPending w) → IsolationInvariant w h → Stamped (h ++ item.Placed p.coming.start p.commit ∷ [])
 stamped_placed_one w h p holds =
     let stamped : Stamped h = holds.isolated.stamped in
     let drew = (placed_drew w h p holds).0 in
@@ -88,12 +88,12 @@ begin_is : (r s t u : ℕ) → item.Begin r t ≡ item.Begin s u → t ≡ u
 begin_is r s t u same = cc
 
 -- no commit has a start that was drawn
-start_uncommitted : (w : State) (h : List Item) (k : AnsweredBegin w) → Holds w h → (u : ℕ) → Committed h u k.start → ⊥
+start_uncommitted : (w : State) (h : List Item) (k : AnsweredBegin w) → IsolationInvariant w h → (u : ℕ) → Committed h u k.start → ⊥
 start_uncommitted w h k holds u placed =
     let was = holds.numbers.placed.drawn u k.start placed in
     start_or_commit k.session was.0 k.node was.1 k.i.term was.2 k.start u k.start (drawn_once h k.session was.0 k.node was.1 k.i.term was.2 k.start u None (Some k.start) holds.numbers.new (drew_start w h k holds) was.3 refl)
 
-stamped_begin : (w : State) (h : List Item) (k : AnsweredBegin w) → Holds w h → Stamped (h ++ answered_begin_items w k)
+stamped_begin : (w : State) (h : List Item) (k : AnsweredBegin w) → IsolationInvariant w h → Stamped (h ++ answered_begin_items w k)
 stamped_begin w h k holds =
     let stamped : Stamped h = holds.isolated.stamped in
     let x : Item = item.Begin k.session k.start in
@@ -107,27 +107,27 @@ stamped_begin w h k holds =
       start_below_commit = λ t c placed. stamped.start_below_commit t c (commits t c placed);
     }
 
-fresh_begin : (w : State) (h : List Item) (k : AnsweredBegin w) → Holds w h → Fresh (h ++ answered_begin_items w k)
+fresh_begin : (w : State) (h : List Item) (k : AnsweredBegin w) → IsolationInvariant w h → Fresh (h ++ answered_begin_items w k)
 fresh_begin w h k holds = AtEach-push StartsAbove h (item.Begin k.session k.start) holds.isolated.fresh (λ t c placed. holds.begins.fresh.drawn k.node k.session k.start t c k.i k.at (begin_held w h k holds) placed)
 
 -- ---- every outcome
-stamped_by : (w : State) (h items : List Item) → Holds w h → Stamping w items → Stamped (h ++ items)
+stamped_by : (w : State) (h items : List Item) → IsolationInvariant w h → Stamping w items → Stamped (h ++ items)
 stamped_by w h items holds (StampsNone none) = stamped_on h items none holds.isolated.stamped
 stamped_by w h items holds (StampsPlaced p rest quiet is) = subst (λ xs. Stamped (h ++ xs)) (sym is) (subst (λ xs. Stamped xs) (append_assoc h (item.Placed p.coming.start p.commit ∷ []) rest) (stamped_on (h ++ item.Placed p.coming.start p.commit ∷ []) rest (quiet_no_stamps rest quiet) (stamped_placed_one w h p holds)))
 stamped_by w h items holds (StampsBegin k is) = subst (λ xs. Stamped (h ++ xs)) (sym is) (stamped_begin w h k holds)
 
-pub stamped_kept : (w : State) (h : List Item) (o : Outcome w) → Holds w h → Stamped (h ++ told_by_outcome w o)
+pub stamped_kept : (w : State) (h : List Item) (o : Outcome w) → IsolationInvariant w h → Stamped (h ++ told_by_outcome w o)
 stamped_kept w h o holds = stamped_by w h (told_by_outcome w o) holds (stamping w h o holds)
 
 fresh_on : (h items : List Item) → NoStamps items → Fresh h → Fresh (h ++ items)
 fresh_on h items none fresh = each_on StartsAbove h items no_start none fresh
 
-fresh_by : (w : State) (h items : List Item) → Holds w h → Stamping w items → Fresh (h ++ items)
+fresh_by : (w : State) (h items : List Item) → IsolationInvariant w h → Stamping w items → Fresh (h ++ items)
 fresh_by w h items holds (StampsNone none) = fresh_on h items none holds.isolated.fresh
 fresh_by w h items holds (StampsPlaced p rest quiet is) = subst (λ xs. Fresh (h ++ xs)) (sym is) (subst (λ xs. Fresh xs) (append_assoc h (item.Placed p.coming.start p.commit ∷ []) rest) (fresh_on (h ++ item.Placed p.coming.start p.commit ∷ []) rest (quiet_no_stamps rest quiet) (AtEach-push StartsAbove h (item.Placed p.coming.start p.commit) holds.isolated.fresh tt)))
 fresh_by w h items holds (StampsBegin k is) = subst (λ xs. Fresh (h ++ xs)) (sym is) (fresh_begin w h k holds)
 
-pub fresh_kept : (w : State) (h : List Item) (o : Outcome w) → Holds w h → Fresh (h ++ told_by_outcome w o)
+pub fresh_kept : (w : State) (h : List Item) (o : Outcome w) → IsolationInvariant w h → Fresh (h ++ told_by_outcome w o)
 fresh_kept w h o holds = fresh_by w h (told_by_outcome w o) holds (stamping w h o holds)
 
 -- ---- apart
@@ -140,5 +140,5 @@ apart_of_drawn h placed drawn = record {
       drawn.apart a.0 b.0 a.1 b.1 a.2 b.2 t c u d k v x a.3 b.3 differ wrote other;
 }
 
-pub apart_kept : (w : State) (h : List Item) (o : Outcome w) → Holds w h → Apart (h ++ told_by_outcome w o)
+pub apart_kept : (w : State) (h : List Item) (o : Outcome w) → IsolationInvariant w h → Apart (h ++ told_by_outcome w o)
 apart_kept w h o holds = apart_of_drawn (h ++ told_by_outcome w o) (numbers_kept w h o holds).placed (memory_kept w h o holds).apart

@@ -28,7 +28,7 @@ use Rattle.isolation_laws.specs.Words.{InstanceAt, HasDrawn, epoch_or_none}
 use Rattle.isolation_laws.specs.Numbers.{NumberFacts}
 use Rattle.isolation_laws.specs.Cells.{CellFacts}
 use Rattle.isolation_laws.specs.UnderWay.{UnderWayFacts}
-use Rattle.isolation_laws.specs.Holds.{Holds}
+use Rattle.isolation_laws.specs.IsolationInvariant.{IsolationInvariant}
 use Rattle.isolation_laws.proofs.Memory.MemoryStays.{SameMemory, RecordsNothing, remembered_same, remembered_set, nothing_turn, nothing_write}
 use Rattle.isolation_laws.proofs.Numbers.NumbersStay.{SameNumbers, numbered_same, numbered_set, numbered}
 use Rattle.isolation_laws.proofs.Numbers.NumbersKept.{plain_one, quiet_one}
@@ -100,7 +100,7 @@ items_turn c h x s b k turn reads told quiet undrawn = record {
   asks = λ is r. turn_no_ask r x s b k turn quiet;
 }
 
-wrote_nothing : (w : State) (h : List Item) (k : WroteOne w) → Holds w h → RecordsNothing h (h ++ wrote_items w k)
+wrote_nothing : (w : State) (h : List Item) (k : WroteOne w) → IsolationInvariant w h → RecordsNothing h (h ++ wrote_items w k)
 wrote_nothing w h k holds = nothing_write h k.it.session k.start k.key k.value (holds.requests.opened.undrawn k.it.session k.start (epoch_or_none k.it.c.entry.epoch) (wrote_open w k))
 
 -- ---- stores: they stay, but for marks, or something is placed or written
@@ -114,7 +114,7 @@ stores_marked w h o pairs calm facts live = record {
   cells = λ is opened. cells_calm w.clients (left_by w o).clients w.nodes (left_by w o).nodes w.rows pairs h (h ++ told_by_outcome w o) (λ t now. inl (live opened t now)) calm facts;
 }
 
-stores_same : (w : State) (h : List Item) (o : Outcome w) → Calm h (h ++ told_by_outcome w o) → Holds w h → StaysLive w o → StoresAlone (changes o) w h (record (left_by w o) { rows = w.rows; pairs = w.pairs }) (told_by_outcome w o)
+stores_same : (w : State) (h : List Item) (o : Outcome w) → Calm h (h ++ told_by_outcome w o) → IsolationInvariant w h → StaysLive w o → StoresAlone (changes o) w h (record (left_by w o) { rows = w.rows; pairs = w.pairs }) (told_by_outcome w o)
 stores_same w h o calm holds live = stores_marked w h o w.pairs calm holds.cells live
 
 stores_change : (w : State) (h : List Item) (o : Outcome w) → (changes o).stores ≡ true → StaysLive w o → StoresAlone (changes o) w h (left_by w o) (told_by_outcome w o)
@@ -128,7 +128,7 @@ abbrev StaysUnderWay : (w : State) → List Item → Outcome w → Type 0
 StaysUnderWay w h o = (changes o).under_way ≡ false → UnderWayFacts (left_by w o).clients (left_by w o).sweep (left_by w o).rows (left_by w o).pairs (h ++ told_by_outcome w o)
 
 -- ---- by what it leaves of requests and sessions, where nothing of them is told
-silently : (w : State) (h : List Item) (o : Outcome w) → NodesAlone (changes o) w.nodes (left_by w o).nodes → ((changes o).reading ≡ false → FewerReading w.clients (left_by w o).clients) → ItemsAlone (changes o) h (told_by_outcome w o) → (StaysLive w o → StoresAlone (changes o) w h (left_by w o) (told_by_outcome w o)) → Silent h (h ++ told_by_outcome w o) → Leaves w h (left_by w o).nodes (left_by w o).clients → StaysNumbered w h o → StaysUnderWay w h o → Holds w h → Alone w h o
+silently : (w : State) (h : List Item) (o : Outcome w) → NodesAlone (changes o) w.nodes (left_by w o).nodes → ((changes o).reading ≡ false → FewerReading w.clients (left_by w o).clients) → ItemsAlone (changes o) h (told_by_outcome w o) → (StaysLive w o → StoresAlone (changes o) w h (left_by w o) (told_by_outcome w o)) → Silent h (h ++ told_by_outcome w o) → Leaves w h (left_by w o).nodes (left_by w o).clients → StaysNumbered w h o → StaysUnderWay w h o → IsolationInvariant w h → Alone w h o
 silently w h o nodes reading items stores silent leaves numbers under_way holds =
     let live : StaysLive w o = λ is. fewer_live w.clients (left_by w o).clients w.nodes (left_by w o).nodes leaves.opened leaves.pending in
     record {
@@ -148,7 +148,7 @@ loudly : (w : State) (h : List Item) (o : Outcome w) → (changes o).requests �
 loudly w h o told nodes clients items stores pending live numbers under_way = record { nodes = nodes; clients = clients; items = items; stores = stores live; pending = pending; live = live; requests = λ is. absurd (cc); numbers = numbers; under_way = under_way }
 
 -- ---- each outcome
-pub alone : (w : State) (h : List Item) (o : Outcome w) → Holds w h → Alone w h o
+pub alone : (w : State) (h : List Item) (o : Outcome w) → IsolationInvariant w h → Alone w h o
 alone w h (OfGranted k) holds =
     silently w h (OfGranted k) (record { memory = λ is. absurd (cc); ranges = λ is. absurd (cc); held = λ is. held_granted w k; accepted = λ is. standing_granted IsAcceptedNow w k; drawn = λ is. standing_granted IsDrawnNow w k })
     (λ is. same_reading w.clients) (items_quiet _ h k.items k.quiet) (stores_same w h (OfGranted k) (calm_quiet h k.items k.quiet) holds) (silent_quiet h k.items k.quiet) (leaves_granted w h k holds) (λ is. absurd (cc)) (λ is. under_way_same w h _ holds (calm_quiet h k.items k.quiet)) holds

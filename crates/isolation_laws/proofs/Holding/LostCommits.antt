@@ -24,8 +24,8 @@ use Rattle.machine.specs.Events.Put.{to_place_by, to_place, put_commit, put_on}
 use Rattle.isolation_laws.specs.Words.{HeldBy}
 use Rattle.isolation_laws.specs.Pending.{Has, InFlight, HeldPending, Pending, IsPending, IsOpen, Live}
 use Rattle.machine.specs.Quiet.{Quiet}
-use Rattle.isolation_laws.specs.Holds.{Holds}
-use Rattle.isolation_laws.specs.Sound.{Stands}
+use Rattle.isolation_laws.specs.IsolationInvariant.{IsolationInvariant}
+use Rattle.isolation_laws.specs.Sound.{ReachedInvariant}
 use Rattle.isolation_laws.specs.Laws.{IsLost}
 use Rattle.machine.proofs.Lookups.{instance_ended}
 use Rattle.isolation_laws.proofs.Pushed.{old_placed}
@@ -46,12 +46,12 @@ use Rattle.machine.proofs.Inversions.InversionOfAnswers.{for_table, put_settled,
 in_flight : (w : State) (q : InFlight) → HeldPending w.nodes q → IsPending w.clients w.nodes q.start
 in_flight w q p = record { coming = q; pending = inl p; start_is = refl }
 
-not_open : (w : State) (h : List Item) (q : InFlight) → Holds w h → HeldPending w.nodes q → IsOpen w.clients q.start → ⊥
+not_open : (w : State) (h : List Item) (q : InFlight) → IsolationInvariant w h → HeldPending w.nodes q → IsOpen w.clients q.start → ⊥
 not_open w h q holds p o =
     open_not_pending w.nodes w.clients h o.session q.start o.epoch holds.isolated.stamped holds.requests.requests holds.requests.pending
     (open_begun w.clients h o.session q.start o.open_at.client holds.requests.have_begun o.open_at.at o.open_at.state_is o.open_at.start_is) o.open_at (in_flight w q p)
 
-not_elsewhere : (w : State) (h : List Item) (q r : InFlight) (n : ℕ) → Holds w h → (p : HeldPending w.nodes q) → p.node ≡ n → StaysPut w.clients w.nodes n q.session r → r.start ≡ q.start → ⊥
+not_elsewhere : (w : State) (h : List Item) (q r : InFlight) (n : ℕ) → IsolationInvariant w h → (p : HeldPending w.nodes q) → p.node ≡ n → StaysPut w.clients w.nodes n q.session r → r.start ≡ q.start → ⊥
 not_elsewhere w h q r n holds p node stays same =
     other_commit w.clients w.nodes h r q holds.isolated.stamped holds.requests.requests holds.requests.pending p (subst (λ m. StaysPut w.clients w.nodes m q.session r) (sym node) stays) same
 
@@ -61,11 +61,11 @@ crashed_elsewhere : (w : State) (k : Crashed w) (s : ℕ) (q : InFlight) → Pen
 crashed_elsewhere w k s q (inl p) = let old = instance_ended w.nodes k.node p.node p.instance_of p.at in inl (pending_at w.nodes q p.node p.instance_of old.1 (pending_in (crashed_state w k).nodes q p), λ same. old.0 same.0)
 crashed_elsewhere w k s q (inr p) = inr (placing_was w.clients (crashed_state w k).clients q (at_work_after w (OfCrashed k) refl).placing p)
 
-crashed_dead : (w : State) (h : List Item) (k : Crashed w) (q : InFlight) → Holds w h → (p : HeldPending w.nodes q) → p.node ≡ k.node → Live (crashed_state w k).clients (crashed_state w k).nodes q.start → ⊥
+crashed_dead : (w : State) (h : List Item) (k : Crashed w) (q : InFlight) → IsolationInvariant w h → (p : HeldPending w.nodes q) → p.node ≡ k.node → Live (crashed_state w k).clients (crashed_state w k).nodes q.start → ⊥
 crashed_dead w h k q holds p node (inl o) = not_open w h q holds p (fewer_is_open w.clients (crashed_state w k).clients q.start (at_work_after w (OfCrashed k) refl).opened o)
 crashed_dead w h k q holds p node (inr o) = not_elsewhere w h q o.coming k.node holds p node (crashed_elsewhere w k q.session o.coming o.pending) o.start_is
 
-crashed_lost : (w : State) (h : List Item) (k : Crashed w) (q : InFlight) → Holds w h → (p : HeldPending w.nodes q) → p.node ≡ k.node → IsLost (crashed_state w k) (h ++ k.items) q.start
+crashed_lost : (w : State) (h : List Item) (k : Crashed w) (q : InFlight) → IsolationInvariant w h → (p : HeldPending w.nodes q) → p.node ≡ k.node → IsLost (crashed_state w k) (h ++ k.items) q.start
 crashed_lost w h k q holds p node = record {
   session = q.session;
   begun = in_front (item.Begin q.session q.start) h k.items (holds.requests.pending.begun q (inl p));
@@ -83,19 +83,19 @@ the_crash w q p = record {
   quiet = All-cons Quiet (item.Crash p.node p.instance_of.term) (all_crashed_items p.node p.instance_of.term p.instance_of.requests w.clients) refl (all_crashed_quiet p.node p.instance_of.term p.instance_of.requests w.clients);
 }
 
-pub crashes_lose : (w : State) (h : List Item) (q : InFlight) (fate : Fate) → Stands w h → (p : HeldPending w.nodes q) → IsLost (stepped w (event.Crash p.node) fate).state (h ++ (stepped w (event.Crash p.node) fate).items) q.start
+pub crashes_lose : (w : State) (h : List Item) (q : InFlight) (fate : Fate) → ReachedInvariant w h → (p : HeldPending w.nodes q) → IsLost (stepped w (event.Crash p.node) fate).state (h ++ (stepped w (event.Crash p.node) fate).items) q.start
 unfolding the_crash
 crashes_lose w h q fate both p =
     subst (λ (post : Option (Option InstanceEntry)). IsLost (at_post w post (λ x. for_clients w p.node (crash_on p.node x w.clients))).state (h ++ (at_post w post (λ x. for_clients w p.node (crash_on p.node x w.clients))).items) q.start)
     (sym p.at) (crashed_lost w h (the_crash w q p) q both.holds p refl)
 
 -- ---- faulted puts
-unplaced_dead : (w : State) (h : List Item) (k : NotPlaced w) (q : InFlight) → Holds w h → (p : HeldPending w.nodes q) → p.node ≡ k.it.node → q.session ≡ k.it.session → Live w.clients (not_placed_state w k).nodes q.start → ⊥
+unplaced_dead : (w : State) (h : List Item) (k : NotPlaced w) (q : InFlight) → IsolationInvariant w h → (p : HeldPending w.nodes q) → p.node ≡ k.it.node → q.session ≡ k.it.session → Live w.clients (not_placed_state w k).nodes q.start → ⊥
 unplaced_dead w h k q holds p node session (inl o) = not_open w h q holds p o
 unplaced_dead w h k q holds p node session (inr o) =
     not_elsewhere w h q o.coming k.it.node holds p node (subst (λ s. StaysPut w.clients w.nodes k.it.node s o.coming) (sym session) (pending_settled w k.it k.by o.coming o.pending)) o.start_is
 
-unplaced_lost : (w : State) (h : List Item) (k : NotPlaced w) (q : InFlight) → Holds w h → (p : HeldPending w.nodes q) → p.node ≡ k.it.node → q.session ≡ k.it.session → IsLost (not_placed_state w k) (h ++ k.items) q.start
+unplaced_lost : (w : State) (h : List Item) (k : NotPlaced w) (q : InFlight) → IsolationInvariant w h → (p : HeldPending w.nodes q) → p.node ≡ k.it.node → q.session ≡ k.it.session → IsLost (not_placed_state w k) (h ++ k.items) q.start
 unplaced_lost w h k q holds p node session = record {
   session = q.session;
   begun = in_front (item.Begin q.session q.start) h k.items (holds.requests.pending.begun q (inl p));
@@ -125,13 +125,13 @@ faulted w it = record { it = it; by = how.Faulted; by_is = inr refl; found = λ 
 to_place_of : (q : InFlight) (c : ℕ) (i : InstanceEntry) → HeldBy i q.session (Commit q.session q.start q.keys) (progress.Drawn c) → to_place (held_of i q.session) ≡ Some (q.start, c)
 to_place_of q c i held = ap to_place held.has ∙ (ap (λ (r : Request). to_place_by r held.held.progress) held.asks ∙ ap (λ (x : Progress). to_place_by (Commit q.session q.start q.keys) x) held.stands)
 
-put_lost : (w : State) (h : List Item) (q : InFlight) (p : HeldPending w.nodes q) (c : ℕ) → Holds w h → HeldBy p.instance_of q.session (Commit q.session q.start q.keys) (progress.Drawn c) → IsLost (for_table w p.node (put_commit p.node q.session FailsUnchanged p.instance_of w.pairs (Some (q.start, c)))).state (h ++ (for_table w p.node (put_commit p.node q.session FailsUnchanged p.instance_of w.pairs (Some (q.start, c)))).items) q.start
+put_lost : (w : State) (h : List Item) (q : InFlight) (p : HeldPending w.nodes q) (c : ℕ) → IsolationInvariant w h → HeldBy p.instance_of q.session (Commit q.session q.start q.keys) (progress.Drawn c) → IsLost (for_table w p.node (put_commit p.node q.session FailsUnchanged p.instance_of w.pairs (Some (q.start, c)))).state (h ++ (for_table w p.node (put_commit p.node q.session FailsUnchanged p.instance_of w.pairs (Some (q.start, c)))).items) q.start
 unfolding drawn_one faulted
 put_lost w h q p c holds held =
     let it : AtDrawn w = drawn_one w q p c held in
     subst (λ (v : State). IsLost v (h ++ item.Fault (Node p.node) Table ∷ []) q.start) (sym (put_settled w it how.Faulted w.pairs)) (unplaced_lost w h (faulted w it) q holds p refl refl)
 
-pub faulted_puts_lose : (w : State) (h : List Item) (q : InFlight) (c : ℕ) → Stands w h → w.setup.direct ≡ false → (p : HeldPending w.nodes q) → q.stage ≡ Has c → IsLost (stepped w (event.Put p.node q.session) FailsUnchanged).state (h ++ (stepped w (event.Put p.node q.session) FailsUnchanged).items) q.start
+pub faulted_puts_lose : (w : State) (h : List Item) (q : InFlight) (c : ℕ) → ReachedInvariant w h → w.setup.direct ≡ false → (p : HeldPending w.nodes q) → q.stage ≡ Has c → IsLost (stepped w (event.Put p.node q.session) FailsUnchanged).state (h ++ (stepped w (event.Put p.node q.session) FailsUnchanged).items) q.start
 faulted_puts_lose w h q c both plain p stage =
     let held : HeldBy p.instance_of q.session (Commit q.session q.start q.keys) (progress.Drawn c) = has_held w.setup w.nodes w.clients q c p both.holds.requests.form plain stage in
     subst (λ (post : Option (Option InstanceEntry)). IsLost (at_post w post (λ x. for_table w p.node (put_on p.node q.session FailsUnchanged x w.pairs))).state (h ++ (at_post w post (λ x. for_table w p.node (put_on p.node q.session FailsUnchanged x w.pairs))).items) q.start)

@@ -14,7 +14,7 @@ use Rattle.machine.specs.State.{State}
 use Rattle.machine.specs.StoreSteps.{pairs_after}
 use Rattle.isolation_laws.specs.Words.{Marked, Begun}
 use Rattle.isolation_laws.specs.Pending.{Live}
-use Rattle.isolation_laws.specs.Holds.{Holds}
+use Rattle.isolation_laws.specs.IsolationInvariant.{IsolationInvariant}
 use Rattle.isolation_laws.specs.Laws.{IsMarkedFirst, IsLost}
 use Rattle.isolation_laws.proofs.Pushed.{old_placed}
 use Rattle.isolation_laws.proofs.Holding.IsolatedItems.{Stamping, StampsNone, StampsPlaced, StampsBegin, stamping, placed_old}
@@ -66,7 +66,7 @@ marks_kept w (OfSweepFailed k) = marks_if w.pairs (pairs_after k.asked w.pairs) 
 marks_kept w _ = λ u marked. marked
 
 -- ---- nothing becomes live again
-live_kept : (w : State) (h : List Item) (o : Outcome w) (s t : ℕ) → Holds w h → Begun h s t → Live (left_by w o).clients (left_by w o).nodes t → Live w.clients w.nodes t
+live_kept : (w : State) (h : List Item) (o : Outcome w) (s t : ℕ) → IsolationInvariant w h → Begun h s t → Live (left_by w o).clients (left_by w o).nodes t → Live w.clients w.nodes t
 live_kept w h (OfAnsweredBegin k) s t holds begun live = elim (live_answered_begin w k t live) [
   | inl old ↦ old
   | inr now ↦ absurd (start_unbegun w h k s holds (subst (Begun h s) now begun))
@@ -77,7 +77,7 @@ live_kept w h o s t holds begun live = (alone w h o holds).live refl t live
 no_mark : (w : State) (p : PlacedPending w) (t : ℕ) → Marked w.pairs t → t ≡ p.coming.start → ⊥
 no_mark w p t marked same = none-some InvalidMark (sym p.free ∙ (ap (mark_of w.pairs) (sym same) ∙ marked))
 
-pub marked_outcome : (w : State) (h : List Item) (o : Outcome w) (t : ℕ) → Holds w h → IsMarkedFirst w h t → IsMarkedFirst (left_by w o) (h ++ told_by_outcome w o) t
+pub marked_outcome : (w : State) (h : List Item) (o : Outcome w) (t : ℕ) → IsolationInvariant w h → IsMarkedFirst w h t → IsMarkedFirst (left_by w o) (h ++ told_by_outcome w o) t
 marked_outcome w h o t holds first = record {
   marked = marks_kept w o t first.marked;
   unplaced = λ c m. elim (placed_by w h (told_by_outcome w o) t c (stamping w h o holds) m) [
@@ -86,7 +86,7 @@ marked_outcome w h o t holds first = record {
   ];
 }
 
-pub lost_outcome : (w : State) (h : List Item) (o : Outcome w) (t : ℕ) → Holds w h → IsLost w h t → IsLost (left_by w o) (h ++ told_by_outcome w o) t
+pub lost_outcome : (w : State) (h : List Item) (o : Outcome w) (t : ℕ) → IsolationInvariant w h → IsLost w h t → IsLost (left_by w o) (h ++ told_by_outcome w o) t
 lost_outcome w h o t holds lost = record {
   session = lost.session;
   begun = in_front (Begin lost.session t) h (told_by_outcome w o) lost.begun;

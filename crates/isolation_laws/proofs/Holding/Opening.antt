@@ -17,7 +17,7 @@ use Rattle.isolation_laws.specs.Cells.{CellFacts}
 use Rattle.isolation_laws.specs.UnderWay.{UnderWayFacts}
 use Rattle.isolation_laws.specs.Reads.{ReadFacts}
 use Rattle.isolation_laws.specs.Known.{IsTrueCache, KnownFacts}
-use Rattle.isolation_laws.specs.Holds.{Holds}
+use Rattle.isolation_laws.specs.IsolationInvariant.{IsolationInvariant}
 use Rattle.isolation_laws.proofs.Inversions.InversionSound.{none_at}
 use Rattle.isolation_laws.proofs.Known.TrueCaches.{true_new}
 use Rattle.isolation_laws.proofs.Holding.OpeningSessions.{in_none, each_none, is_new, not_in, not_under_way, not_open, not_pending, opening_numbers, opening_requests, opening_memory, opening_begins}
@@ -110,7 +110,7 @@ opening_owned setup = record {
   each = λ k t b. absurd (none_looked k t b.cell b.there);
 }
 
-pub opening_holds : (setup : SetupNumbers) → AreInRange setup → Holds (opening setup) []
+pub opening_holds : (setup : SetupNumbers) → AreInRange setup → IsolationInvariant (opening setup) []
 opening_holds setup in_range = record {
   in_range = in_range;
   numbers = opening_numbers setup;

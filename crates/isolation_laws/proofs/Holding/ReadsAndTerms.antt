@@ -8,7 +8,7 @@ use Rattle.history_book.specs.declared.item.Item.TheVariants.{Read}
 use Rattle.stamp_base.specs.SetupNumbers.{SetupNumbers, AreInRange}
 use Rattle.machine.specs.State.{State}
 use Rattle.machine.specs.Machine.{Move, items_after, history_after, AreSteady, Steady}
-use Rattle.isolation_laws.specs.Sound.{Stands}
+use Rattle.isolation_laws.specs.Sound.{ReachedInvariant}
 use Rattle.isolation_laws.specs.Laws.{Unplaced, IsMarkedFirst, IsLost, ReadsWhatCommits, DrawsKeepTerms, LeasesAreOfTheTerm}
 use Rattle.isolation_laws.proofs.OnceEach.{place_of}
 use Rattle.isolation_laws.proofs.Owners.{accepts_now}
@@ -33,18 +33,18 @@ pub reads_give_what_commits : (setup : SetupNumbers) (moves : List Move) → Are
 reads_give_what_commits setup moves in_range steady = isolated_reads (history_after setup moves) (histories_are_isolated setup moves in_range steady)
 
 -- ---- terms
-pub draws_keep_terms : (w : State) (h : List Item) → Stands w h → DrawsKeepTerms w h
+pub draws_keep_terms : (w : State) (h : List Item) → ReachedInvariant w h → DrawsKeepTerms w h
 draws_keep_terms w h both = record {
   own = λ n s m t i commit at drew. (both.holds.numbers.drawn.same s m i.term t n commit i drew at refl).0;
   earlier = λ n s m term t i commit at less drew. both.holds.numbers.drawn.earlier s m term t n commit i drew at less;
 }
 
-pub leases_are_of_the_term : (w : State) (h : List Item) → Stands w h → LeasesAreOfTheTerm w
+pub leases_are_of_the_term : (w : State) (h : List Item) → ReachedInvariant w h → LeasesAreOfTheTerm w
 leases_are_of_the_term w h both n reading i at steady in_time = accepts_now w.setup w.seen reading n w.nodes w.master i both.holds.numbers.ranges both.holds.numbers.leases at steady in_time
 
 -- ---- never placed
-pub marked_is_never_placed : (w : State) (h : List Item) (moves : List Move) (t : ℕ) → Stands w h → AreSteady w.setup.skew w.seen moves → IsMarkedFirst w h t → Unplaced (h ++ items_after w moves) t
+pub marked_is_never_placed : (w : State) (h : List Item) (moves : List Move) (t : ℕ) → ReachedInvariant w h → AreSteady w.setup.skew w.seen moves → IsMarkedFirst w h t → Unplaced (h ++ items_after w moves) t
 marked_is_never_placed w h moves t both steady first = (marked_first_after w h moves t both steady first).unplaced
 
-pub lost_is_never_placed : (w : State) (h : List Item) (moves : List Move) (t : ℕ) → Stands w h → AreSteady w.setup.skew w.seen moves → IsLost w h t → Unplaced (h ++ items_after w moves) t
+pub lost_is_never_placed : (w : State) (h : List Item) (moves : List Move) (t : ℕ) → ReachedInvariant w h → AreSteady w.setup.skew w.seen moves → IsLost w h t → Unplaced (h ++ items_after w moves) t
 lost_is_never_placed w h moves t both steady lost = (lost_after w h moves t both steady lost).unplaced

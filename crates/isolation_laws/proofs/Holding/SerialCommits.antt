@@ -9,7 +9,7 @@ use Rattle.cause_rules.specs.Strict.{SerialIfStrict}
 use Rattle.machine.specs.State.{State}
 use Rattle.isolation_laws.specs.Numbers.{ArePlaced}
 use Rattle.isolation_laws.specs.Memory.{DrawnSerial}
-use Rattle.isolation_laws.specs.Holds.{Holds}
+use Rattle.isolation_laws.specs.IsolationInvariant.{IsolationInvariant}
 
 -- a commit below the reader's start, or above its commit, is not between them
 not_between : (t c d : ℕ) → (c < t) ⊎ (d < c) → t < c → c < d → ⊥
@@ -27,5 +27,5 @@ stood_at h place _ placed drawn found = tt
 pub serial_of_drawn : (h : List Item) → ArePlaced h → DrawnSerial h → Serial h
 serial_of_drawn h placed drawn = record { at = λ place x found. stood_at h place x placed drawn found }
 
-pub serial_if_strict : (w : State) (h : List Item) → Holds w h → SerialIfStrict w.setup h
+pub serial_if_strict : (w : State) (h : List Item) → IsolationInvariant w h → SerialIfStrict w.setup h
 serial_if_strict w h holds strict = serial_of_drawn h holds.numbers.placed (holds.memory.serial strict)

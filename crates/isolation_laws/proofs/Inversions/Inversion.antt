@@ -8,11 +8,11 @@ use Rattle.machine.specs.Machine.{stepped, reading_of}
 use Rattle.machine.specs.Fits.{Fits}
 use Rattle.machine.specs.Outcome.Inverted.{ComesAt}
 use Rattle.machine.proofs.Inversions.Inversion.{comes_to as machine_comes_to}
-use Rattle.isolation_laws.specs.Holds.{Holds}
+use Rattle.isolation_laws.specs.IsolationInvariant.{IsolationInvariant}
 use Rattle.isolation_laws.specs.Sound.{Sound}
 use Rattle.isolation_laws.proofs.Inversions.StepsFitting.{steps_fit}
 
-pub parts_fit : (w : State) (h : List Item) → Holds w h → Sound w → Fits w
+pub parts_fit : (w : State) (h : List Item) → IsolationInvariant w h → Sound w → Fits w
 parts_fit w h holds sound = record {
   stops = sound.stops;
   own = record { own = holds.requests.requests.own };
@@ -20,5 +20,5 @@ parts_fit w h holds sound = record {
   steps = steps_fit w h holds;
 }
 
-pub comes_to : (w : State) (h : List Item) (e : Event) (fate : Fate) → Holds w h → Sound w → ComesAt w (reading_of e) (stepped w e fate).state (stepped w e fate).items
+pub comes_to : (w : State) (h : List Item) (e : Event) (fate : Fate) → IsolationInvariant w h → Sound w → ComesAt w (reading_of e) (stepped w e fate).state (stepped w e fate).items
 comes_to w h e fate holds sound = machine_comes_to w e fate (parts_fit w h holds sound)

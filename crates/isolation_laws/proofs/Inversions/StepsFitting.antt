@@ -20,7 +20,7 @@ use Rattle.machine.specs.FoundAt.{ClientAt, Marked}
 use Rattle.machine.specs.Due.{Places}
 use Rattle.machine.specs.Fits.{NoList, IsCompletion, IsWork, StepsFit}
 use Rattle.isolation_laws.specs.Pending.{InFlight, is_placing, PlacingAt, Has}
-use Rattle.isolation_laws.specs.Holds.{Holds}
+use Rattle.isolation_laws.specs.IsolationInvariant.{IsolationInvariant}
 use Rattle.isolation_laws.proofs.FoundMarks.{found_marked}
 
 -- ---- no completion lists keys
@@ -41,7 +41,7 @@ undo_no_list t (k ∷ ks) asked asks shape txn is =
     let same : ask.Keys txn ≡ ask.Erase k t = sym is ∙ same_Some asked (ask.Erase k t) first in
     cc
 
-completes_no_list : (w : State) (h : List Item) (session : ℕ) (c : Client) (undo : Bool) (asked : Ask) (asks : List Ask) → Holds w h → ClientAt w.clients session c → c.entry.state ≡ phase.Completing undo → c.under_way ≡ Completes (asked ∷ asks) → NoList asked
+completes_no_list : (w : State) (h : List Item) (session : ℕ) (c : Client) (undo : Bool) (asked : Ask) (asks : List Ask) → IsolationInvariant w h → ClientAt w.clients session c → c.entry.state ≡ phase.Completing undo → c.under_way ≡ Completes (asked ∷ asks) → NoList asked
 completes_no_list w h session c false asked asks holds at completing under_way =
     let finish = holds.under_way.finishing.finish session c (asked ∷ asks) at completing under_way in
     finish_no_list finish.0 finish.1 finish.4.left asked asks finish.4.shape
@@ -63,7 +63,7 @@ own_work c is_open none = elim (own_reads_none c.entry.start c.entry.keys (own_r
   | inr due ↦ subst (λ (work : UnderWay). IsWork c work) (sym due.1) (is_open, inr (none, due.1))
 ]
 
-settles_only : (w : State) (h : List Item) (session : ℕ) (c : Client) (x : Settling) → Holds w h → ClientAt w.clients session c → c.under_way ≡ Settles x → IsWork c (Settles x)
+settles_only : (w : State) (h : List Item) (session : ℕ) (c : Client) (x : Settling) → IsolationInvariant w h → ClientAt w.clients session c → c.under_way ≡ Settles x → IsWork c (Settles x)
 settles_only w h session c x holds at under_way = (holds.under_way.settling.only session c x at under_way, inl under_way)
 
 -- no step is made of a session that neither completes, resolves nor reads
@@ -75,18 +75,18 @@ no_step false go none = cc
 has_handed : (state : SessionState) (t commit : ℕ) (start due : Option ℕ) → state ≡ phase.Placing → start ≡ Some t → due ≡ Some commit → handed_by state start due ≡ Some (t, commit)
 has_handed state t commit start due placing begun known = cc
 
-placing_handed : (w : State) (h : List Item) (session : ℕ) (c : Client) → Holds w h → ClientAt w.clients session c → c.entry.state ≡ phase.Placing → (stamps : ℕ × ℕ) × (handed_commit c.entry ≡ Some stamps)
+placing_handed : (w : State) (h : List Item) (session : ℕ) (c : Client) → IsolationInvariant w h → ClientAt w.clients session c → c.entry.state ≡ phase.Placing → (stamps : ℕ × ℕ) × (handed_commit c.entry ≡ Some stamps)
 placing_handed w h session c holds at placing =
     let begun = holds.requests.have_begun.begun session c at (subst (λ (state : SessionState). IsTrue (has_transaction state)) (sym placing) refl) in
     let known = holds.under_way.handed.commit session c at placing in
     ((begun.0, known.0), has_handed c.entry.state begun.0 known.0 c.entry.start c.entry.commit placing begun.1 known.1)
 
-not_placing : (w : State) (h : List Item) (session : ℕ) (c : Client) → Holds w h → ClientAt w.clients session c → handed_commit c.entry ≡ None → c.entry.state ≡ phase.Placing → ⊥
+not_placing : (w : State) (h : List Item) (session : ℕ) (c : Client) → IsolationInvariant w h → ClientAt w.clients session c → handed_commit c.entry ≡ None → c.entry.state ≡ phase.Placing → ⊥
 not_placing w h session c holds at none placing =
     let handed = placing_handed w h session c holds at placing in
     none-some handed.0 (sym none ∙ handed.1)
 
-completes_only : (w : State) (h : List Item) (session : ℕ) (c : Client) (asked : Ask) (asks : List Ask) → Holds w h → ClientAt w.clients session c → handed_commit c.entry ≡ None → c.under_way ≡ Completes (asked ∷ asks) → (state : SessionState) → c.entry.state ≡ state → step_refusal state (is_reading c) ≡ None → IsCompletion c asked asks
+completes_only : (w : State) (h : List Item) (session : ℕ) (c : Client) (asked : Ask) (asks : List Ask) → IsolationInvariant w h → ClientAt w.clients session c → handed_commit c.entry ≡ None → c.under_way ≡ Completes (asked ∷ asks) → (state : SessionState) → c.entry.state ≡ state → step_refusal state (is_reading c) ≡ None → IsCompletion c asked asks
 completes_only w h session c asked asks holds at none under_way (phase.Completing undo) is go = record {
   undo = undo;
   completing = is;
@@ -104,7 +104,7 @@ completes_only w h session c asked asks holds at none under_way phase.Open is go
 completes_only w h session c asked asks holds at none under_way phase.Committing is go = absurd (no_step (is_reading c) go (ap is_reading_by under_way))
 completes_only w h session c asked asks holds at none under_way phase.Gone is go = absurd (cc)
 
-under_way_fits : (w : State) (h : List Item) (session : ℕ) (c : Client) → Holds w h → ClientAt w.clients session c → handed_commit c.entry ≡ None → step_refusal c.entry.state (is_reading c) ≡ None → (work : UnderWay) → c.under_way ≡ work → IsWork c work
+under_way_fits : (w : State) (h : List Item) (session : ℕ) (c : Client) → IsolationInvariant w h → ClientAt w.clients session c → handed_commit c.entry ≡ None → step_refusal c.entry.state (is_reading c) ≡ None → (work : UnderWay) → c.under_way ≡ work → IsWork c work
 under_way_fits w h session c holds at none go Nothing is = tt
 under_way_fits w h session c holds at none go (Reads r) is = is
 under_way_fits w h session c holds at none go (Settles x) is = settles_only w h session c x holds at is
@@ -118,14 +118,14 @@ work_cases phase.OpenOutcome e (Settles x) = inr refl
 work_cases phase.OpenOutcome e (Completes asks) = inr refl
 work_cases _ e work = inr refl
 
-pub work_fits : (w : State) (h : List Item) (session : ℕ) (c : Client) → Holds w h → ClientAt w.clients session c → handed_commit c.entry ≡ None → step_refusal c.entry.state (is_reading c) ≡ None → IsWork c (work_of c)
+pub work_fits : (w : State) (h : List Item) (session : ℕ) (c : Client) → IsolationInvariant w h → ClientAt w.clients session c → handed_commit c.entry ≡ None → step_refusal c.entry.state (is_reading c) ≡ None → IsWork c (work_of c)
 work_fits w h session c holds at none go = elim (work_cases c.entry.state c.entry c.under_way) [
   | inl due ↦ subst (λ (state : SessionState). IsWork c (work_by state c.entry c.under_way)) (sym due.0) (subst (λ (work : UnderWay). IsWork c (work_by phase.OpenOutcome c.entry work)) (sym due.1) (own_work c due.0 due.1))
   | inr same ↦ subst (λ (work : UnderWay). IsWork c work) (sym same) (under_way_fits w h session c holds at none go c.under_way refl)
 ]
 
 -- ---- what a placing meets is a mark
-met_marked : (w : State) (h : List Item) (s start commit : ℕ) (mark : Mark) → Holds w h → Places w s start commit → mark_of w.pairs start ≡ Some mark → Marked w.pairs start
+met_marked : (w : State) (h : List Item) (s start commit : ℕ) (mark : Mark) → IsolationInvariant w h → Places w s start commit → mark_of w.pairs start ≡ Some mark → Marked w.pairs start
 met_marked w h s start commit mark holds places is =
     let q : InFlight = record { session = s; start = start; keys = places.client.entry.keys; stage = Has commit } in
     let placing : PlacingAt w.clients q = record {
@@ -141,7 +141,7 @@ met_marked w h s start commit mark holds places is =
     found_marked w h q commit mark holds (inr placing) refl is
 
 -- ---- both
-pub steps_fit : (w : State) (h : List Item) → Holds w h → StepsFit w
+pub steps_fit : (w : State) (h : List Item) → IsolationInvariant w h → StepsFit w
 steps_fit w h holds = record {
   work = λ s c at none go. work_fits w h s c holds at none go;
   marked = λ s start commit mark places is. met_marked w h s start commit mark holds places is;

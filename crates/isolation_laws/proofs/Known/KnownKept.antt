@@ -19,7 +19,7 @@ use Rattle.machine.specs.StoreSteps.{pairs_after, told_by}
 use Rattle.machine.specs.Events.Fetch.{marks_every, client_read}
 use Rattle.isolation_laws.specs.Words.{ClientAt}
 use Rattle.isolation_laws.specs.Known.{IsTrueOf, IsTrueCache, AreKnown, IsWrittenCell, AreWrittenCells, KnownFacts}
-use Rattle.isolation_laws.specs.Holds.{Holds}
+use Rattle.isolation_laws.specs.IsolationInvariant.{IsolationInvariant}
 use Rattle.machine.proofs.Lookups.{client_set}
 use Rattle.machine.specs.Outcome.OutcomesOfWork.{fetched_recall, fetched_turn, fetched_client, fetched_items, read_recall, read_turn, read_client, read_stepped_items}
 use Rattle.isolation_laws.proofs.Reading.ClientsReading.{FewerReading, nothing_reads}
@@ -35,15 +35,15 @@ use Rattle.isolation_laws.proofs.Known.TrueCaches.{true_new, true_put, true_on, 
 use Rattle.isolation_laws.proofs.Known.WrittenCells.{AsksAmong, fetched_among, told_among, front_written}
 
 -- ---- what was true of a transaction is, after each outcome
-stays_true : (w : State) (h : List Item) (o : Outcome w) (t : ℕ) (it : Known) → Holds w h → IsTrueOf w.pairs h t it → IsTrueOf (left_by w o).pairs (h ++ told_by_outcome w o) t it
+stays_true : (w : State) (h : List Item) (o : Outcome w) (t : ℕ) (it : Known) → IsolationInvariant w h → IsTrueOf w.pairs h t it → IsTrueOf (left_by w o).pairs (h ++ told_by_outcome w o) t it
 stays_true w h o t (known.Committed c) holds is = in_front (Placed t c) h (told_by_outcome w o) is
 stays_true w h o t known.Dead holds is = marked_outcome w h o t holds is
 
-cache_stays : (w : State) (h : List Item) (o : Outcome w) (cache : Cache) → Holds w h → IsTrueCache w.pairs h cache → IsTrueCache (left_by w o).pairs (h ++ told_by_outcome w o) cache
+cache_stays : (w : State) (h : List Item) (o : Outcome w) (cache : Cache) → IsolationInvariant w h → IsTrueCache w.pairs h cache → IsTrueCache (left_by w o).pairs (h ++ told_by_outcome w o) cache
 cache_stays w h o cache holds is = true_on w.pairs (left_by w o).pairs h (h ++ told_by_outcome w o) cache (λ pair true_of. stays_true w h o pair.0 pair.1 holds true_of) is
 
 -- ---- what clients remember
-known_by : (w : State) (h : List Item) (o : Outcome w) → SameCaches w.clients (left_by w o).clients → Holds w h → AreKnown (left_by w o).clients (left_by w o).pairs (h ++ told_by_outcome w o)
+known_by : (w : State) (h : List Item) (o : Outcome w) → SameCaches w.clients (left_by w o).clients → IsolationInvariant w h → AreKnown (left_by w o).clients (left_by w o).pairs (h ++ told_by_outcome w o)
 known_by w h o same holds = record {
   each = λ s c at.
       let was = same s c at in
@@ -51,7 +51,7 @@ known_by w h o same holds = record {
 }
 
 -- one client may remember something else
-known_set : (w : State) (h : List Item) (o : Outcome w) (s : ℕ) (new : Client) → Holds w h → (left_by w o).clients ≡ slice_set w.clients s new → IsTrueCache (left_by w o).pairs (h ++ told_by_outcome w o) new.cache → AreKnown (left_by w o).clients (left_by w o).pairs (h ++ told_by_outcome w o)
+known_set : (w : State) (h : List Item) (o : Outcome w) (s : ℕ) (new : Client) → IsolationInvariant w h → (left_by w o).clients ≡ slice_set w.clients s new → IsTrueCache (left_by w o).pairs (h ++ told_by_outcome w o) new.cache → AreKnown (left_by w o).clients (left_by w o).pairs (h ++ told_by_outcome w o)
 known_set w h o s new holds is now = record {
   each = λ r c at. elim (client_set w.clients s r new c (subst (λ (clients : List Client). ClientAt clients r c) is at)) [
     | inl here ↦ subst (λ (d : Client). IsTrueCache (left_by w o).pairs (h ++ told_by_outcome w o) d.cache) (sym here.1) now
@@ -63,7 +63,7 @@ known_set w h o s new holds is now = record {
 after_turn : (pairs : Pairs) (g : List Item) (c : Client) (turn : ReadTurn) → IsTrueCache pairs g c.cache → IsTrueCache pairs g (client_read c turn).cache
 after_turn pairs g c turn is = subst (IsTrueCache pairs g) (sym (read_remembers c turn)) is
 
-known_after : (w : State) (h : List Item) (o : Outcome w) → Holds w h → AreKnown (left_by w o).clients (left_by w o).pairs (h ++ told_by_outcome w o)
+known_after : (w : State) (h : List Item) (o : Outcome w) → IsolationInvariant w h → AreKnown (left_by w o).clients (left_by w o).pairs (h ++ told_by_outcome w o)
 known_after w h (OfVanished k) holds = known_set w h (OfVanished k) k.session _ holds refl (true_new w.pairs (h ++ k.items) k.c.cache.room)
 known_after w h (OfReadDropped k) holds = known_set w h (OfReadDropped k) k.session _ holds refl (cache_stays w h (OfReadDropped k) (put_fresh k.c.cache) holds (true_put w.pairs h k.c.cache (holds.known.known.each k.session k.c k.client_at)))
 known_after w h (OfFetched k) holds =
@@ -77,14 +77,14 @@ known_after w h (OfReadStepped k) holds =
 known_after w h o holds = known_by w h o (caches_keep w o refl) holds
 
 -- ---- the cells of reads
-cell_stays : (w : State) (h : List Item) (o : Outcome w) (k : ℕ) (c : Cell) → Holds w h → IsWrittenCell w.clients w.nodes h k c → IsWrittenCell (left_by w o).clients (left_by w o).nodes (h ++ told_by_outcome w o) k c
+cell_stays : (w : State) (h : List Item) (o : Outcome w) (k : ℕ) (c : Cell) → IsolationInvariant w h → IsWrittenCell w.clients w.nodes h k c → IsWrittenCell (left_by w o).clients (left_by w o).nodes (h ++ told_by_outcome w o) k c
 cell_stays w h o k c holds (inl (value, wrote)) = inl (wrote_on h (told_by_outcome w o) c.version k value wrote)
 cell_stays w h o k c holds (inr over) = inr (lost_outcome w h o c.version holds over)
 
-cells_stay : (w : State) (h : List Item) (o : Outcome w) (k : ℕ) (cells : List Cell) → Holds w h → All (IsWrittenCell w.clients w.nodes h k) cells → All (IsWrittenCell (left_by w o).clients (left_by w o).nodes (h ++ told_by_outcome w o) k) cells
+cells_stay : (w : State) (h : List Item) (o : Outcome w) (k : ℕ) (cells : List Cell) → IsolationInvariant w h → All (IsWrittenCell w.clients w.nodes h k) cells → All (IsWrittenCell (left_by w o).clients (left_by w o).nodes (h ++ told_by_outcome w o) k) cells
 cells_stay w h o k cells holds all = All-weaker (IsWrittenCell w.clients w.nodes h k) (IsWrittenCell (left_by w o).clients (left_by w o).nodes (h ++ told_by_outcome w o) k) (λ c written. cell_stays w h o k c holds written) cells all
 
-written_fewer : (w : State) (h : List Item) (o : Outcome w) → FewerReading w.clients (left_by w o).clients → Holds w h → AreWrittenCells (left_by w o).clients (left_by w o).nodes (h ++ told_by_outcome w o)
+written_fewer : (w : State) (h : List Item) (o : Outcome w) → FewerReading w.clients (left_by w o).clients → IsolationInvariant w h → AreWrittenCells (left_by w o).clients (left_by w o).nodes (h ++ told_by_outcome w o)
 written_fewer w h o fewer holds = record {
   written = λ s c r at reads. cells_stay w h o r.key (r.cell ∷ r.older) holds (holds.known.written.written s c r (fewer s c r at reads) reads);
 }
@@ -96,7 +96,7 @@ turn_written w h b j c (Asks x) r of among reads =
     let is : Asks x ≡ Asks r = ap Asks (reads_same x r reads) in
     subst (λ q. All (IsWrittenCell w.clients w.nodes h q) (r.cell ∷ r.older)) (sym (of r is).1) (among r is)
 
-written_turn : (w : State) (h : List Item) (o : Outcome w) (s b j : ℕ) (c : Client) (turn : ReadTurn) → Holds w h → (left_by w o).clients ≡ slice_set w.clients s (client_read c turn) → IsTurnOf b j turn → AsksAmong (IsWrittenCell w.clients w.nodes h j) turn → AreWrittenCells (left_by w o).clients (left_by w o).nodes (h ++ told_by_outcome w o)
+written_turn : (w : State) (h : List Item) (o : Outcome w) (s b j : ℕ) (c : Client) (turn : ReadTurn) → IsolationInvariant w h → (left_by w o).clients ≡ slice_set w.clients s (client_read c turn) → IsTurnOf b j turn → AsksAmong (IsWrittenCell w.clients w.nodes h j) turn → AreWrittenCells (left_by w o).clients (left_by w o).nodes (h ++ told_by_outcome w o)
 written_turn w h o s b j c turn holds is of among = record {
   written = λ q d r at reads. cells_stay w h o r.key (r.cell ∷ r.older) holds (elim (client_set w.clients s q (client_read c turn) d (subst (λ (clients : List Client). ClientAt clients q d) is at)) [
     | inl here ↦ turn_written w h b j c turn r of among (sym (ap (λ (x : Client). x.under_way) here.1) ∙ reads)
@@ -104,7 +104,7 @@ written_turn w h o s b j c turn holds is of among = record {
   ]);
 }
 
-written_after : (w : State) (h : List Item) (o : Outcome w) → Holds w h → AreWrittenCells (left_by w o).clients (left_by w o).nodes (h ++ told_by_outcome w o)
+written_after : (w : State) (h : List Item) (o : Outcome w) → IsolationInvariant w h → AreWrittenCells (left_by w o).clients (left_by w o).nodes (h ++ told_by_outcome w o)
 written_after w h (OfFetched k) holds =
     let cells : List Cell = front_of k.start (fetched w.rows k.key k.start) in
     written_turn w h (OfFetched k) k.it.session k.start k.key (fetched_client w k) (fetched_turn w k) holds refl
@@ -119,5 +119,5 @@ written_after w h (OfReadStepped k) holds =
 written_after w h o holds = written_fewer w h o ((alone w h o holds).clients.reading refl) holds
 
 -- ---- both
-pub known_kept : (w : State) (h : List Item) (o : Outcome w) → Holds w h → KnownFacts (left_by w o).clients (left_by w o).nodes (left_by w o).pairs (h ++ told_by_outcome w o)
+pub known_kept : (w : State) (h : List Item) (o : Outcome w) → IsolationInvariant w h → KnownFacts (left_by w o).clients (left_by w o).nodes (left_by w o).pairs (h ++ told_by_outcome w o)
 known_kept w h o holds = record { known = known_after w h o holds; written = written_after w h o holds }

@@ -17,7 +17,7 @@ use Rattle.isolation_laws.specs.Words.{OpenAt, Marked, cell_with}
 use Rattle.isolation_laws.specs.UnderWay.{HasShadow}
 use Rattle.isolation_laws.specs.Reads.{IsResolvedTo, IsReading}
 use Rattle.isolation_laws.specs.Known.{IsTruePair, IsWrittenCell}
-use Rattle.isolation_laws.specs.Holds.{Holds}
+use Rattle.isolation_laws.specs.IsolationInvariant.{IsolationInvariant}
 use Rattle.isolation_laws.proofs.Stores.CellsStay.{no_record_marked}
 use Rattle.isolation_laws.proofs.Reading.ReadTurns.{Tells, tells_at}
 
@@ -28,14 +28,14 @@ shown rows k v c (cell, there, shadow) = ap (λ (o : Option Cell). after_last_lo
 not_dead : (c : ℕ) → Decides Dead ≡ Decides (CommittedAt c false) → ⊥
 not_dead c same = cc
 
-met_unplaced : (w : State) (h : List Item) (k c : ℕ) (cell : Cell) → Holds w h → Marked w.pairs cell.version → IsWrittenCell w.clients w.nodes h k cell → after_last_look (told_cell (looked w.rows k cell.version)) ≡ Decides Dead → Committed h cell.version c → ⊥
+met_unplaced : (w : State) (h : List Item) (k c : ℕ) (cell : Cell) → IsolationInvariant w h → Marked w.pairs cell.version → IsWrittenCell w.clients w.nodes h k cell → after_last_look (told_cell (looked w.rows k cell.version)) ≡ Decides Dead → Committed h cell.version c → ⊥
 met_unplaced w h k c cell holds marked (inr over) dead placed = over.unplaced c placed
 met_unplaced w h k c cell holds marked (inl (value, wrote)) dead placed = elim (holds.cells.placed.found cell.version c placed) [
   | inl has ↦ no_record_marked c (sym marked ∙ has)
   | inr shadowed ↦ not_dead c (sym dead ∙ shown w.rows k cell.version c (record { version = cell.version; value = value; shadow = Some c }, shadowed k ∙ ap (cell_with cell.version (Some c)) wrote, refl))
 ]
 
-dead_true : (w : State) (h : List Item) (k b : ℕ) (every : Bool) (e : ℕ) (cell : Cell) (point : SettlePoint) → Holds w h → IsResolvedTo w.pairs w.rows h k b every e cell.version point → IsWrittenCell w.clients w.nodes h k cell → settle_turn_at (may_mark every cell.version e) point (told_by (ask_at k cell.version point) w.rows w.pairs) ≡ Decides Dead → IfSome (dead_for_good cell.version point) (IsTruePair (pairs_after (ask_at k cell.version point) w.pairs) h)
+dead_true : (w : State) (h : List Item) (k b : ℕ) (every : Bool) (e : ℕ) (cell : Cell) (point : SettlePoint) → IsolationInvariant w h → IsResolvedTo w.pairs w.rows h k b every e cell.version point → IsWrittenCell w.clients w.nodes h k cell → settle_turn_at (may_mark every cell.version e) point (told_by (ask_at k cell.version point) w.rows w.pairs) ≡ Decides Dead → IfSome (dead_for_good cell.version point) (IsTruePair (pairs_after (ask_at k cell.version point) w.pairs) h)
 dead_true w h k b every e cell (LastLook true) holds resolved written dead = record { marked = resolved.0 refl; unplaced = λ c placed. met_unplaced w h k c cell holds (resolved.0 refl) written dead placed }
 dead_true w h k b every e cell _ holds resolved written dead = tt
 
@@ -45,7 +45,7 @@ decision_true w h pairs k b every e v point (Goes next) tells dead = tt
 decision_true w h pairs k b every e v point (Decides (CommittedAt c by_table)) tells dead = tells
 decision_true w h pairs k b every e v point (Decides Dead) tells dead = dead refl
 
-pub learnt_true : (w : State) (h : List Item) (s : ℕ) (r : Reading) → Holds w h → OpenAt w.clients s r.start r.epoch → IsReading w.setup w.clients w.nodes w.rows w.pairs h r.start r.epoch r → All (IsWrittenCell w.clients w.nodes h r.key) (r.cell ∷ r.older) → IfSome (learnt_by r (told_by (read_ask r) w.rows w.pairs)) (IsTruePair (pairs_after (read_ask r) w.pairs) h)
+pub learnt_true : (w : State) (h : List Item) (s : ℕ) (r : Reading) → IsolationInvariant w h → OpenAt w.clients s r.start r.epoch → IsReading w.setup w.clients w.nodes w.rows w.pairs h r.start r.epoch r → All (IsWrittenCell w.clients w.nodes h r.key) (r.cell ∷ r.older) → IfSome (learnt_by r (told_by (read_ask r) w.rows w.pairs)) (IsTruePair (pairs_after (read_ask r) w.pairs) h)
 learnt_true w h s r holds o is written =
     decision_true w h (pairs_after (read_ask r) w.pairs) r.key r.start r.every r.epoch r.cell.version r.point (settle_turn_at (may_mark r.every r.cell.version r.epoch) r.point (told_by (read_ask r) w.rows w.pairs))
     (tells_at w h s r.key r.start r.every r.epoch r.cell r.older r.point is.every_is holds o is.sees is.resolved)

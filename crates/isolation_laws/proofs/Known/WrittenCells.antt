@@ -19,7 +19,7 @@ use Rattle.system_parts.proofs.RecalledLemmas.{AnyCache, Recalls, come_to, over_
 use Rattle.machine.specs.State.{State}
 use Rattle.isolation_laws.specs.Words.{cell_with}
 use Rattle.isolation_laws.specs.Known.{IsWrittenCell}
-use Rattle.isolation_laws.specs.Holds.{Holds}
+use Rattle.isolation_laws.specs.IsolationInvariant.{IsolationInvariant}
 use Rattle.isolation_laws.proofs.Reading.SeesFetched.{are_fetched}
 
 -- ---- a turn that goes on is over cells such as these
@@ -75,7 +75,7 @@ module _ (Q : Cell → Type 0) where
 none_there : (w : State) (k t : ℕ) (shadow : Option ℕ) (written : Option (List ℕ)) (c : Cell) → written ≡ None → looked w.rows k t ≡ cell_with t shadow written → looked w.rows k t ≡ Some c → ⊥
 none_there w k t shadow written c none is there = none-some c (sym (is ∙ ap (cell_with t shadow) none) ∙ there)
 
-written_by_last : (w : State) (h : List Item) (k : ℕ) (c : Cell) (last : Option (List ℕ)) → Holds w h → looked w.rows k c.version ≡ Some c → last_write h c.version k ≡ last → IsWrittenCell w.clients w.nodes h k c
+written_by_last : (w : State) (h : List Item) (k : ℕ) (c : Cell) (last : Option (List ℕ)) → IsolationInvariant w h → looked w.rows k c.version ≡ Some c → last_write h c.version k ≡ last → IsWrittenCell w.clients w.nodes h k c
 written_by_last w h k c (Some value) holds there is = inl (value, is)
 written_by_last w h k c None holds there is =
     let who = holds.cells.rows_are.begun k c.version c there in
@@ -92,7 +92,7 @@ written_by_last w h k c None holds there is =
       ];
     })
 
-pub front_written : (w : State) (h : List Item) (k b : ℕ) → Holds w h → All (IsWrittenCell w.clients w.nodes h k) (front_of b (fetched w.rows k b))
+pub front_written : (w : State) (h : List Item) (k b : ℕ) → IsolationInvariant w h → All (IsWrittenCell w.clients w.nodes h k) (front_of b (fetched w.rows k b))
 front_written w h k b holds =
     front-all (IsWrittenCell w.clients w.nodes h k) b (fetched w.rows k b)
     (λ i c less. written_by_last w h k _ _ holds ((are_fetched w h k b holds).found i c less) refl)

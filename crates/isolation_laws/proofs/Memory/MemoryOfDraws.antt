@@ -20,7 +20,7 @@ use Rattle.system_parts.proofs.LastCommits.{last_commit_greatest}
 use Rattle.machine.specs.State.{State}
 use Rattle.isolation_laws.specs.Words.{DrewCommit, written_keys, recorded, recorded_by}
 use Rattle.isolation_laws.specs.Memory.{AreRecorded, DrawnApart}
-use Rattle.isolation_laws.specs.Holds.{Holds}
+use Rattle.isolation_laws.specs.IsolationInvariant.{IsolationInvariant}
 use Rattle.machine.specs.Outcome.OutcomesOfStamps.{Drew, drew_state, drew_items}
 use Rattle.isolation_laws.proofs.OnceEach.{drawn_once}
 use Rattle.isolation_laws.proofs.Pushed.{recorded-push}
@@ -33,10 +33,10 @@ use Rattle.isolation_laws.proofs.Requests.RequestsOfDraws.{drew_keys, DrawsFor, 
 use Rattle.machine.proofs.Orders.{three_ways}
 
 -- ---- what the draw records
-own_keys : (w : State) (h : List Item) (k : Drew w) (r t : ℕ) (keys : List ℕ) → Holds w h → k.held.request ≡ Commit r t keys → keys ≡ written_keys h t
+own_keys : (w : State) (h : List Item) (k : Drew w) (r t : ℕ) (keys : List ℕ) → IsolationInvariant w h → k.held.request ≡ Commit r t keys → keys ≡ written_keys h t
 own_keys w h k r t keys holds is = (holds.requests.pending.keys (drawing w k t keys) (inl (drew_taken w k r t keys holds.requests.requests is))).0
 
-now_recorded : (w : State) (h : List Item) (k : Drew w) (request : Request) → Holds w h → k.held.request ≡ request → recorded_by (h ++ drew_items w k) k.i.term (Draw (asker_of request) k.node k.i.term (start_drawn request (k.i.last + 1)) (commit_drawn request (k.i.last + 1))) ≡ pairs_by request (k.i.last + 1)
+now_recorded : (w : State) (h : List Item) (k : Drew w) (request : Request) → IsolationInvariant w h → k.held.request ≡ request → recorded_by (h ++ drew_items w k) k.i.term (Draw (asker_of request) k.node k.i.term (start_drawn request (k.i.last + 1)) (commit_drawn request (k.i.last + 1))) ≡ pairs_by request (k.i.last + 1)
 now_recorded w h k (BeginRequest r) holds is = refl
 now_recorded w h k (Commit r t keys) holds is =
     recorded_by_own (h ++ drew_items w k) r k.node k.i.term t (k.i.last + 1)
@@ -51,7 +51,7 @@ drew_recorded w h k term =
     recorded-push h (new_draw w k) term (λ t drew. drew_keys w k h t)
     ∙ ap (λ x. recorded h term ++ recorded_by (h ++ drew_items w k) term x) (draw_item_is k.node k.i.term k.held.request (k.i.last + 1))
 
-own_buckets : (w : State) (h : List Item) (k : Drew w) → Holds w h → record_pairs k.i.buckets (pairs_by k.held.request (k.i.last + 1)) ≡ contents w.setup.buckets w.setup.width (recorded (h ++ drew_items w k) k.i.term)
+own_buckets : (w : State) (h : List Item) (k : Drew w) → IsolationInvariant w h → record_pairs k.i.buckets (pairs_by k.held.request (k.i.last + 1)) ≡ contents w.setup.buckets w.setup.width (recorded (h ++ drew_items w k) k.i.term)
 own_buckets w h k holds =
     let before : k.i.buckets ≡ contents w.setup.buckets w.setup.width (recorded h k.i.term) = holds.memory.recorded.hold k.node k.i k.at in
     let all : recorded (h ++ drew_items w k) k.i.term ≡ recorded h k.i.term ++ pairs_by k.held.request (k.i.last + 1) =
@@ -60,7 +60,7 @@ own_buckets w h k holds =
     ∙ (sym (record_pairs-append _ (recorded h k.i.term) (pairs_by k.held.request (k.i.last + 1)))
     ∙ ap (contents w.setup.buckets w.setup.width) (sym all))
 
-pub drew_records : (w : State) (h : List Item) (k : Drew w) → Holds w h → AreRecorded w.setup (drew_state w k).nodes (h ++ drew_items w k)
+pub drew_records : (w : State) (h : List Item) (k : Drew w) → IsolationInvariant w h → AreRecorded w.setup (drew_state w k).nodes (h ++ drew_items w k)
 drew_records w h k holds = record {
   hold = λ n j at. elim (drew_cases w k n j at) [
     | inl here ↦ ap (λ x. x.buckets) here.1 ∙ (own_buckets w h k holds ∙ ap (λ term. contents w.setup.buckets w.setup.width (recorded (h ++ drew_items w k) term)) (ap (λ x. x.term) (sym here.1)))
@@ -76,13 +76,13 @@ below_last : (last : Option ℕ) (d t : ℕ) → IsSomeAnd last (λ l. d ≤ l) 
 below_last None d t some shown = absurd some
 below_last (Some l) d t some shown = omega (arith, some, shown l refl)
 
-free_shown : (w : State) (h : List Item) (k : Drew w) (t : ℕ) (keys : List ℕ) → Holds w h → verdict k.i.buckets t keys ≡ Free → IsShown w.setup.buckets w.setup.width (recorded h k.i.term) t keys Free
+free_shown : (w : State) (h : List Item) (k : Drew w) (t : ℕ) (keys : List ℕ) → IsolationInvariant w h → verdict k.i.buckets t keys ≡ Free → IsShown w.setup.buckets w.setup.width (recorded h k.i.term) t keys Free
 free_shown w h k t keys holds free =
     let buckets : contents w.setup.buckets w.setup.width (recorded h k.i.term) ≡ k.i.buckets = sym (holds.memory.recorded.hold k.node k.i k.at) in
     subst (λ (v : Verdict). IsShown w.setup.buckets w.setup.width (recorded h k.i.term) t keys v) (ap (λ bs. verdict bs t keys) buckets ∙ free)
     (verdict_shown w.setup.buckets w.setup.width (recorded h k.i.term) t keys (holds.in_range.buckets).0 (holds.in_range.width).0 (recorded_rise h k.i.term holds.numbers.new))
 
-free_below : (w : State) (h : List Item) (k : Drew w) (t : ℕ) (keys : List ℕ) (s m u d key : ℕ) (value : List ℕ) → Holds w h → verdict k.i.buckets t keys ≡ Free → Contains keys key → DrewCommit h s m k.i.term u d → Wrote h u key value → d ≤ t
+free_below : (w : State) (h : List Item) (k : Drew w) (t : ℕ) (keys : List ℕ) (s m u d key : ℕ) (value : List ℕ) → IsolationInvariant w h → verdict k.i.buckets t keys ≡ Free → Contains keys key → DrewCommit h s m k.i.term u d → Wrote h u key value → d ≤ t
 free_below w h k t keys s m u d key value holds free has drew wrote =
     below_last (last_commit (recorded h k.i.term) key) d t
     (last_commit_greatest (recorded h k.i.term) key d (recorded_rise h k.i.term holds.numbers.new) (recorded_contains h s m k.i.term u d key value drew wrote))
@@ -92,14 +92,14 @@ free_below w h k t keys s m u d key value holds free has drew wrote =
 own_free : (w : State) (k : Drew w) (r t : ℕ) (keys : List ℕ) → k.held.request ≡ Commit r t keys → verdict k.i.buckets t keys ≡ Free
 own_free w k r t keys is = ap (request_verdict k.i.buckets) (sym is) ∙ k.free
 
-own_has : (w : State) (h : List Item) (k : Drew w) (r t : ℕ) (keys : List ℕ) (key : ℕ) (own : List ℕ) → Holds w h → k.held.request ≡ Commit r t keys → Wrote h t key own → Contains keys key
+own_has : (w : State) (h : List Item) (k : Drew w) (r t : ℕ) (keys : List ℕ) (key : ℕ) (own : List ℕ) → IsolationInvariant w h → k.held.request ≡ Commit r t keys → Wrote h t key own → Contains keys key
 own_has w h k r t keys key own holds is mine = subst (λ ks. Contains ks key) (sym (own_keys w h k r t keys holds is)) (wrote_key h t key own mine)
 
 -- a start and a commit are never the same stamp
 start_is_no_commit : (s n term t r m other u d : ℕ) → Draw s n term t None ≡ Draw r m other u (Some d) → ⊥
 start_is_no_commit s n term t r m other u d same = cc
 
-apart_stamps : (w : State) (h : List Item) (k : Drew w) (r t : ℕ) (keys : List ℕ) (s m other u d : ℕ) → Holds w h → k.held.request ≡ Commit r t keys → DrewCommit h s m other u d → d ≡ t → ⊥
+apart_stamps : (w : State) (h : List Item) (k : Drew w) (r t : ℕ) (keys : List ℕ) (s m other u d : ℕ) → IsolationInvariant w h → k.held.request ≡ Commit r t keys → DrewCommit h s m other u d → d ≡ t → ⊥
 apart_stamps w h k r t keys s m other u d holds is drew same =
     let begun = holds.requests.pending.begun (drawing w k t keys) (inl (drew_taken w k r t keys holds.requests.requests is)) in
     let start = holds.numbers.begun.drawn k.session t begun in
@@ -123,7 +123,7 @@ pub record DrewBefore (h : List Item) (key : ℕ) : Type 0 where
   pub wrote : Wrote h start key value
 
 -- the commit that is drawn now, of a transaction with a free key, and one before it that wrote the key
-pub apart_now : (w : State) (h : List Item) (k : Drew w) (r t : ℕ) (asked keys : List ℕ) (key : ℕ) (o : DrewBefore h key) → Holds w h → k.held.request ≡ Commit r t asked → verdict k.i.buckets t keys ≡ Free → Contains keys key → (k.i.last + 1 < o.start) ⊎ (o.commit < t)
+pub apart_now : (w : State) (h : List Item) (k : Drew w) (r t : ℕ) (asked keys : List ℕ) (key : ℕ) (o : DrewBefore h key) → IsolationInvariant w h → k.held.request ≡ Commit r t asked → verdict k.i.buckets t keys ≡ Free → Contains keys key → (k.i.last + 1 < o.start) ⊎ (o.commit < t)
 apart_now w h k r t asked keys key o holds is free has = elim (three_ways o.term k.i.term) [
   | inl less ↦ inr (omega (arith, holds.numbers.drawn.earlier o.session o.node o.term o.start k.node (Some o.commit) k.i o.drew k.at less, (drew_within w k r t asked holds.requests.requests holds.requests.accepted is).0))
   | inr (inl same) ↦ inr (not_above o.commit t (free_below w h k t keys o.session o.node o.start o.commit key o.value holds free has (subst (λ term. DrewCommit h o.session o.node term o.start o.commit) same o.drew) o.wrote) (apart_stamps w h k r t asked o.session o.node o.term o.start o.commit holds is o.drew))
@@ -131,7 +131,7 @@ apart_now w h k r t asked keys key o holds is free has = elim (three_ways o.term
 ]
 
 -- where it wrote the key itself
-wrote_now : (w : State) (h : List Item) (k : Drew w) (r t : ℕ) (keys : List ℕ) (key : ℕ) (own : List ℕ) (o : DrewBefore h key) → Holds w h → k.held.request ≡ Commit r t keys → Wrote h t key own → (k.i.last + 1 < o.start) ⊎ (o.commit < t)
+wrote_now : (w : State) (h : List Item) (k : Drew w) (r t : ℕ) (keys : List ℕ) (key : ℕ) (own : List ℕ) (o : DrewBefore h key) → IsolationInvariant w h → k.held.request ≡ Commit r t keys → Wrote h t key own → (k.i.last + 1 < o.start) ⊎ (o.commit < t)
 wrote_now w h k r t keys key own o holds is mine = apart_now w h k r t keys keys key o holds is (own_free w k r t keys is) (own_has w h k r t keys key own holds is mine)
 
 -- ---- the facts
@@ -154,7 +154,7 @@ swapped c u d t (inr b) = inl b
 pub same_transaction : (w : State) (k : Drew w) (t u : ℕ) → t ≡ start_drawn k.held.request (k.i.last + 1) → u ≡ start_drawn k.held.request (k.i.last + 1) → t ≡ u
 same_transaction w k t u a b = a ∙ sym b
 
-pub drew_apart : (w : State) (h : List Item) (k : Drew w) → Holds w h → DrawnApart (h ++ drew_items w k)
+pub drew_apart : (w : State) (h : List Item) (k : Drew w) → IsolationInvariant w h → DrawnApart (h ++ drew_items w k)
 drew_apart w h k holds = record {
   apart = λ r s n m term other t c u d key v x first second differ wrote also.
       let a : Wrote h t key v = draw_writes_nothing w h k t key v wrote in

@@ -8,7 +8,7 @@ use Rattle.machine.specs.State.{State}
 use Rattle.isolation_laws.specs.Words.{HeldBy, DrewCommit}
 use Rattle.isolation_laws.specs.ReadSets.{ReadFirst, KeepsReads}
 use Rattle.isolation_laws.specs.Memory.{AreOfForm, DrawnSerial, MemoryFacts}
-use Rattle.isolation_laws.specs.Holds.{Holds}
+use Rattle.isolation_laws.specs.IsolationInvariant.{IsolationInvariant}
 use Rattle.machine.proofs.Lookups.{held_by, commit_own}
 use Rattle.isolation_laws.proofs.OnceEach.{commit_above_start}
 use Rattle.machine.proofs.Orders.{three_ways}
@@ -22,13 +22,13 @@ use Rattle.isolation_laws.proofs.Memory.MemoryOfDraws.{DrewBefore, drew_records,
 
 -- ---- the reader draws now
 -- its client has kept what it read
-reader_keeps : (w : State) (h : List Item) (k : Drew w) (r t : ℕ) (keys : List ℕ) → Holds w h → w.setup.strict ≡ true → k.held.request ≡ Commit r t keys → KeepsReads h t k.c
+reader_keeps : (w : State) (h : List Item) (k : Drew w) (r t : ℕ) (keys : List ℕ) → IsolationInvariant w h → w.setup.strict ≡ true → k.held.request ≡ Commit r t keys → KeepsReads h t k.c
 reader_keeps w h k r t keys holds strict is =
     let own = holds.requests.requests.own k.node k.session k.i k.held.request k.held.progress k.at (held_by k.i k.session k.held k.has) in
     let held : HeldBy k.i k.session (Commit k.session t keys) k.held.progress = record { held = k.held; has = k.has; asks = commit_own k.held.request k.session r t keys is own; stands = refl } in
     holds.reads.read_sets.asked strict k.node k.session t keys k.held.progress k.i k.c k.at held k.client_at
 
-reader_now : (w : State) (h : List Item) (k : Drew w) (r t : ℕ) (keys : List ℕ) (key : ℕ) (o : DrewBefore h key) → Holds w h → w.setup.strict ≡ true → k.held.request ≡ Commit r t keys → ReadFirst h t key → (o.commit < t) ⊎ (k.i.last + 1 < o.commit)
+reader_now : (w : State) (h : List Item) (k : Drew w) (r t : ℕ) (keys : List ℕ) (key : ℕ) (o : DrewBefore h key) → IsolationInvariant w h → w.setup.strict ≡ true → k.held.request ≡ Commit r t keys → ReadFirst h t key → (o.commit < t) ⊎ (k.i.last + 1 < o.commit)
 reader_now w h k r t keys key o holds strict is read =
     elim (apart_now w h k r t keys k.c.reads key o holds is (k.reads_free r t keys is) (reader_keeps w h k r t keys holds strict is key read)) [
       | inl above ↦ inr (omega (arith, above, commit_above_start h o.session o.node o.term o.start o.commit holds.numbers.new o.drew))
@@ -37,7 +37,7 @@ reader_now w h k r t keys key o holds strict is read =
 
 -- ---- the writer draws now
 -- above each commit of its term and of earlier ones, and below the starts of later ones
-writer_now : (w : State) (h : List Item) (k : Drew w) (s m other t d : ℕ) → Holds w h → DrewCommit h s m other t d → (k.i.last + 1 < t) ⊎ (d < k.i.last + 1)
+writer_now : (w : State) (h : List Item) (k : Drew w) (s m other t d : ℕ) → IsolationInvariant w h → DrewCommit h s m other t d → (k.i.last + 1 < t) ⊎ (d < k.i.last + 1)
 writer_now w h k s m other t d holds drew = elim (three_ways other k.i.term) [
   | inl less ↦ inr (omega (arith, holds.numbers.drawn.earlier s m other t k.node (Some d) k.i drew k.at less, holds.numbers.ranges.above k.node k.i k.at))
   | inr (inl same) ↦ inr (omega (arith, (holds.numbers.drawn.same s m other t k.node (Some d) k.i drew k.at same).1))
@@ -45,7 +45,7 @@ writer_now w h k s m other t d holds drew = elim (three_ways other k.i.term) [
 ]
 
 -- ---- the facts
-drew_serial : (w : State) (h : List Item) (k : Drew w) → Holds w h → w.setup.strict ≡ true → DrawnSerial (h ++ drew_items w k)
+drew_serial : (w : State) (h : List Item) (k : Drew w) → IsolationInvariant w h → w.setup.strict ≡ true → DrawnSerial (h ++ drew_items w k)
 drew_serial w h k holds strict = record {
   stood = λ r s n m term other t d u c key value first second differ read wrote.
       let a : ReadFirst h t key = first_no_reads h (drew_items w k) t key (draw_no_reads k.node k.i.term k.held.request (k.i.last + 1)) read in
@@ -75,7 +75,7 @@ drew_form w k form = record {
   ];
 }
 
-pub memory_drew : (w : State) (h : List Item) (k : Drew w) → Holds w h → MemoryFacts w.setup (drew_state w k).nodes (h ++ drew_items w k)
+pub memory_drew : (w : State) (h : List Item) (k : Drew w) → IsolationInvariant w h → MemoryFacts w.setup (drew_state w k).nodes (h ++ drew_items w k)
 memory_drew w h k holds = record {
   recorded = drew_records w h k holds;
   form = drew_form w k holds.memory.form;

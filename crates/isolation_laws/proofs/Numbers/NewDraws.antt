@@ -13,7 +13,7 @@ use Rattle.machine.specs.State.{State}
 use Rattle.isolation_laws.specs.Words.{Begun, drawn_stamp}
 use Rattle.isolation_laws.specs.Pending.{Taken}
 use Rattle.isolation_laws.specs.Numbers.{AreDrawn, IsNewDraw, AreNewDraws, AreBegun, NumberFacts}
-use Rattle.isolation_laws.specs.Holds.{Holds}
+use Rattle.isolation_laws.specs.IsolationInvariant.{IsolationInvariant}
 use Rattle.machine.specs.Outcome.OutcomesOfStamps.{Drew, drew_state, drew_items}
 use Rattle.isolation_laws.proofs.Numbers.NumbersStay.{begun_on, start_on, placed_on}
 use Rattle.isolation_laws.proofs.Numbers.NumbersOfDraws.{start_drawn, commit_drawn, asker_of, draw_item_is, drew_cases, drew_room, drew_ranges, drew_leases, stamp_drawn}
@@ -51,7 +51,7 @@ pub drew_placed_old : (w : State) (k : Drew w) (h : List Item) (t c : ℕ) → C
 drew_placed_old w k h t c m = old_by_drew (Placed t c) w k h (placed_no_draw t c) m
 
 -- ---- the facts
-drew_drawn : (w : State) (k : Drew w) (h : List Item) → Holds w h → AreDrawn (drew_state w k).nodes w.master (h ++ drew_items w k)
+drew_drawn : (w : State) (k : Drew w) (h : List Item) → IsolationInvariant w h → AreDrawn (drew_state w k).nodes w.master (h ++ drew_items w k)
 drew_drawn w k h holds =
     let ranges = holds.numbers.ranges in
     let drawn = holds.numbers.drawn in
@@ -101,17 +101,17 @@ drew_drawn w k h holds =
       ];
     }
 
-drew_new : (w : State) (k : Drew w) (h : List Item) → Holds w h → AreNewDraws (h ++ drew_items w k)
+drew_new : (w : State) (k : Drew w) (h : List Item) → IsolationInvariant w h → AreNewDraws (h ++ drew_items w k)
 drew_new w k h holds = record {
   each = AtEach-push IsNewDraw h (new_draw w k) holds.numbers.new.each (subst (λ (x : Item). IsNewDraw h x) (sym (draw_item_is k.node k.i.term k.held.request (k.i.last + 1))) (new_now w k h k.held.request refl holds));
 }
 
-drew_begins : (w : State) (k : Drew w) (h : List Item) (request : Request) (t c : ℕ) → k.held.request ≡ request → Holds w h → t ≡ start_drawn request (k.i.last + 1) → Some c ≡ commit_drawn request (k.i.last + 1) → (r : ℕ) × Begun h r t
+drew_begins : (w : State) (k : Drew w) (h : List Item) (request : Request) (t c : ℕ) → k.held.request ≡ request → IsolationInvariant w h → t ≡ start_drawn request (k.i.last + 1) → Some c ≡ commit_drawn request (k.i.last + 1) → (r : ℕ) × Begun h r t
 drew_begins w k h (BeginRequest r) t c is holds start commit = absurd (none-some c (sym commit))
 drew_begins w k h (Commit r u keys) t c is holds start commit =
     (k.session, subst (Begun h k.session) (sym start) (holds.requests.pending.begun (record { session = k.session; start = u; keys = keys; stage = Taken k.i.last }) (inl (drew_taken w k r u keys holds.requests.requests is))))
 
-drew_begun : (w : State) (k : Drew w) (h : List Item) → Holds w h → AreBegun (h ++ drew_items w k)
+drew_begun : (w : State) (k : Drew w) (h : List Item) → IsolationInvariant w h → AreBegun (h ++ drew_items w k)
 drew_begun w k h holds = record {
   drawn = λ s t is. start_on h (drew_items w k) s t (holds.numbers.begun.drawn s t (drew_begun_old w k h s t is));
   writes = λ s t key value is. begun_on h (drew_items w k) t (holds.numbers.begun.writes s t key value (old_by_drew (Write s t key value) w k h (write_no_draw s t key value) is));
@@ -122,7 +122,7 @@ drew_begun w k h holds = record {
   ]);
 }
 
-pub numbers_drew : (w : State) (h : List Item) (k : Drew w) → Holds w h → NumberFacts w.setup (drew_state w k).seen (drew_state w k).nodes (drew_state w k).master (h ++ drew_items w k)
+pub numbers_drew : (w : State) (h : List Item) (k : Drew w) → IsolationInvariant w h → NumberFacts w.setup (drew_state w k).seen (drew_state w k).nodes (drew_state w k).master (h ++ drew_items w k)
 numbers_drew w h k holds = record {
   ranges = drew_ranges w k holds.numbers.ranges;
   leases = drew_leases w k holds.numbers.leases;

@@ -14,7 +14,7 @@ use Rattle.isolation_laws.specs.Words.{HasDrawn, drawn_stamp}
 use Rattle.isolation_laws.specs.Pending.{Taken, HeldPending}
 use Rattle.isolation_laws.specs.Numbers.{AreRanges, AreDrawn, IsNewDraw}
 use Rattle.isolation_laws.specs.Requests.{AreRequests, AreAccepted}
-use Rattle.isolation_laws.specs.Holds.{Holds}
+use Rattle.isolation_laws.specs.IsolationInvariant.{IsolationInvariant}
 use Rattle.machine.proofs.Lookups.{held_by, commit_own}
 use Rattle.machine.specs.Outcome.OutcomesOfStamps.{Drew}
 use Rattle.isolation_laws.proofs.Numbers.NumbersOfDraws.{start_drawn, commit_drawn, asker_of, drew_room, stamp_drawn}
@@ -51,14 +51,14 @@ older_stamp w k h s m term u d ranges drawn drew = elim (three_ways term k.i.ter
   | inr (inr more) ↦ inr ((drawn.later s m term u k.node d k.i drew k.at more).0, more)
 ]
 
-commit_new : (w : State) (k : Drew w) (h : List Item) (request : Request) → k.held.request ≡ request → Holds w h → (c : ℕ) → commit_drawn request (k.i.last + 1) ≡ Some c → (start_drawn request (k.i.last + 1) < c) × (HasDrawn h (start_drawn request (k.i.last + 1)) → ⊥)
+commit_new : (w : State) (k : Drew w) (h : List Item) (request : Request) → k.held.request ≡ request → IsolationInvariant w h → (c : ℕ) → commit_drawn request (k.i.last + 1) ≡ Some c → (start_drawn request (k.i.last + 1) < c) × (HasDrawn h (start_drawn request (k.i.last + 1)) → ⊥)
 commit_new w k h (BeginRequest r) is holds c drawn = absurd (none-some c drawn)
 commit_new w k h (Commit r t keys) is holds c drawn = (
   omega (arith, (drew_within w k r t keys holds.requests.requests holds.requests.accepted is).1, same_Some (k.i.last + 1) c drawn),
   holds.requests.pending.so_far (record { session = k.session; start = t; keys = keys; stage = Taken k.i.last }) (inl (drew_taken w k r t keys holds.requests.requests is)),
 )
 
-pub new_now : (w : State) (k : Drew w) (h : List Item) (request : Request) → k.held.request ≡ request → Holds w h → IsNewDraw h (Draw (asker_of request) k.node k.i.term (start_drawn request (k.i.last + 1)) (commit_drawn request (k.i.last + 1)))
+pub new_now : (w : State) (k : Drew w) (h : List Item) (request : Request) → k.held.request ≡ request → IsolationInvariant w h → IsNewDraw h (Draw (asker_of request) k.node k.i.term (start_drawn request (k.i.last + 1)) (commit_drawn request (k.i.last + 1)))
 new_now w k h request is holds = (
   (λ r m other u d drew same. elim (older_stamp w k h r m other u d holds.numbers.ranges holds.numbers.drawn drew) [
     | inl low ↦ omega (arith, low, same, stamp_drawn request (k.i.last + 1))

@@ -23,7 +23,7 @@ use Rattle.isolation_laws.specs.Pending.{InFlight, Has, HeldPending}
 use Rattle.machine.specs.Quiet.{Quiet, AllQuiet}
 use Rattle.isolation_laws.specs.Numbers.{NumberFacts}
 use Rattle.isolation_laws.specs.Requests.{HaveBegun, AreRequests}
-use Rattle.isolation_laws.specs.Holds.{Holds}
+use Rattle.isolation_laws.specs.IsolationInvariant.{IsolationInvariant}
 use Rattle.machine.proofs.Lookups.{held_by, commit_own, begin_own}
 use Rattle.isolation_laws.proofs.Owners.{held_drew}
 use Rattle.machine.specs.Outcome.OutcomesOfStamps.{AtDrawn, AnsweredBegin}
@@ -57,7 +57,7 @@ open_begun clients h s t c have at is start =
     subst (Begun h s) (same_Some begun.0 t (sym begun.1 ∙ start)) begun.2
 
 -- ---- requests as they stand
-pub drew_start : (w : State) (h : List Item) (k : AnsweredBegin w) → Holds w h → DrewStart h k.session k.node k.i.term k.start
+pub drew_start : (w : State) (h : List Item) (k : AnsweredBegin w) → IsolationInvariant w h → DrewStart h k.session k.node k.i.term k.start
 drew_start w h k holds =
     holds.requests.starting.drawn k.node k.session k.start k.i k.at (record {
       held = k.held;
@@ -80,7 +80,7 @@ drawn_pending w k requests = record {
   stage_is = refl;
 }
 
-pub drew_commit : (w : State) (h : List Item) (k : AtDrawn w) → Holds w h → DrewCommit h k.session k.node k.i.term k.start k.commit
+pub drew_commit : (w : State) (h : List Item) (k : AtDrawn w) → IsolationInvariant w h → DrewCommit h k.session k.node k.i.term k.start k.commit
 drew_commit w h k holds = held_drew w.clients w.nodes h (in_flight_of w k) k.commit (drawn_pending w k holds.requests.requests) holds.requests.pending refl
 
 -- ---- reads
@@ -97,10 +97,10 @@ first_then setup seen nodes master h x s b k r turn quiet begun facts =
     (read_item_numbers setup seen nodes master (h ++ x ∷ []) s b k r turn (in_front (Begin r b) h (x ∷ []) begun) one)
 
 -- ---- outcomes with quiet items
-pub quiet_one : (w : State) (h : List Item) (nodes : List (Option InstanceEntry)) (seen : ℕ) (items : List Item) → SameNumbers w.nodes nodes → w.seen ≤ seen → AllQuiet items → Holds w h → NumberFacts w.setup seen nodes w.master (h ++ items)
+pub quiet_one : (w : State) (h : List Item) (nodes : List (Option InstanceEntry)) (seen : ℕ) (items : List Item) → SameNumbers w.nodes nodes → w.seen ≤ seen → AllQuiet items → IsolationInvariant w h → NumberFacts w.setup seen nodes w.master (h ++ items)
 quiet_one w h nodes seen items same up quiet holds = numbers_quiet w.setup w.seen seen w.nodes nodes w.master h items same up quiet holds.numbers
 
-pub here : (w : State) (h items : List Item) → AllQuiet items → Holds w h → NumberFacts w.setup w.seen w.nodes w.master (h ++ items)
+pub here : (w : State) (h items : List Item) → AllQuiet items → IsolationInvariant w h → NumberFacts w.setup w.seen w.nodes w.master (h ++ items)
 here w h items quiet holds = quiet_one w h w.nodes w.seen items (numbered_same w.nodes) (omega arith) quiet holds
 
 -- an item that no number is read from
@@ -117,7 +117,7 @@ numberless_other x y plain other same =
     let no : false ≡ true = sym other ∙ (ap (λ z. is_numberless z) same ∙ plain) in
     absurd (cc)
 
-pub plain_one : (w : State) (h : List Item) (nodes : List (Option InstanceEntry)) (x : Item) → is_numberless x ≡ true → SameNumbers w.nodes nodes → Holds w h → NumberFacts w.setup w.seen nodes w.master (h ++ x ∷ [])
+pub plain_one : (w : State) (h : List Item) (nodes : List (Option InstanceEntry)) (x : Item) → is_numberless x ≡ true → SameNumbers w.nodes nodes → IsolationInvariant w h → NumberFacts w.setup w.seen nodes w.master (h ++ x ∷ [])
 plain_one w h nodes x plain same holds =
     loud_numbers w.setup w.seen w.nodes nodes w.master h x [] same (λ s m term t commit is. numberless_other x (Draw s m term t commit) plain refl is) (record {
       drawn = λ s t is. absurd (numberless_other x (Begin s t) plain refl is);

@@ -8,7 +8,7 @@ use Rattle.system_parts.specs.InstanceSteps.{instance_widened}
 use Rattle.machine.specs.State.{State}
 use Rattle.isolation_laws.specs.Words.{InstanceAt}
 use Rattle.isolation_laws.specs.Numbers.{AreRanges, AreLeases, AreDrawn, NumberFacts}
-use Rattle.isolation_laws.specs.Holds.{Holds}
+use Rattle.isolation_laws.specs.IsolationInvariant.{IsolationInvariant}
 use Rattle.machine.proofs.Lookups.{instance_changed}
 use Rattle.machine.specs.Outcome.OutcomesOfRecord.{Extended, extended_nodes, extended_state}
 use Rattle.isolation_laws.proofs.Numbers.NumbersMoved.{numbers_told, ranges_under, drawn_under, numbers_moved}
@@ -67,5 +67,5 @@ extended_by w h k true facts =
 extended_by w h k false facts =
     numbers_moved _ _ _ _ _ _ _ _ (extended_ranges w k facts.ranges) (extended_leases w k facts.leases) (extended_drawn w k h facts.drawn) facts
 
-pub numbers_extended : (w : State) (h : List Item) (k : Extended w) → Holds w h → NumberFacts w.setup (extended_state w k).seen (extended_state w k).nodes (extended_state w k).master (h ++ k.items)
+pub numbers_extended : (w : State) (h : List Item) (k : Extended w) → IsolationInvariant w h → NumberFacts w.setup (extended_state w k).seen (extended_state w k).nodes (extended_state w k).master (h ++ k.items)
 numbers_extended w h k holds = numbers_told w.setup w.seen (extended_state w k).nodes (extended_state w k).master h k.items k.quiet (extended_by w h k k.failed holds.numbers)

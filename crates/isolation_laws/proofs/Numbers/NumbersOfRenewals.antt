@@ -8,7 +8,7 @@ use Rattle.machine.specs.State.{State}
 use Rattle.machine.specs.Events.Take.{rules_of}
 use Rattle.isolation_laws.specs.Words.{InstanceAt}
 use Rattle.isolation_laws.specs.Numbers.{AreRanges, AreLeases, AreDrawn, NumberFacts}
-use Rattle.isolation_laws.specs.Holds.{Holds}
+use Rattle.isolation_laws.specs.IsolationInvariant.{IsolationInvariant}
 use Rattle.machine.proofs.Lookups.{instance_changed}
 use Rattle.machine.specs.Outcome.OutcomesOfRecord.{Renewed, renewed_nodes, renewed_state}
 use Rattle.isolation_laws.proofs.Numbers.NumbersMoved.{numbers_told, ranges_under, drawn_under, numbers_moved}
@@ -72,5 +72,5 @@ renewed_by w h k true facts =
 renewed_by w h k false facts =
     numbers_moved _ _ _ _ _ _ _ _ (ranges_under (renewed_nodes w k false) w.master _ (omega arith) (omega arith) (renewed_ranges w k facts.ranges)) (renewed_leases w k facts.leases) (drawn_under (renewed_nodes w k false) w.master _ h (omega arith) (omega arith) (renewed_drawn w k h facts.drawn)) facts
 
-pub numbers_renewed : (w : State) (h : List Item) (k : Renewed w) → Holds w h → NumberFacts w.setup (renewed_state w k).seen (renewed_state w k).nodes (renewed_state w k).master (h ++ k.items)
+pub numbers_renewed : (w : State) (h : List Item) (k : Renewed w) → IsolationInvariant w h → NumberFacts w.setup (renewed_state w k).seen (renewed_state w k).nodes (renewed_state w k).master (h ++ k.items)
 numbers_renewed w h k holds = numbers_told w.setup (max w.seen k.reading) (renewed_state w k).nodes (renewed_state w k).master h k.items k.quiet (renewed_by w h k k.failed holds.numbers)

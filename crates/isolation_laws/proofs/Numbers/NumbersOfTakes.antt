@@ -14,7 +14,7 @@ use Rattle.machine.specs.State.{State}
 use Rattle.machine.specs.Events.Take.{rules_of, instance_of}
 use Rattle.isolation_laws.specs.Words.{InstanceAt}
 use Rattle.isolation_laws.specs.Numbers.{AreRanges, AreLeases, AreDrawn, NumberFacts}
-use Rattle.isolation_laws.specs.Holds.{Holds}
+use Rattle.isolation_laws.specs.IsolationInvariant.{IsolationInvariant}
 use Rattle.machine.proofs.Lookups.{instance_changed}
 use Rattle.machine.specs.Outcome.OutcomesOfRecord.{Granted, granted_nodes, granted_state}
 use Rattle.isolation_laws.proofs.Numbers.NumbersMoved.{below_or_at, numbers_told, ranges_under, drawn_under, numbers_moved}
@@ -156,5 +156,5 @@ granted_by : (w : State) (h : List Item) (k : Granted w) (failed : Bool) → Num
 granted_by w h k true facts = take_alone w k.node k.reading h facts k.free
 granted_by w h k false facts = take_whole w k.node k.reading h facts k.free
 
-pub numbers_granted : (w : State) (h : List Item) (k : Granted w) → Holds w h → NumberFacts w.setup (granted_state w k).seen (granted_state w k).nodes (granted_state w k).master (h ++ k.items)
+pub numbers_granted : (w : State) (h : List Item) (k : Granted w) → IsolationInvariant w h → NumberFacts w.setup (granted_state w k).seen (granted_state w k).nodes (granted_state w k).master (h ++ k.items)
 numbers_granted w h k holds = numbers_told w.setup (max w.seen k.reading) (granted_state w k).nodes (granted_state w k).master h k.items k.quiet (granted_by w h k k.failed holds.numbers)

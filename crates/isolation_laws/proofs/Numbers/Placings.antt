@@ -9,7 +9,7 @@ use Rattle.system_parts.specs.Pairs.{Pairs, mark_of, put_pair}
 use Rattle.machine.specs.State.{State}
 use Rattle.isolation_laws.specs.Words.{DrewCommit}
 use Rattle.isolation_laws.specs.Pending.{InFlight, Has, is_placing, PlacingAt, Pending, Live}
-use Rattle.isolation_laws.specs.Holds.{Holds}
+use Rattle.isolation_laws.specs.IsolationInvariant.{IsolationInvariant}
 use Rattle.isolation_laws.proofs.Owners.{has_drew}
 use Rattle.machine.specs.Outcome.OutcomesOfStamps.{PlacedOne}
 use Rattle.machine.specs.Outcome.OutcomesOfPlacings.{AtPlacing, OwnPlaced}
@@ -29,7 +29,7 @@ abbrev pub placed_pairs : (w : State) → PlacedPending w → Pairs
 placed_pairs w p = put_pair w.pairs p.coming.start (CommittedMark p.commit)
 
 -- a node places what it has drawn
-abbrev pub by_its_node : (w : State) (h : List Item) (k : PlacedOne w) → Holds w h → PlacedPending w
+abbrev pub by_its_node : (w : State) (h : List Item) (k : PlacedOne w) → IsolationInvariant w h → PlacedPending w
 by_its_node w h k holds = record {
   coming = in_flight_of w k.it;
   pending = inl (drawn_pending w k.it holds.requests.requests);
@@ -68,7 +68,7 @@ by_its_session w k = record {
 }
 
 -- it was drawn, and was not placed
-pub placed_drew : (w : State) (h : List Item) (p : PlacedPending w) → Holds w h → ((n : ℕ) × (term : ℕ) × DrewCommit h p.coming.session n term p.coming.start p.commit) × ((c : ℕ) → Committed h p.coming.start c → ⊥)
+pub placed_drew : (w : State) (h : List Item) (p : PlacedPending w) → IsolationInvariant w h → ((n : ℕ) × (term : ℕ) × DrewCommit h p.coming.session n term p.coming.start p.commit) × ((c : ℕ) → Committed h p.coming.start c → ⊥)
 placed_drew w h p holds = has_drew w.clients w.nodes h p.coming p.commit holds.requests.pending p.pending p.has
 
 pub placed_live : (w : State) (p : PlacedPending w) → Live w.clients w.nodes p.coming.start

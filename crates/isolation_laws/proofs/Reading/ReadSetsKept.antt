@@ -13,7 +13,7 @@ use Rattle.machine.specs.State.{Client, State}
 use Rattle.machine.specs.StoreSteps.{told_by}
 use Rattle.machine.specs.Events.Fetch.{marks_every, keeps_read, reads_after}
 use Rattle.isolation_laws.specs.ReadSets.{AreReadSets}
-use Rattle.isolation_laws.specs.Holds.{Holds}
+use Rattle.isolation_laws.specs.IsolationInvariant.{IsolationInvariant}
 use Rattle.machine.specs.Outcome.OutcomesOfWork.{Fetched, fetched_turn, fetched_client, fetched_state, fetched_items, ReadStepped, read_turn, read_client, read_stepped_state, read_stepped_items}
 use Rattle.isolation_laws.proofs.Requests.WrittenKeys.{has_key_in, key_was_written}
 use Rattle.isolation_laws.proofs.Memory.RecordedCommits.{added_there, added_keeps}
@@ -39,7 +39,7 @@ key_or_written setup c key strict = elim (cases_Bool (has_key c.entry.keys key))
   | inr new ↦ inl (rw (strict, new) (added_there c.reads key))
 ]
 
-fetched_more : (w : State) (h : List Item) (k : Fetched w) → Holds w h → KeepsMore w.setup h k.start k.key k.it.c (fetched_client w k)
+fetched_more : (w : State) (h : List Item) (k : Fetched w) → IsolationInvariant w h → KeepsMore w.setup h k.start k.key k.it.c (fetched_client w k)
 fetched_more w h k holds = record {
   entry = refl;
   plain = λ flag. plain_after w.setup k.it.c k.key flag;
@@ -50,13 +50,13 @@ fetched_more w h k holds = record {
   ];
 }
 
-sets_fetched : (w : State) (h : List Item) (k : Fetched w) → Holds w h → AreReadSets w.setup (fetched_state w k).clients w.nodes (h ++ fetched_items w k)
+sets_fetched : (w : State) (h : List Item) (k : Fetched w) → IsolationInvariant w h → AreReadSets w.setup (fetched_state w k).clients w.nodes (h ++ fetched_items w k)
 sets_fetched w h k holds =
     read_sets_turn w h k.first k.it.session k.start k.epoch k.key k.it.c (fetched_client w k) (fetched_turn w k) k.quiet k.it.client_at (fetched_open w k) (fetched_more w h k holds)
     (fetched_recall_of (marks_every w.setup) k.key k.start k.epoch (front_of k.start (fetched w.rows k.key k.start)) (put_fresh k.it.c.cache)) holds
 
 -- ---- a step of a read
-stepped_more : (w : State) (h : List Item) (k : ReadStepped w) → Holds w h → KeepsMore w.setup h k.r.start k.r.key k.c (read_client w k)
+stepped_more : (w : State) (h : List Item) (k : ReadStepped w) → IsolationInvariant w h → KeepsMore w.setup h k.r.start k.r.key k.c (read_client w k)
 stepped_more w h k holds = record {
   entry = refl;
   plain = λ flag. refl;
@@ -64,13 +64,13 @@ stepped_more w h k holds = record {
   key = λ strict. holds.reads.read_sets.under_way strict k.session k.c k.r k.client_at k.under_way;
 }
 
-sets_stepped : (w : State) (h : List Item) (k : ReadStepped w) → Holds w h → AreReadSets w.setup (read_stepped_state w k).clients w.nodes (h ++ read_stepped_items w k)
+sets_stepped : (w : State) (h : List Item) (k : ReadStepped w) → IsolationInvariant w h → AreReadSets w.setup (read_stepped_state w k).clients w.nodes (h ++ read_stepped_items w k)
 sets_stepped w h k holds =
     read_sets_turn w h k.first k.session k.r.start k.r.epoch k.r.key k.c (read_client w k) (read_turn w k) k.quiet k.client_at (stepped_open w h k holds) (stepped_more w h k holds)
     (told_recall_of _ k.r (told_by (read_ask k.r) w.rows w.pairs)) holds
 
 -- ---- every outcome
-pub read_sets_kept : (w : State) (h : List Item) (o : Outcome w) → Holds w h → AreReadSets (left_by w o).setup (left_by w o).clients (left_by w o).nodes (h ++ told_by_outcome w o)
+pub read_sets_kept : (w : State) (h : List Item) (o : Outcome w) → IsolationInvariant w h → AreReadSets (left_by w o).setup (left_by w o).clients (left_by w o).nodes (h ++ told_by_outcome w o)
 read_sets_kept w h (OfAskedBegin k) holds = sets_asked_begin w h k holds
 read_sets_kept w h (OfAskedCommit k) holds = sets_asked_commit w h k holds
 read_sets_kept w h (OfAnsweredBegin k) holds = sets_answered_begin w h k holds

@@ -13,7 +13,7 @@ use Rattle.machine.specs.State.{Client, State}
 use Rattle.machine.specs.Clients.{client_begun, unless_gone}
 use Rattle.isolation_laws.specs.Words.{InstanceAt, HeldBy, ClientAt, OpenAt, epoch_or_none}
 use Rattle.isolation_laws.specs.ReadSets.{ReadFirst, KeepsReads, AreReadSets}
-use Rattle.isolation_laws.specs.Holds.{Holds}
+use Rattle.isolation_laws.specs.IsolationInvariant.{IsolationInvariant}
 use Rattle.machine.proofs.Lookups.{client_set, held_by, one_client, one_instance, one_held}
 use Rattle.machine.specs.Outcome.OutcomesOfRequests.{AskedBegin, asked_begin_state, AskedCommit, asked_commit_state}
 use Rattle.machine.specs.Outcome.OutcomesOfStamps.{AnsweredBegin, answered_begin_state, answered_begin_items}
@@ -40,7 +40,7 @@ commits_asked_begin w k n s t keys p j at held = elim ((new_held w.nodes k.sessi
   | inr was ↦ (was.0, p, was.1, was.2)
 ]
 
-pub sets_asked_begin : (w : State) (h : List Item) (k : AskedBegin w) → Holds w h → AreReadSets w.setup (asked_begin_state w k).clients (asked_begin_state w k).nodes (h ++ AskBegin k.session k.node ∷ [])
+pub sets_asked_begin : (w : State) (h : List Item) (k : AskedBegin w) → IsolationInvariant w h → AreReadSets w.setup (asked_begin_state w k).clients (asked_begin_state w k).nodes (h ++ AskBegin k.session k.node ∷ [])
 sets_asked_begin w h k holds = read_sets_stay w h (AskBegin k.session k.node ∷ []) _ _ (reads_keep w (OfAskedBegin k) refl) (at_work_after w (OfAskedBegin k) refl).opened (reading_after w (OfAskedBegin k) refl) (commits_asked_begin w k)
     (none_more h _ (one_no_reads (AskBegin k.session k.node) (λ s b key answer is. cc))) holds
 
@@ -51,7 +51,7 @@ asker_is : (w : State) (k : AskedCommit w) (s : ℕ) (d : Client) → s ≡ k.se
 asker_is w k s d mine at = one_client w.clients k.session d k.c (subst (λ q. ClientAt w.clients q d) mine at) k.client_at
 
 -- the client of a commit that is asked for keeps what its open transaction read
-pub sets_asked_commit : (w : State) (h : List Item) (k : AskedCommit w) → Holds w h → AreReadSets w.setup (asked_commit_state w k).clients (asked_commit_state w k).nodes (h ++ k.items)
+pub sets_asked_commit : (w : State) (h : List Item) (k : AskedCommit w) → IsolationInvariant w h → AreReadSets w.setup (asked_commit_state w k).clients (asked_commit_state w k).nodes (h ++ k.items)
 sets_asked_commit w h k holds =
     let same : SameReads w.clients (asked_commit_state w k).clients = reads_keep w (OfAskedCommit k) refl in
     let none : ReadsNoMore h (h ++ k.items) = none_more h k.items (quiet_no_reads k.items k.quiet) in
@@ -71,20 +71,20 @@ sets_asked_commit w h k holds =
     }
 
 -- ---- a begin that is answered: the new transaction has read nothing, and its client keeps nothing
-begun_read_none : (w : State) (h : List Item) (k : AnsweredBegin w) (key : ℕ) → Holds w h → ReadFirst h k.start key → ⊥
+begun_read_none : (w : State) (h : List Item) (k : AnsweredBegin w) (key : ℕ) → IsolationInvariant w h → ReadFirst h k.start key → ⊥
 begun_read_none w h k key holds read =
     let was = read_of h k.start key read in
     let begun = holds.numbers.begun.reads was.0 k.start key was.1 was.2 in
     start_unbegun w h k begun.0 holds begun.1
 
-begun_plain : (w : State) (h : List Item) (k : AnsweredBegin w) → Holds w h → w.setup.strict ≡ false → (unless_gone k.c (client_begun k.c k.start k.i.epoch)).reads ≡ []
+begun_plain : (w : State) (h : List Item) (k : AnsweredBegin w) → IsolationInvariant w h → w.setup.strict ≡ false → (unless_gone k.c (client_begun k.c k.start k.i.epoch)).reads ≡ []
 begun_plain w h k holds flag = elim (gone_cases k.c (client_begun k.c k.start k.i.epoch)) [
   | inl stays ↦ ap (λ (x : Client). x.reads) stays.0 ∙ holds.reads.read_sets.plain flag k.session k.c k.client_at
   | inr moves ↦ ap (λ (x : Client). x.reads) moves
 ]
 
 -- no commit of its session is held
-not_commit : (w : State) (h : List Item) (k : AnsweredBegin w) (n s t : ℕ) (keys : List ℕ) (q : Progress) (i : InstanceEntry) → Holds w h → s ≡ k.session → InstanceAt w.nodes n i → HeldBy i s (Commit s t keys) q → ⊥
+not_commit : (w : State) (h : List Item) (k : AnsweredBegin w) (n s t : ℕ) (keys : List ℕ) (q : Progress) (i : InstanceEntry) → IsolationInvariant w h → s ≡ k.session → InstanceAt w.nodes n i → HeldBy i s (Commit s t keys) q → ⊥
 not_commit w h k n s t keys q i holds mine at held =
     let here : HeldBy i k.session (Commit s t keys) q = subst (λ r. HeldBy i r (Commit s t keys) q) mine held in
     let node : n ≡ k.node = holds.requests.requests.one n k.node k.session i k.i (Commit s t keys) k.held.request q k.held.progress at k.at here (held_by k.i k.session k.held k.has) in
@@ -93,12 +93,12 @@ not_commit w h k n s t keys q i holds mine at held =
     begin_no_commit k.asker s t keys (sym here.asks ∙ (ap (λ x. x.request) is ∙ k.request_is))
 
 -- a session whose begin is answered has no transaction open
-begun_open : (w : State) (h : List Item) (k : AnsweredBegin w) (s t e : ℕ) → Holds w h → s ≡ k.session → OpenAt w.clients s t e → ⊥
+begun_open : (w : State) (h : List Item) (k : AnsweredBegin w) (s t e : ℕ) → IsolationInvariant w h → s ≡ k.session → OpenAt w.clients s t e → ⊥
 begun_open w h k s t e holds mine o =
     none_held w.nodes w.clients s o.client phase.Open holds.requests.requests o.at o.state_is open_waits k.node k.i k.held.request k.held.progress k.at
     (subst (λ r. HeldBy k.i r k.held.request k.held.progress) (sym mine) (held_by k.i k.session k.held k.has))
 
-pub sets_answered_begin : (w : State) (h : List Item) (k : AnsweredBegin w) → Holds w h → AreReadSets w.setup (answered_begin_state w k).clients (answered_begin_state w k).nodes (h ++ answered_begin_items w k)
+pub sets_answered_begin : (w : State) (h : List Item) (k : AnsweredBegin w) → IsolationInvariant w h → AreReadSets w.setup (answered_begin_state w k).clients (answered_begin_state w k).nodes (h ++ answered_begin_items w k)
 sets_answered_begin w h k holds =
     let none : ReadsNoMore h (h ++ answered_begin_items w k) = none_more h (answered_begin_items w k) (one_no_reads (Begin k.session k.start) (λ s b key answer is. cc)) in
     let sets = holds.reads.read_sets in

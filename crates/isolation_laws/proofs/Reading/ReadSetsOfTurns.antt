@@ -27,7 +27,7 @@ use Rattle.isolation_laws.specs.Words.{InstanceAt, HeldBy, ClientAt, OpenAt, Beg
 use Rattle.isolation_laws.specs.Pending.{Stage, Waits, Taken, Has, stage_of}
 use Rattle.machine.specs.Quiet.{Quiet}
 use Rattle.isolation_laws.specs.ReadSets.{ReadFirst, KeepsReads, KeepsKey, AreReadSets}
-use Rattle.isolation_laws.specs.Holds.{Holds}
+use Rattle.isolation_laws.specs.IsolationInvariant.{IsolationInvariant}
 use Rattle.machine.proofs.Lookups.{client_set, one_client}
 use Rattle.isolation_laws.proofs.OnceEach.{begun_once}
 use Rattle.isolation_laws.proofs.Numbers.NumbersKept.{open_begun}
@@ -40,12 +40,12 @@ use Rattle.isolation_laws.proofs.Reading.ReadsLonger.{reads_same}
 use Rattle.isolation_laws.proofs.Reading.ReadSetsStay.{key_kept}
 
 -- ---- a commit that was asked for, however far it has come, is of its session's transaction
-pending_as : (w : State) (h : List Item) (n s t : ℕ) (keys : List ℕ) (p : Progress) (i : InstanceEntry) (stage : Stage) → Holds w h → InstanceAt w.nodes n i → HeldBy i s (Commit s t keys) p → stage_of i.last p ≡ Some stage → Begun h s t
+pending_as : (w : State) (h : List Item) (n s t : ℕ) (keys : List ℕ) (p : Progress) (i : InstanceEntry) (stage : Stage) → IsolationInvariant w h → InstanceAt w.nodes n i → HeldBy i s (Commit s t keys) p → stage_of i.last p ≡ Some stage → Begun h s t
 pending_as w h n s t keys p i stage holds at held is =
     holds.requests.pending.begun (record { session = s; start = t; keys = keys; stage = stage })
     (inl (record { node = n; instance_of = i; progress_of = p; at = at; held = held; stage_is = is }))
 
-commit_begun : (w : State) (h : List Item) (n s t : ℕ) (keys : List ℕ) (p : Progress) (i : InstanceEntry) → Holds w h → InstanceAt w.nodes n i → HeldBy i s (Commit s t keys) p → Begun h s t
+commit_begun : (w : State) (h : List Item) (n s t : ℕ) (keys : List ℕ) (p : Progress) (i : InstanceEntry) → IsolationInvariant w h → InstanceAt w.nodes n i → HeldBy i s (Commit s t keys) p → Begun h s t
 commit_begun w h n s t keys progress.Asked i holds at held = pending_as w h n s t keys progress.Asked i Waits holds at held refl
 commit_begun w h n s t keys progress.Accepted i holds at held = pending_as w h n s t keys progress.Accepted i (Taken i.last) holds at held refl
 commit_begun w h n s t keys (progress.Drawn c) i holds at held = pending_as w h n s t keys (progress.Drawn c) i (Has c) holds at held refl
@@ -109,7 +109,7 @@ pub record KeepsMore (setup : SetupNumbers) (h : List Item) (b j : ℕ) (c kept 
   pub key : setup.strict ≡ true → Contains kept.reads j ⊎ ((value : List ℕ) × Wrote h b j value)
 
 -- what it read in all, with the answer
-turn_keeps : (w : State) (h : List Item) (x : Item) (s b e j : ℕ) (c kept : Client) (turn : ReadTurn) (o : OpenAt w.clients s b e) → Quiet x → ClientAt w.clients s c → KeepsMore w.setup h b j c kept → Holds w h → w.setup.strict ≡ true → KeepsReads (h ++ x ∷ read_items s b j turn) b (client_read kept turn)
+turn_keeps : (w : State) (h : List Item) (x : Item) (s b e j : ℕ) (c kept : Client) (turn : ReadTurn) (o : OpenAt w.clients s b e) → Quiet x → ClientAt w.clients s c → KeepsMore w.setup h b j c kept → IsolationInvariant w h → w.setup.strict ≡ true → KeepsReads (h ++ x ∷ read_items s b j turn) b (client_read kept turn)
 turn_keeps w h x s b e j c kept turn o quiet at more holds strict k read =
     subst (λ ks. Contains ks k) (sym (read_keeps kept turn)) (elim (first_turn h x s b j turn b k quiet read) [
       | inl old ↦ more.more k (subst (λ (y : Client). Contains y.reads k) (one_client w.clients s o.client c o.at at) (holds.reads.read_sets.opened strict s b e o k old))
@@ -144,7 +144,7 @@ turn_key w h items b j c kept d y (Asks x) of more reads same strict =
     ]
 
 -- ---- a turn of a read, whatever it comes to, and whatever the client keeps more
-pub read_sets_turn : (w : State) (h : List Item) (x : Item) (s b e j : ℕ) (c kept : Client) (turn : ReadTurn) → Quiet x → ClientAt w.clients s c → OpenAt w.clients s b e → KeepsMore w.setup h b j c kept → IsTurnOf b j turn → Holds w h → AreReadSets w.setup (slice_set w.clients s (client_read kept turn)) w.nodes (h ++ x ∷ read_items s b j turn)
+pub read_sets_turn : (w : State) (h : List Item) (x : Item) (s b e j : ℕ) (c kept : Client) (turn : ReadTurn) → Quiet x → ClientAt w.clients s c → OpenAt w.clients s b e → KeepsMore w.setup h b j c kept → IsTurnOf b j turn → IsolationInvariant w h → AreReadSets w.setup (slice_set w.clients s (client_read kept turn)) w.nodes (h ++ x ∷ read_items s b j turn)
 read_sets_turn w h x s b e j c kept turn quiet at o more of holds =
     let new : Client = client_read kept turn in
     let items : List Item = x ∷ read_items s b j turn in

@@ -22,7 +22,7 @@ use Rattle.isolation_laws.specs.Words.{ClientAt, OpenAt, Begun, DrewCommit, Mark
 use Rattle.isolation_laws.specs.Pending.{ComesBelow, IsPending}
 use Rattle.isolation_laws.specs.UnderWay.{HasShadow}
 use Rattle.isolation_laws.specs.Reads.{IsCovered, SeesAll, IsResolvedTo, IsReading, Outlasts}
-use Rattle.isolation_laws.specs.Holds.{Holds}
+use Rattle.isolation_laws.specs.IsolationInvariant.{IsolationInvariant}
 use Rattle.isolation_laws.proofs.ComingBelow.{coming_is_markable}
 use Rattle.isolation_laws.proofs.Requests.CommitsInFlight.{GoesOn}
 use Rattle.isolation_laws.proofs.Numbers.NumbersKept.{open_begun}
@@ -93,11 +93,11 @@ sees_on w h clients nodes rows pairs g r b k cells rely begun sees = record {
 }
 
 -- so at a last look, what still comes was marked
-pub marked_before : (w : State) (h : List Item) (every : Bool) (s b e t : ℕ) (met : Bool) → every ≡ marks_every w.setup → Holds w h → OpenAt w.clients s b e → (met ≡ true → Marked w.pairs t) → (met ≡ false → IsTrue (may_mark every t e) → ⊥) → ComesBelow w.clients w.nodes b t → Marked w.pairs t
+pub marked_before : (w : State) (h : List Item) (every : Bool) (s b e t : ℕ) (met : Bool) → every ≡ marks_every w.setup → IsolationInvariant w h → OpenAt w.clients s b e → (met ≡ true → Marked w.pairs t) → (met ≡ false → IsTrue (may_mark every t e) → ⊥) → ComesBelow w.clients w.nodes b t → Marked w.pairs t
 marked_before w h every s b e t true every_is holds o marked none comes = marked refl
 marked_before w h every s b e t false every_is holds o marked none comes = absurd (none refl (coming_is_markable w h every s b e t every_is holds o comes))
 
-resolved_on : (w : State) (h : List Item) (clients : List Client) (nodes : List (Option InstanceEntry)) (rows : List Row) (pairs : Pairs) (g : List Item) (s k b : ℕ) (every : Bool) (e t : ℕ) (point : SettlePoint) → every ≡ marks_every w.setup → RelyOn w h clients nodes rows pairs g → Holds w h → OpenAt w.clients s b e → IsResolvedTo w.pairs w.rows h k b every e t point → IsResolvedTo pairs rows g k b every e t point
+resolved_on : (w : State) (h : List Item) (clients : List Client) (nodes : List (Option InstanceEntry)) (rows : List Row) (pairs : Pairs) (g : List Item) (s k b : ℕ) (every : Bool) (e t : ℕ) (point : SettlePoint) → every ≡ marks_every w.setup → RelyOn w h clients nodes rows pairs g → IsolationInvariant w h → OpenAt w.clients s b e → IsResolvedTo w.pairs w.rows h k b every e t point → IsResolvedTo pairs rows g k b every e t point
 resolved_on w h clients nodes rows pairs g s k b every e t FirstLook every_is rely holds o is = is
 resolved_on w h clients nodes rows pairs g s k b every e t Table every_is rely holds o is = tt
 resolved_on w h clients nodes rows pairs g s k b every e t Marking every_is rely holds o is = is
@@ -110,10 +110,10 @@ resolved_on w h clients nodes rows pairs g s k b every e t (LastLook met) every_
   ]),
 )
 
-pub open_now_begun : (w : State) (h : List Item) (s b e : ℕ) → Holds w h → OpenAt w.clients s b e → Begun h s b
+pub open_now_begun : (w : State) (h : List Item) (s b e : ℕ) → IsolationInvariant w h → OpenAt w.clients s b e → Begun h s b
 open_now_begun w h s b e holds o = open_begun w.clients h s b o.client holds.requests.have_begun o.at o.state_is o.start_is
 
-pub reading_on : (w : State) (h : List Item) (clients : List Client) (nodes : List (Option InstanceEntry)) (rows : List Row) (pairs : Pairs) (g : List Item) (s b e : ℕ) (r : Reading) → RelyOn w h clients nodes rows pairs g → ((k : ℕ) → last_write g b k ≡ last_write h b k) → Holds w h → OpenAt w.clients s b e → IsReading w.setup w.clients w.nodes w.rows w.pairs h b e r → IsReading w.setup clients nodes rows pairs g b e r
+pub reading_on : (w : State) (h : List Item) (clients : List Client) (nodes : List (Option InstanceEntry)) (rows : List Row) (pairs : Pairs) (g : List Item) (s b e : ℕ) (r : Reading) → RelyOn w h clients nodes rows pairs g → ((k : ℕ) → last_write g b k ≡ last_write h b k) → IsolationInvariant w h → OpenAt w.clients s b e → IsReading w.setup w.clients w.nodes w.rows w.pairs h b e r → IsReading w.setup clients nodes rows pairs g b e r
 reading_on w h clients nodes rows pairs g s b e r rely own holds o is = record {
   start_is = is.start_is;
   epoch_is = is.epoch_is;
@@ -127,7 +127,7 @@ reading_on w h clients nodes rows pairs g s b e r rely own holds o is = record {
 abbrev pub ReadingBy : SetupNumbers → List Client → List Client → List (Option InstanceEntry) → List Row → Pairs → List Item → Type 0
 ReadingBy setup readers clients nodes rows pairs h = (s : ℕ) (c : Client) (r : Reading) → ClientAt readers s c → c.under_way ≡ Reads r → (b : ℕ) × (e : ℕ) × OpenAt readers s b e × IsReading setup clients nodes rows pairs h b e r
 
-pub reading_kept : (w : State) (h : List Item) (clients : List Client) (nodes : List (Option InstanceEntry)) (rows : List Row) (pairs : Pairs) (g : List Item) → RelyOn w h clients nodes rows pairs g → Holds w h → ReadingBy w.setup w.clients clients nodes rows pairs g
+pub reading_kept : (w : State) (h : List Item) (clients : List Client) (nodes : List (Option InstanceEntry)) (rows : List Row) (pairs : Pairs) (g : List Item) → RelyOn w h clients nodes rows pairs g → IsolationInvariant w h → ReadingBy w.setup w.clients clients nodes rows pairs g
 reading_kept w h clients nodes rows pairs g rely holds s c r at reads =
     let is = holds.reads.reading.reads s c r at reads in
     let reader : IsReader w.clients is.0 = record { session = s; epoch = is.1; client = c; reading = r; at = at; reads = reads; is_open = is.2 } in
@@ -140,7 +140,7 @@ outlasts_on before after b u (Some found) marks (inl own) = inl own
 outlasts_on before after b u (Some found) marks (inr (inl marked)) = inr (inl (marks marked))
 outlasts_on before after b u (Some found) marks (inr (inr above)) = inr (inr above)
 
-pub lasts_on : (w : State) (h : List Item) (clients : List Client) (nodes : List (Option InstanceEntry)) (rows : List Row) (pairs : Pairs) (g : List Item) (s b k u : ℕ) (answer : Option Found) (value : List ℕ) → RelyOn w h clients nodes rows pairs g → Holds w h → Read s b k answer ∈ h → ComesBelow clients nodes b u → Wrote g u k value → Outlasts pairs b u answer
+pub lasts_on : (w : State) (h : List Item) (clients : List Client) (nodes : List (Option InstanceEntry)) (rows : List Row) (pairs : Pairs) (g : List Item) (s b k u : ℕ) (answer : Option Found) (value : List ℕ) → RelyOn w h clients nodes rows pairs g → IsolationInvariant w h → Read s b k answer ∈ h → ComesBelow clients nodes b u → Wrote g u k value → Outlasts pairs b u answer
 lasts_on w h clients nodes rows pairs g s b k u answer value rely holds read comes wrote =
     let begun = holds.numbers.begun.reads s b k answer read in
     let was : ComesBelow w.clients w.nodes b u = rely.comes begun.0 b u begun.1 comes in
@@ -154,7 +154,7 @@ candidate_was w h clients nodes rows pairs g b k t c rely is = elim (rely.placed
 ]
 
 -- what is placed now is below the commit of a later version
-placed_lower : (w : State) (h : List Item) (b k v c u d : ℕ) (x y : List ℕ) → Holds w h → Committed h v c → WasComing w h b u d → Wrote h v k x → Wrote h u k y → u < v → d ≤ c
+placed_lower : (w : State) (h : List Item) (b k v c u d : ℕ) (x y : List ℕ) → IsolationInvariant w h → Committed h v c → WasComing w h b u d → Wrote h v k x → Wrote h u k y → u < v → d ≤ c
 placed_lower w h b k v c u d x y holds placed new wrote also less =
     let drew = holds.numbers.placed.drawn v c placed in
     let above : v < c = holds.isolated.stamped.start_below_commit v c placed in
@@ -163,12 +163,12 @@ placed_lower w h b k v c u d x y holds placed new wrote also less =
       | inr two ↦ omega (arith, two, above)
     ]
 
-greatest_on : (w : State) (h : List Item) (b k t c : ℕ) (found : Found) → Holds w h → Newest h b k found → Outlasts w.pairs b t (Some found) → WasComing w h b t c → (value : List ℕ) × Wrote h t k value → (n : Newest h b k found) → c ≤ n.commit
+greatest_on : (w : State) (h : List Item) (b k t c : ℕ) (found : Found) → IsolationInvariant w h → Newest h b k found → Outlasts w.pairs b t (Some found) → WasComing w h b t c → (value : List ℕ) × Wrote h t k value → (n : Newest h b k found) → c ≤ n.commit
 greatest_on w h b k t c found holds was (inl own) new wrote n = absurd (omega (arith, own, holds.isolated.stamped.start_below_commit found.from n.commit n.candidate.committed, n.candidate.below))
 greatest_on w h b k t c found holds was (inr (inl marked)) new wrote n = absurd (new.unmarked marked)
 greatest_on w h b k t c found holds was (inr (inr above)) new wrote n = placed_lower w h b k found.from n.commit t c found.value wrote.0 holds n.candidate.committed new n.value wrote.1 above
 
-pub visible_on : (w : State) (h : List Item) (clients : List Client) (nodes : List (Option InstanceEntry)) (rows : List Row) (pairs : Pairs) (g : List Item) (s b k : ℕ) (answer : Option Found) → RelyOn w h clients nodes rows pairs g → Holds w h → Read s b k answer ∈ h → Visible h b k answer → Visible g b k answer
+pub visible_on : (w : State) (h : List Item) (clients : List Client) (nodes : List (Option InstanceEntry)) (rows : List Row) (pairs : Pairs) (g : List Item) (s b k : ℕ) (answer : Option Found) → RelyOn w h clients nodes rows pairs g → IsolationInvariant w h → Read s b k answer ∈ h → Visible h b k answer → Visible g b k answer
 visible_on w h clients nodes rows pairs g s b k None rely holds read is = λ t c candidate. elim (candidate_was w h clients nodes rows pairs g b k t c rely candidate) [
   | inl old ↦ is t c old
   | inr (new, (value, wrote)) ↦ new.unmarked (holds.reads.lasting.lasts s b k t None value read new.comes wrote)
@@ -185,14 +185,14 @@ visible_on w h clients nodes rows pairs g s b k (Some found) rely holds read is 
       ];
     }
 
-right_answer_on : (w : State) (h : List Item) (clients : List Client) (nodes : List (Option InstanceEntry)) (rows : List Row) (pairs : Pairs) (g before : List Item) (s b k : ℕ) (answer : Option Found) (own : Option (List ℕ)) → RelyOn w h clients nodes rows pairs g → Holds w h → Read s b k answer ∈ h → RightAnswer h before b k answer own → RightAnswer g before b k answer own
+right_answer_on : (w : State) (h : List Item) (clients : List Client) (nodes : List (Option InstanceEntry)) (rows : List Row) (pairs : Pairs) (g before : List Item) (s b k : ℕ) (answer : Option Found) (own : Option (List ℕ)) → RelyOn w h clients nodes rows pairs g → IsolationInvariant w h → Read s b k answer ∈ h → RightAnswer h before b k answer own → RightAnswer g before b k answer own
 right_answer_on w h clients nodes rows pairs g before s b k answer None rely holds read is = visible_on w h clients nodes rows pairs g s b k answer rely holds read is
 right_answer_on w h clients nodes rows pairs g before s b k answer (Some own) rely holds read (inl mine) = inl mine
 right_answer_on w h clients nodes rows pairs g before s b k answer (Some own) rely holds read (inr (listed, seen)) = inr (listed, visible_on w h clients nodes rows pairs g s b k answer rely holds read seen)
 
-right_on : (w : State) (h : List Item) (clients : List Client) (nodes : List (Option InstanceEntry)) (rows : List Row) (pairs : Pairs) (g before : List Item) (x : Item) → RelyOn w h clients nodes rows pairs g → Holds w h → x ∈ h → RightRead h before x → RightRead g before x
+right_on : (w : State) (h : List Item) (clients : List Client) (nodes : List (Option InstanceEntry)) (rows : List Row) (pairs : Pairs) (g before : List Item) (x : Item) → RelyOn w h clients nodes rows pairs g → IsolationInvariant w h → x ∈ h → RightRead h before x → RightRead g before x
 right_on w h clients nodes rows pairs g before (Read s b k answer) rely holds read is = right_answer_on w h clients nodes rows pairs g before s b k answer (last_write before b k) rely holds read is
 right_on w h clients nodes rows pairs g before _ rely holds read is = is
 
-pub right_kept : (w : State) (h : List Item) (clients : List Client) (nodes : List (Option InstanceEntry)) (rows : List Row) (pairs : Pairs) (g : List Item) → RelyOn w h clients nodes rows pairs g → Holds w h → AtEach (RightRead g) h
+pub right_kept : (w : State) (h : List Item) (clients : List Client) (nodes : List (Option InstanceEntry)) (rows : List Row) (pairs : Pairs) (g : List Item) → RelyOn w h clients nodes rows pairs g → IsolationInvariant w h → AtEach (RightRead g) h
 right_kept w h clients nodes rows pairs g rely holds = AtEach-weaker (RightRead h) (RightRead g) h holds.isolated.reads (λ before x m is. right_on w h clients nodes rows pairs g before x rely holds m is)

@@ -27,7 +27,7 @@ use Rattle.isolation_laws.specs.Pending.{ComesBelow}
 use Rattle.machine.specs.Quiet.{Quiet}
 use Rattle.isolation_laws.specs.Reads.{IsReading, Outlasts, AreLastingReads}
 use Rattle.isolation_laws.specs.Known.{IsTrueCache}
-use Rattle.isolation_laws.specs.Holds.{Holds}
+use Rattle.isolation_laws.specs.IsolationInvariant.{IsolationInvariant}
 use Rattle.machine.specs.Outcome.OutcomesOfWork.{Fetched, fetched_recall, fetched_turn, fetched_client, fetched_state, fetched_items, ReadStepped, read_recall, read_turn, read_client, read_stepped_state, read_stepped_items}
 use Rattle.isolation_laws.proofs.Pushed.{not_true, in_append}
 use Rattle.machine.proofs.Outcome.QuietItems.{one_quiet}
@@ -102,7 +102,7 @@ given_lasts w h g pairs b e k c j u answer value turn un good given comes wrote 
     let written : Wrote h u k value = sym (un.writes u k) ∙ (ap (last_write g u) (sym given.key_is) ∙ wrote) in
     subst (λ x. Outlasts pairs x u answer) (sym given.start_is) (subst (λ (y : Option Found). Outlasts pairs b u y) (sym given.answer_is) (now.lasts u value (subst (λ x. ComesBelow w.clients w.nodes x u) given.start_is comes) written))
 
-turn_lasting : (w : State) (h : List Item) (pairs : Pairs) (x : Item) (clients : List Client) (s b e k : ℕ) (turn : ReadTurn) → ((c : ℕ) → NoneComesMore w clients c) → Quiet x → RelyOn w h clients w.nodes w.rows pairs (h ++ x ∷ read_items s b k turn) → Calm h (h ++ x ∷ read_items s b k turn) → GoodTurn w h pairs b e k turn → Holds w h → AreLastingReads clients w.nodes pairs (h ++ x ∷ read_items s b k turn)
+turn_lasting : (w : State) (h : List Item) (pairs : Pairs) (x : Item) (clients : List Client) (s b e k : ℕ) (turn : ReadTurn) → ((c : ℕ) → NoneComesMore w clients c) → Quiet x → RelyOn w h clients w.nodes w.rows pairs (h ++ x ∷ read_items s b k turn) → Calm h (h ++ x ∷ read_items s b k turn) → GoodTurn w h pairs b e k turn → IsolationInvariant w h → AreLastingReads clients w.nodes pairs (h ++ x ∷ read_items s b k turn)
 turn_lasting w h pairs x clients s b e k turn none quiet rely un good holds = record {
   lasts = λ r c j u answer value m comes wrote. elim (in_append (Read r c j answer) h (x ∷ read_items s b k turn) m) [
     | inl old ↦ lasts_on w h clients w.nodes w.rows pairs (h ++ x ∷ read_items s b k turn) r c j u answer value rely holds old comes wrote
@@ -118,7 +118,7 @@ turn_rights w h g pairs before s b e k (Answers a) un prior good rights =
     (subst (RightAnswer g before b k (found_of a.found)) (sym (prior.writes b k)) (right_longer h g before b k (found_of a.found) (last_write h b k) un prior.on good.right))
 
 -- ---- a turn of a read, whatever it comes to, and whatever the client has kept before
-pub reads_turn : (w : State) (h : List Item) (pairs : Pairs) (x : Item) (s b e k : ℕ) (c kept : Client) (turn : ReadTurn) → Quiet x → ClientAt w.clients s c → kept.entry ≡ c.entry → OpenAt w.clients s b e → MarksStay w.pairs pairs → GoodTurn w h pairs b e k turn → Holds w h → ReadsRight w.setup (slice_set w.clients s (client_read kept turn)) w.nodes w.rows pairs (h ++ x ∷ read_items s b k turn)
+pub reads_turn : (w : State) (h : List Item) (pairs : Pairs) (x : Item) (s b e k : ℕ) (c kept : Client) (turn : ReadTurn) → Quiet x → ClientAt w.clients s c → kept.entry ≡ c.entry → OpenAt w.clients s b e → MarksStay w.pairs pairs → GoodTurn w h pairs b e k turn → IsolationInvariant w h → ReadsRight w.setup (slice_set w.clients s (client_read kept turn)) w.nodes w.rows pairs (h ++ x ∷ read_items s b k turn)
 reads_turn w h pairs x s b e k c kept turn quiet at same o marks good holds =
     let g : List Item = h ++ x ∷ read_items s b k turn in
     let un : Calm h g = calm_turn h x s b k turn quiet in
@@ -143,18 +143,18 @@ open_by w s b e c d start epoch o = subst (λ x. OpenAt w.clients s x d) start (
 reading_by : (w : State) (h : List Item) (b e c d : ℕ) (r : Reading) → b ≡ c → e ≡ d → IsReading w.setup w.clients w.nodes w.rows w.pairs h b e r → IsReading w.setup w.clients w.nodes w.rows w.pairs h c d r
 reading_by w h b e c d r start epoch is = subst (λ x. IsReading w.setup w.clients w.nodes w.rows w.pairs h x d r) start (subst (λ y. IsReading w.setup w.clients w.nodes w.rows w.pairs h b y r) epoch is)
 
-pub stepped_open : (w : State) (h : List Item) (k : ReadStepped w) → Holds w h → OpenAt w.clients k.session k.r.start k.r.epoch
+pub stepped_open : (w : State) (h : List Item) (k : ReadStepped w) → IsolationInvariant w h → OpenAt w.clients k.session k.r.start k.r.epoch
 stepped_open w h k holds =
     let was = holds.reads.reading.reads k.session k.c k.r k.client_at k.under_way in
     open_by w k.session was.0 was.1 k.r.start k.r.epoch (sym was.3.start_is) (sym was.3.epoch_is) was.2
 
-stepped_reading : (w : State) (h : List Item) (k : ReadStepped w) → Holds w h → IsReading w.setup w.clients w.nodes w.rows w.pairs h k.r.start k.r.epoch k.r
+stepped_reading : (w : State) (h : List Item) (k : ReadStepped w) → IsolationInvariant w h → IsReading w.setup w.clients w.nodes w.rows w.pairs h k.r.start k.r.epoch k.r
 stepped_reading w h k holds =
     let was = holds.reads.reading.reads k.session k.c k.r k.client_at k.under_way in
     reading_by w h was.0 was.1 k.r.start k.r.epoch k.r (sym was.3.start_is) (sym was.3.epoch_is) was.3
 
 -- the turn is right, and what the client remembers then is true
-pub stepped_right : (w : State) (h : List Item) (k : ReadStepped w) → Holds w h → HoldBoth (TurnRight w h (pairs_after (read_ask k.r) w.pairs) k.r.start k.r.epoch k.r.key) (IsTrueCache (pairs_after (read_ask k.r) w.pairs) h) (read_recall w k)
+pub stepped_right : (w : State) (h : List Item) (k : ReadStepped w) → IsolationInvariant w h → HoldBoth (TurnRight w h (pairs_after (read_ask k.r) w.pairs) k.r.start k.r.epoch k.r.key) (IsTrueCache (pairs_after (read_ask k.r) w.pairs) h) (read_recall w k)
 stepped_right w h k holds =
     let pairs : Pairs = pairs_after (read_ask k.r) w.pairs in
     let told : Told = told_by (read_ask k.r) w.rows w.pairs in
@@ -165,7 +165,7 @@ stepped_right w h k holds =
     (true_learnt pairs h (put_fresh k.c.cache) (learnt_by k.r told) (learnt_true w h k.session k.r holds o is (holds.known.written.written k.session k.c k.r k.client_at k.under_way)) put)
     (step_right w h k.session k.r holds o is)
 
-pub reads_stepped : (w : State) (h : List Item) (k : ReadStepped w) → Holds w h → ReadsRight w.setup (read_stepped_state w k).clients w.nodes w.rows (read_stepped_state w k).pairs (h ++ read_stepped_items w k)
+pub reads_stepped : (w : State) (h : List Item) (k : ReadStepped w) → IsolationInvariant w h → ReadsRight w.setup (read_stepped_state w k).clients w.nodes w.rows (read_stepped_state w k).pairs (h ++ read_stepped_items w k)
 reads_stepped w h k holds =
     reads_turn w h (pairs_after (read_ask k.r) w.pairs) k.first k.session k.r.start k.r.epoch k.r.key k.c (read_client w k) (read_turn w k) k.quiet k.client_at refl (stepped_open w h k holds) (marks_after (read_ask k.r) w.pairs)
     (good_turn w h (pairs_after (read_ask k.r) w.pairs) k.r.start k.r.epoch k.r.key (read_turn w k) (stepped_reading w h k holds).own (stepped_right w h k holds).0) holds
@@ -195,7 +195,7 @@ IsGoodRead w h b e k cells cache = HoldBoth (GoodTurn w h w.pairs b e k) (IsTrue
 own_recall : (every : Bool) (key b e : ℕ) (c : Cell) (cs : List Cell) (cache : Cache) → c.version ≡ b → recalled_over every key b e (front_of b (c ∷ cs)) cache ≡ (Answers (found_cell c), cache)
 own_recall every key b e c cs cache mine = over_from every key b e (front_of b (c ∷ cs)) cache ∙ ap (recalled_from cache) (own_front every key b e c cs mine)
 
-own_good : (w : State) (h : List Item) (s k b e : ℕ) (c : Cell) (cs : List Cell) (cache : Cache) → Holds w h → OpenAt w.clients s b e → AreCellsOf w.rows k b (c ∷ cs) → IsTrueCache w.pairs h cache → c.version ≡ b → IsGoodRead w h b e k (c ∷ cs) cache
+own_good : (w : State) (h : List Item) (s k b e : ℕ) (c : Cell) (cs : List Cell) (cache : Cache) → IsolationInvariant w h → OpenAt w.clients s b e → AreCellsOf w.rows k b (c ∷ cs) → IsTrueCache w.pairs h cache → c.version ≡ b → IsGoodRead w h b e k (c ∷ cs) cache
 own_good w h s k b e c cs cache holds o are all mine =
     let value : last_write h b k ≡ Some c.value = own_value w h s k b e c holds o (are.found 0 c (omega arith)) mine in
     let right : RightAnswer h h b k (Some (record { from = c.version; value = c.value })) (Some c.value) = inl (ap (λ (v : ℕ). Some (record { from = v; value = c.value })) mine) in
@@ -205,25 +205,25 @@ own_good w h s k b e c cs cache holds o are all mine =
     } in
     subst (HoldBoth (GoodTurn w h w.pairs b e k) (IsTrueCache w.pairs h)) (sym (own_recall (marks_every w.setup) k b e c cs cache mine)) (good, all)
 
-other_good : (w : State) (h : List Item) (s k b e : ℕ) (cells : List Cell) (cache : Cache) → Holds w h → OpenAt w.clients s b e → AreCellsOf w.rows k b cells → IsTrueCache w.pairs h cache → All (λ (c : Cell). c.version < b) cells → IsGoodRead w h b e k cells cache
+other_good : (w : State) (h : List Item) (s k b e : ℕ) (cells : List Cell) (cache : Cache) → IsolationInvariant w h → OpenAt w.clients s b e → AreCellsOf w.rows k b cells → IsTrueCache w.pairs h cache → All (λ (c : Cell). c.version < b) cells → IsGoodRead w h b e k cells cache
 other_good w h s k b e cells cache holds o are all below =
     let own : OwnListed h b k = λ value wrote. own_or_listed w h s k b e cells value holds o are below wrote in
     let both = over_holds (TurnRight w h w.pairs b e k) (IsTrueCache w.pairs h) (recalls_right w h w.pairs b e k holds) (marks_every w.setup) k b e (front_of b cells) cache all
     (over_right w h w.pairs (marks_every w.setup) b e k (front_of b cells) refl holds own (sees_front w.clients w.nodes w.pairs h b k cells (sees_fetched w h k b cells holds are below))) in
     (good_turn w h w.pairs b e k (recalled_over (marks_every w.setup) k b e (front_of b cells) cache).0 own both.0, both.1)
 
-cells_good : (w : State) (h : List Item) (s k b e : ℕ) (cells : List Cell) (cache : Cache) → Holds w h → OpenAt w.clients s b e → AreCellsOf w.rows k b cells → IsTrueCache w.pairs h cache → IsGoodRead w h b e k cells cache
+cells_good : (w : State) (h : List Item) (s k b e : ℕ) (cells : List Cell) (cache : Cache) → IsolationInvariant w h → OpenAt w.clients s b e → AreCellsOf w.rows k b cells → IsTrueCache w.pairs h cache → IsGoodRead w h b e k cells cache
 cells_good w h s k b e [] cache holds o are all = other_good w h s k b e [] cache holds o are all (All-nil (λ (c : Cell). c.version < b))
 cells_good w h s k b e (c ∷ cs) cache holds o are all = elim (cases_eq c.version b) [
   | inl mine ↦ own_good w h s k b e c cs cache holds o are all mine
   | inr other ↦ other_good w h s k b e (c ∷ cs) cache holds o are all (none_own b c cs are.falling are.upto other)
 ]
 
-pub fetched_good : (w : State) (h : List Item) (k : Fetched w) → Holds w h → HoldBoth (GoodTurn w h w.pairs k.start k.epoch k.key) (IsTrueCache w.pairs h) (fetched_recall w k)
+pub fetched_good : (w : State) (h : List Item) (k : Fetched w) → IsolationInvariant w h → HoldBoth (GoodTurn w h w.pairs k.start k.epoch k.key) (IsTrueCache w.pairs h) (fetched_recall w k)
 fetched_good w h k holds =
     cells_good w h k.it.session k.key k.start k.epoch (fetched w.rows k.key k.start) (put_fresh k.it.c.cache) holds (fetched_open w k) (are_fetched w h k.key k.start holds)
     (true_put w.pairs h k.it.c.cache (holds.known.known.each k.it.session k.it.c k.it.client_at))
 
-pub reads_fetched : (w : State) (h : List Item) (k : Fetched w) → Holds w h → ReadsRight w.setup (fetched_state w k).clients w.nodes w.rows w.pairs (h ++ fetched_items w k)
+pub reads_fetched : (w : State) (h : List Item) (k : Fetched w) → IsolationInvariant w h → ReadsRight w.setup (fetched_state w k).clients w.nodes w.rows w.pairs (h ++ fetched_items w k)
 reads_fetched w h k holds =
     reads_turn w h w.pairs k.first k.it.session k.start k.epoch k.key k.it.c (fetched_client w k) (fetched_turn w k) k.quiet k.it.client_at refl (fetched_open w k) (marks_same w.pairs) (fetched_good w h k holds).0 holds

@@ -25,7 +25,7 @@ use Rattle.isolation_laws.specs.Words.{epoch_or_none, OpenAt, Begun}
 use Rattle.isolation_laws.specs.Pending.{IsStageBelow, ComesBelow, IsPending}
 use Rattle.machine.specs.Quiet.{AllQuiet}
 use Rattle.isolation_laws.specs.Reads.{AreReading, AreLastingReads}
-use Rattle.isolation_laws.specs.Holds.{Holds}
+use Rattle.isolation_laws.specs.IsolationInvariant.{IsolationInvariant}
 use Rattle.machine.proofs.Lookups.{one_client}
 use Rattle.machine.specs.Outcome.OutcomesOfRequests.{Accepted, AcceptedSteadily, accepted_state}
 use Rattle.machine.specs.Outcome.OutcomesOfSessions.{AtOpen, WroteOne, wrote_state, wrote_items, WriteFailed}
@@ -88,7 +88,7 @@ pub record ReadsRight (setup : SetupNumbers) (clients : List Client) (nodes : Li
   pub lasting : AreLastingReads clients nodes pairs g
   pub rights : AtEach (RightRead g) g
 
-pub reads_stay : (w : State) (h items : List Item) (nodes : List (Option InstanceEntry)) (rows : List Row) (pairs : Pairs) (clients : List Client) → NoReads items → RelyOn w h clients nodes rows pairs (h ++ items) → FewerReading w.clients clients → Holds w h → ReadsRight w.setup clients nodes rows pairs (h ++ items)
+pub reads_stay : (w : State) (h items : List Item) (nodes : List (Option InstanceEntry)) (rows : List Row) (pairs : Pairs) (clients : List Client) → NoReads items → RelyOn w h clients nodes rows pairs (h ++ items) → FewerReading w.clients clients → IsolationInvariant w h → ReadsRight w.setup clients nodes rows pairs (h ++ items)
 reads_stay w h items nodes rows pairs clients none rely fewer holds = record {
   reading = reading_fewer w.setup w.clients clients nodes rows pairs (h ++ items) fewer (reading_kept w h clients nodes rows pairs (h ++ items) rely holds);
   lasting = record {
@@ -111,7 +111,7 @@ pub same_comes : (w : State) (h : List Item) → NoneComes w h w.clients w.nodes
 same_comes w h r b u begun c = c
 
 -- what is accepted comes below no start that was begun
-pub none_comes_accepted : (w : State) (h : List Item) (k : Accepted w) → AcceptedSteadily w k → Holds w h → NoneComes w h w.clients (accepted_state w k).nodes
+pub none_comes_accepted : (w : State) (h : List Item) (k : Accepted w) → AcceptedSteadily w k → IsolationInvariant w h → NoneComes w h w.clients (accepted_state w k).nodes
 none_comes_accepted w h k steady holds r b u begun c = elim (comes_accepted w k b u c) [
   | inl old ↦ old
   | inr (q, taken, start, below) ↦
@@ -125,7 +125,7 @@ placed_writes h items t c u k quiet =
     let one : last_write (h ++ Placed t c ∷ []) u k ≡ last_write h u k = last_write-push h (Placed t c) u k in
     ap (λ xs. last_write xs u k) (sym (append_assoc h (Placed t c ∷ []) items)) ∙ (last_write-quiet (h ++ Placed t c ∷ []) items u k quiet ∙ one)
 
-placed_comes : (w : State) (h : List Item) (p : PlacedPending w) (b u d : ℕ) → Holds w h → u ≡ p.coming.start → d ≡ p.commit → d < b → WasComing w h b u d
+placed_comes : (w : State) (h : List Item) (p : PlacedPending w) (b u d : ℕ) → IsolationInvariant w h → u ≡ p.coming.start → d ≡ p.commit → d < b → WasComing w h b u d
 placed_comes w h p b u d holds start commit below =
     let q = p.coming in
     let drew = (placed_drew w h p holds).0 in
@@ -140,7 +140,7 @@ placed_comes w h p b u d holds start commit below =
       drew = (q.session, drew.0, drew.1, subst (λ x. Draw q.session drew.0 drew.1 x (Some d) ∈ h) (sym start) (subst (λ y. Draw q.session drew.0 drew.1 q.start (Some y) ∈ h) (sym commit) drew.2));
     }
 
-pub rely_placed : (w : State) (h : List Item) (p : PlacedPending w) (clients : List Client) (nodes : List (Option InstanceEntry)) (items : List Item) → AllQuiet items → FewerPending w.clients w.nodes clients nodes → Holds w h → RelyOn w h clients nodes w.rows (placed_pairs w p) (h ++ placed_item w p ∷ items)
+pub rely_placed : (w : State) (h : List Item) (p : PlacedPending w) (clients : List Client) (nodes : List (Option InstanceEntry)) (items : List Item) → AllQuiet items → FewerPending w.clients w.nodes clients nodes → IsolationInvariant w h → RelyOn w h clients nodes w.rows (placed_pairs w p) (h ++ placed_item w p ∷ items)
 rely_placed w h p clients nodes items quiet fewer holds =
     let t = p.coming.start in
     let now : Places h (h ++ placed_item w p ∷ items) t p.commit = places h items t p.commit quiet in
@@ -163,11 +163,11 @@ other_write t u k j value s other = ap (λ b. if b && (k == j) then Some value e
 open_epoch : (w : State) (it : AtOpen w) (start : ℕ) → it.c.entry.start ≡ Some start → OpenAt w.clients it.session start (epoch_or_none it.c.entry.epoch)
 open_epoch w it start is = record { client = it.c; at = it.client_at; state_is = it.is_open; start_is = is; epoch_is = refl }
 
-pub open_not_placed : (w : State) (h : List Item) (it : AtOpen w) (start c : ℕ) → Holds w h → it.c.entry.start ≡ Some start → Committed h start c → ⊥
+pub open_not_placed : (w : State) (h : List Item) (it : AtOpen w) (start c : ℕ) → IsolationInvariant w h → it.c.entry.start ≡ Some start → Committed h start c → ⊥
 open_not_placed w h it start c holds is placed = open_unplaced w.clients h start c holds.numbers.placed holds.requests.opened (record { session = it.session; epoch = epoch_or_none it.c.entry.epoch; open_at = open_epoch w it start is }) placed
 
 -- its session does nothing else
-idle_no_reader : (w : State) (h : List Item) (k : WroteOne w) → Holds w h → IsReader w.clients k.start → ⊥
+idle_no_reader : (w : State) (h : List Item) (k : WroteOne w) → IsolationInvariant w h → IsReader w.clients k.start → ⊥
 idle_no_reader w h k holds reader =
     let mine : Begun h k.it.session k.start = open_now_begun w h k.it.session k.start (epoch_or_none k.it.c.entry.epoch) holds (wrote_open w k) in
     let theirs : Begun h reader.session k.start = open_now_begun w h reader.session k.start reader.epoch holds reader.is_open in
@@ -175,12 +175,12 @@ idle_no_reader w h k holds reader =
     let same : reader.client ≡ k.it.c = one_client w.clients k.it.session reader.client k.it.c (subst (λ s. slice_get w.clients s ≡ Some reader.client) session reader.at) k.it.client_at in
     idle_reads k.it.c k.it.idle reader.reading (sym (ap (λ (c : Client). c.under_way) same) ∙ reader.reads)
 
-written_other : (w : State) (h : List Item) (k : WroteOne w) (u : ℕ) → Holds w h → IsWritten w h u → k.start ≢ u
+written_other : (w : State) (h : List Item) (k : WroteOne w) (u : ℕ) → IsolationInvariant w h → IsWritten w h u → k.start ≢ u
 written_other w h k u holds (inl (c, placed)) same = open_not_placed w h k.it k.start c holds k.start_is (subst (λ t. Committed h t c) (sym same) placed)
 written_other w h k u holds (inr (inl pending)) same = wrote_not_pending w h k holds (subst (IsPending w.clients w.nodes) (sym same) pending)
 written_other w h k u holds (inr (inr reader)) same = idle_no_reader w h k holds (subst (IsReader w.clients) (sym same) reader)
 
-pub rely_wrote : (w : State) (h : List Item) (k : WroteOne w) → Holds w h → RelyOn w h (wrote_state w k).clients w.nodes (wrote_state w k).rows w.pairs (h ++ wrote_items w k)
+pub rely_wrote : (w : State) (h : List Item) (k : WroteOne w) → IsolationInvariant w h → RelyOn w h (wrote_state w k).clients w.nodes (wrote_state w k).rows w.pairs (h ++ wrote_items w k)
 rely_wrote w h k holds = record {
   on = goes_on h (wrote_items w k);
   placed = λ b u d placed less. inl (write_places_none h k.it.session k.start k.key k.value u d placed);
@@ -191,7 +191,7 @@ rely_wrote w h k holds = record {
 }
 
 -- a write that failed may have put its cell
-pub shadows_failed : (w : State) (h : List Item) (k : WriteFailed w) → Holds w h → ShadowsStay h w.rows k.rows
+pub shadows_failed : (w : State) (h : List Item) (k : WriteFailed w) → IsolationInvariant w h → ShadowsStay h w.rows k.rows
 shadows_failed w h k holds = elim k.rows_are [
   | inl same ↦ subst (λ (rows : List Row). ShadowsStay h w.rows rows) (sym same) (shadows_same h w.rows)
   | inr put ↦ subst (λ (rows : List Row). ShadowsStay h w.rows rows) (sym put) (shadows_put h w.rows k.key k.start k.value (λ c placed. open_not_placed w h k.it k.start c holds k.start_is placed))

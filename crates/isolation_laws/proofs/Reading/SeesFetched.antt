@@ -16,7 +16,7 @@ use Rattle.machine.specs.State.{Client, State}
 use Rattle.isolation_laws.specs.Words.{OpenAt, Marked, cell_with}
 use Rattle.isolation_laws.specs.Pending.{ComesBelow, IsPending}
 use Rattle.isolation_laws.specs.Reads.{IsCovered, HasLastWrite, SeesAll}
-use Rattle.isolation_laws.specs.Holds.{Holds}
+use Rattle.isolation_laws.specs.IsolationInvariant.{IsolationInvariant}
 use Rattle.isolation_laws.proofs.ComingBelow.{coming_is_below}
 use Rattle.isolation_laws.proofs.Reading.CoveredVersions.{falls_head, among_contained, covered_front}
 
@@ -35,7 +35,7 @@ index_any (x ∷ xs) (suc i) d e less = index_any xs i d e (omega (arith, less))
 all_of : (P : Cell → Type 0) (xs : List Cell) → ((c : Cell) → Contains xs c → P c) → All P xs
 all_of P xs each i d less = each (slice_index_or xs i d) (i, less, index_any xs i (slice_index_or xs i d) d less)
 
-pub are_fetched : (w : State) (h : List Item) (k b : ℕ) → Holds w h → AreCellsOf w.rows k b (fetched w.rows k b)
+pub are_fetched : (w : State) (h : List Item) (k b : ℕ) → IsolationInvariant w h → AreCellsOf w.rows k b (fetched w.rows k b)
 are_fetched w h k b holds = record {
   falling = fetched-falls w.rows k b holds.cells.rows_are.ordered;
   upto = fetched-upto w.rows k b;
@@ -53,7 +53,7 @@ cell_value t shadow (Some value) c is = ap Some (ap (λ (x : Cell). x.value) (sa
 pub pending_coming : (clients : List Client) (nodes : List (Option InstanceEntry)) (b u : ℕ) → ComesBelow clients nodes b u → IsPending clients nodes u
 pending_coming clients nodes b u c = record { coming = c.coming; pending = c.pending; start_is = c.start_is }
 
-comes_lower : (w : State) (h : List Item) (b u : ℕ) → Holds w h → ComesBelow w.clients w.nodes b u → u < b
+comes_lower : (w : State) (h : List Item) (b u : ℕ) → IsolationInvariant w h → ComesBelow w.clients w.nodes b u → u < b
 comes_lower w h b u holds c = coming_is_below w.clients w.nodes h b u holds.numbers.new holds.requests.accepted holds.requests.pending c
 
 -- a cell that was written stands among them
@@ -63,7 +63,7 @@ among_with w k b u shadow value written cells are upto wrote is =
     let there : looked w.rows k u ≡ Some c = is ∙ ap (cell_with u shadow) wrote in
     inl (among_contained u cells c (are.complete u c there upto) refl)
 
-placed_found : (w : State) (h : List Item) (k b u d : ℕ) (value : List ℕ) (cells : List Cell) → Holds w h → AreCellsOf w.rows k b cells → Committed h u d → d < b → Wrote h u k value → IsCovered b u cells
+placed_found : (w : State) (h : List Item) (k b u d : ℕ) (value : List ℕ) (cells : List Cell) → IsolationInvariant w h → AreCellsOf w.rows k b cells → Committed h u d → d < b → Wrote h u k value → IsCovered b u cells
 placed_found w h k b u d value cells holds are placed less wrote =
     let upto : u ≤ b = omega (arith, holds.isolated.stamped.start_below_commit u d placed, less) in
     elim (holds.cells.placed.cells u d k placed) [
@@ -71,26 +71,26 @@ placed_found w h k b u d value cells holds are placed less wrote =
       | inr shadowed ↦ among_with w k b u (Some d) value (last_write h u k) cells are upto wrote shadowed
     ]
 
-placed_value : (w : State) (h : List Item) (k d : ℕ) (c : Cell) → Holds w h → looked w.rows k c.version ≡ Some c → Committed h c.version d → HasLastWrite h k c
+placed_value : (w : State) (h : List Item) (k d : ℕ) (c : Cell) → IsolationInvariant w h → looked w.rows k c.version ≡ Some c → Committed h c.version d → HasLastWrite h k c
 placed_value w h k d c holds there placed = elim (holds.cells.placed.cells c.version d k placed) [
   | inl bare ↦ cell_value c.version None (last_write h c.version k) c (sym bare ∙ there)
   | inr shadowed ↦ cell_value c.version (Some d) (last_write h c.version k) c (sym shadowed ∙ there)
 ]
 
-coming_found : (w : State) (h : List Item) (k b u : ℕ) (value : List ℕ) (cells : List Cell) → Holds w h → AreCellsOf w.rows k b cells → ComesBelow w.clients w.nodes b u → (Marked w.pairs u → ⊥) → Wrote h u k value → IsCovered b u cells
+coming_found : (w : State) (h : List Item) (k b u : ℕ) (value : List ℕ) (cells : List Cell) → IsolationInvariant w h → AreCellsOf w.rows k b cells → ComesBelow w.clients w.nodes b u → (Marked w.pairs u → ⊥) → Wrote h u k value → IsCovered b u cells
 coming_found w h k b u value cells holds are comes unmarked wrote = elim (holds.cells.live.bare u k (inr (pending_coming w.clients w.nodes b u comes))) [
   | inl bare ↦ among_with w k b u None value (last_write h u k) cells are (omega (arith, comes_lower w h b u holds comes)) wrote bare
   | inr swept ↦ absurd (unmarked swept.1.marked)
 ]
 
-coming_value : (w : State) (h : List Item) (k b : ℕ) (c : Cell) → Holds w h → looked w.rows k c.version ≡ Some c → ComesBelow w.clients w.nodes b c.version → (Marked w.pairs c.version → ⊥) → HasLastWrite h k c
+coming_value : (w : State) (h : List Item) (k b : ℕ) (c : Cell) → IsolationInvariant w h → looked w.rows k c.version ≡ Some c → ComesBelow w.clients w.nodes b c.version → (Marked w.pairs c.version → ⊥) → HasLastWrite h k c
 coming_value w h k b c holds there comes unmarked = elim (holds.cells.live.bare c.version k (inr (pending_coming w.clients w.nodes b c.version comes))) [
   | inl bare ↦ cell_value c.version None (last_write h c.version k) c (sym bare ∙ there)
   | inr swept ↦ absurd (unmarked swept.1.marked)
 ]
 
 -- where none is the reader's own
-pub sees_fetched : (w : State) (h : List Item) (k b : ℕ) (cells : List Cell) → Holds w h → AreCellsOf w.rows k b cells → All (λ (c : Cell). c.version < b) cells → SeesAll w.clients w.nodes w.pairs h b k cells
+pub sees_fetched : (w : State) (h : List Item) (k b : ℕ) (cells : List Cell) → IsolationInvariant w h → AreCellsOf w.rows k b cells → All (λ (c : Cell). c.version < b) cells → SeesAll w.clients w.nodes w.pairs h b k cells
 sees_fetched w h k b cells holds are below = record {
   falling = are.falling;
   below = below;
@@ -125,7 +125,7 @@ none_own b c cs falling upto other (suc i) d less =
     omega (arith, falls_head c cs falling i d (omega (arith, less)), first)
 
 -- what the reader wrote stands in its own cell, or was listed
-pub own_or_listed : (w : State) (h : List Item) (s k b e : ℕ) (cells : List Cell) (value : List ℕ) → Holds w h → OpenAt w.clients s b e → AreCellsOf w.rows k b cells → All (λ (c : Cell). c.version < b) cells → Wrote h b k value → WasListed h b
+pub own_or_listed : (w : State) (h : List Item) (s k b e : ℕ) (cells : List Cell) (value : List ℕ) → IsolationInvariant w h → OpenAt w.clients s b e → AreCellsOf w.rows k b cells → All (λ (c : Cell). c.version < b) cells → Wrote h b k value → WasListed h b
 own_or_listed w h s k b e cells value holds o are below wrote = elim (holds.cells.live.bare b k (inl (record { session = s; epoch = e; open_at = o }))) [
   | inl bare ↦
       let c : Cell = record { version = b; value = value; shadow = None } in
@@ -134,7 +134,7 @@ own_or_listed w h s k b e cells value holds o are below wrote = elim (holds.cell
   | inr swept ↦ swept.1.listed
 ]
 
-pub own_value : (w : State) (h : List Item) (s k b e : ℕ) (c : Cell) → Holds w h → OpenAt w.clients s b e → looked w.rows k c.version ≡ Some c → c.version ≡ b → last_write h b k ≡ Some c.value
+pub own_value : (w : State) (h : List Item) (s k b e : ℕ) (c : Cell) → IsolationInvariant w h → OpenAt w.clients s b e → looked w.rows k c.version ≡ Some c → c.version ≡ b → last_write h b k ≡ Some c.value
 own_value w h s k b e c holds o there mine = elim (holds.cells.live.bare b k (inl (record { session = s; epoch = e; open_at = o }))) [
   | inl bare ↦ cell_value b None (last_write h b k) c (sym bare ∙ (ap (looked w.rows k) (sym mine) ∙ there))
   | inr swept ↦ absurd (none-some c (sym swept.0 ∙ (ap (looked w.rows k) (sym mine) ∙ there)))

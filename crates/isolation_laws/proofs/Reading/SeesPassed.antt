@@ -18,7 +18,7 @@ use Rattle.machine.specs.Events.Fetch.{marks_every, found_of}
 use Rattle.isolation_laws.specs.Words.{Marked}
 use Rattle.isolation_laws.specs.Pending.{ComesBelow}
 use Rattle.isolation_laws.specs.Reads.{floor_at, IsCovered, SeesAll, IsReading, Outlasts}
-use Rattle.isolation_laws.specs.Holds.{Holds}
+use Rattle.isolation_laws.specs.IsolationInvariant.{IsolationInvariant}
 use Rattle.isolation_laws.proofs.OnceEach.{one_commit}
 use Rattle.isolation_laws.proofs.Owners.{pending_unplaced}
 use Rattle.isolation_laws.proofs.ComingBelow.{later_version}
@@ -63,7 +63,7 @@ sees_rest clients nodes pairs h b k c cs goes sees = record {
 }
 
 -- its commit is not below the start
-pub goes_late : (w : State) (h : List Item) (pairs : Pairs) (b v c : ℕ) → Holds w h → Committed h v c → b ≤ c → LetsGo w.clients w.nodes pairs h b v
+pub goes_late : (w : State) (h : List Item) (pairs : Pairs) (b v c : ℕ) → IsolationInvariant w h → Committed h v c → b ≤ c → LetsGo w.clients w.nodes pairs h b v
 goes_late w h pairs b v c holds placed late = record {
   late = λ d other. omega (arith, one_commit h v c d holds.isolated.stamped placed other, late);
   marked = λ comes. absurd (pending_unplaced w.clients w.nodes h v c holds.numbers.placed holds.requests.pending (pending_coming w.clients w.nodes b v comes) placed);
@@ -77,7 +77,7 @@ passed_late : (own : Bool) (late : Bool) → (if own then false else late) ≡ t
 passed_late true late is = absurd (cc)
 passed_late false late is = is
 
-passed_goes : (w : State) (h : List Item) (pairs : Pairs) (b k : ℕ) (c : Cell) (cs : List Cell) → Holds w h → is_passed b c ≡ true → SeesAll w.clients w.nodes pairs h b k (c ∷ cs) → LetsGo w.clients w.nodes pairs h b c.version
+passed_goes : (w : State) (h : List Item) (pairs : Pairs) (b k : ℕ) (c : Cell) (cs : List Cell) → IsolationInvariant w h → is_passed b c ≡ true → SeesAll w.clients w.nodes pairs h b k (c ∷ cs) → LetsGo w.clients w.nodes pairs h b c.version
 passed_goes w h pairs b k c cs holds passed sees =
     let commit = late_commit b c.shadow (passed_late (c.version == b) (is_late b c.shadow) passed) in
     goes_late w h pairs b c.version commit.0 holds (sees.shadows 0 c (omega arith) commit.0 commit.1) commit.2
@@ -108,13 +108,13 @@ answer_none clients nodes pairs h b k sees = record {
 abbrev pub found_at : Cell → Found
 found_at c = record { from = c.version; value = c.value }
 
-newest_first : (w : State) (h : List Item) (pairs : Pairs) (b k d t c : ℕ) (cell : Cell) (cs : List Cell) → Holds w h → SeesAll w.clients w.nodes pairs h b k (cell ∷ cs) → Committed h cell.version d → Wrote h cell.version k cell.value → Candidate h b k t c → c ≤ d
+newest_first : (w : State) (h : List Item) (pairs : Pairs) (b k d t c : ℕ) (cell : Cell) (cs : List Cell) → IsolationInvariant w h → SeesAll w.clients w.nodes pairs h b k (cell ∷ cs) → Committed h cell.version d → Wrote h cell.version k cell.value → Candidate h b k t c → c ≤ d
 newest_first w h pairs b k d t c cell cs holds sees placed wrote candidate = elim (covered_upto b t cell cs sees.falling (sees.found t c candidate.wrote.0 candidate.committed candidate.below candidate.wrote.1)) [
   | inl here ↦ omega (arith, one_commit h cell.version c d holds.isolated.stamped (subst (λ v. Committed h v c) (sym here) candidate.committed) placed)
   | inr below ↦ omega (arith, later_version h cell.version t d c k cell.value candidate.wrote.0 holds.isolated.apart holds.isolated.stamped placed candidate.committed wrote candidate.wrote.1 below)
 ]
 
-lasting_first : (w : State) (h : List Item) (pairs : Pairs) (b k d u : ℕ) (value : List ℕ) (cell : Cell) (cs : List Cell) → Holds w h → SeesAll w.clients w.nodes pairs h b k (cell ∷ cs) → Committed h cell.version d → ComesBelow w.clients w.nodes b u → Wrote h u k value → Outlasts pairs b u (Some (found_at cell))
+lasting_first : (w : State) (h : List Item) (pairs : Pairs) (b k d u : ℕ) (value : List ℕ) (cell : Cell) (cs : List Cell) → IsolationInvariant w h → SeesAll w.clients w.nodes pairs h b k (cell ∷ cs) → Committed h cell.version d → ComesBelow w.clients w.nodes b u → Wrote h u k value → Outlasts pairs b u (Some (found_at cell))
 lasting_first w h pairs b k d u value cell cs holds sees placed comes wrote = elim (marked_or_not pairs u) [
   | inl marked ↦ inr (inl marked)
   | inr unmarked ↦ elim (covered_upto b u cell cs sees.falling (sees.coming u value comes unmarked wrote)) [
@@ -124,7 +124,7 @@ lasting_first w h pairs b k d u value cell cs holds sees placed comes wrote = el
 ]
 
 -- a first cell that is placed below the start
-pub answer_first : (w : State) (h : List Item) (pairs : Pairs) (b k d : ℕ) (cell : Cell) (cs : List Cell) → Holds w h → SeesAll w.clients w.nodes pairs h b k (cell ∷ cs) → Committed h cell.version d → d < b → IsAnswer w.clients w.nodes pairs h b k (Some (found_at cell))
+pub answer_first : (w : State) (h : List Item) (pairs : Pairs) (b k d : ℕ) (cell : Cell) (cs : List Cell) → IsolationInvariant w h → SeesAll w.clients w.nodes pairs h b k (cell ∷ cs) → Committed h cell.version d → d < b → IsAnswer w.clients w.nodes pairs h b k (Some (found_at cell))
 answer_first w h pairs b k d cell cs holds sees placed below =
     let wrote : Wrote h cell.version k cell.value = sees.values 0 cell (omega arith) d placed below in
     record {
@@ -154,7 +154,7 @@ abbrev turn_first : Bool → ℕ → ℕ → ℕ → Cell → List Cell → Bool
 turn_first every key b e c cs at_once = if at_once then Answers (found_cell c) else Asks (read_first every key b e c cs)
 
 -- a first cell that is not passed over: a shadow is below the start, and a bare cell is resolved
-first_right : (w : State) (h : List Item) (pairs : Pairs) (every : Bool) (b e k : ℕ) (c : Cell) (cs : List Cell) (shadow : Option ℕ) → every ≡ marks_every w.setup → Holds w h → OwnListed h b k → SeesAll w.clients w.nodes pairs h b k (c ∷ cs) → c.shadow ≡ shadow → is_late b shadow ≡ false → TurnRight w h pairs b e k (turn_first every k b e c cs (is_some shadow))
+first_right : (w : State) (h : List Item) (pairs : Pairs) (every : Bool) (b e k : ℕ) (c : Cell) (cs : List Cell) (shadow : Option ℕ) → every ≡ marks_every w.setup → IsolationInvariant w h → OwnListed h b k → SeesAll w.clients w.nodes pairs h b k (c ∷ cs) → c.shadow ≡ shadow → is_late b shadow ≡ false → TurnRight w h pairs b e k (turn_first every k b e c cs (is_some shadow))
 first_right w h pairs every b e k c cs None every_is holds own sees is stays = (record { start_is = refl; epoch_is = refl; every_is = every_is; own = own; sees = sees; resolved = tt }, refl)
 first_right w h pairs every b e k c cs (Some commit) every_is holds own sees is stays = answer_first w h pairs b k commit c cs holds sees (sees.shadows 0 c (omega arith) commit is) (leb-false b commit stays)
 
@@ -165,13 +165,13 @@ not_late : (own late : Bool) → own ≡ false → (if own then false else late)
 not_late true late is stays = absurd (cc)
 not_late false late is stays = stays
 
-stops_right : (w : State) (h : List Item) (pairs : Pairs) (every : Bool) (b e k : ℕ) (c : Cell) (cs : List Cell) → every ≡ marks_every w.setup → Holds w h → OwnListed h b k → SeesAll w.clients w.nodes pairs h b k (c ∷ cs) → is_passed b c ≡ false → TurnRight w h pairs b e k (turn_at every k b e (c ∷ cs))
+stops_right : (w : State) (h : List Item) (pairs : Pairs) (every : Bool) (b e k : ℕ) (c : Cell) (cs : List Cell) → every ≡ marks_every w.setup → IsolationInvariant w h → OwnListed h b k → SeesAll w.clients w.nodes pairs h b k (c ∷ cs) → is_passed b c ≡ false → TurnRight w h pairs b e k (turn_at every k b e (c ∷ cs))
 stops_right w h pairs every b e k c cs every_is holds own sees stays =
     let other : (c.version == b) ≡ false = other_version b c.version (sees.below 0 c (omega arith)) in
     subst (λ (mine : Bool). TurnRight w h pairs b e k (turn_first every k b e c cs (mine || is_some c.shadow))) (sym other)
     (first_right w h pairs every b e k c cs c.shadow every_is holds own sees refl (not_late (c.version == b) (is_late b c.shadow) other stays))
 
-pub over_right : (w : State) (h : List Item) (pairs : Pairs) (every : Bool) (b e k : ℕ) (cells : List Cell) → every ≡ marks_every w.setup → Holds w h → OwnListed h b k → SeesAll w.clients w.nodes pairs h b k cells → TurnRight w h pairs b e k (read_over every k b e cells)
+pub over_right : (w : State) (h : List Item) (pairs : Pairs) (every : Bool) (b e k : ℕ) (cells : List Cell) → every ≡ marks_every w.setup → IsolationInvariant w h → OwnListed h b k → SeesAll w.clients w.nodes pairs h b k cells → TurnRight w h pairs b e k (read_over every k b e cells)
 unfolding after_passed
 over_right w h pairs every b e k [] every_is holds own sees = answer_none w.clients w.nodes pairs h b k sees
 over_right w h pairs every b e k (c ∷ cs) every_is holds own sees = elim (cases_Bool (is_passed b c)) [

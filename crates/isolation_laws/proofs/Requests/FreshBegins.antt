@@ -13,7 +13,7 @@ use Rattle.system_parts.specs.declared.session.State.TheVariants as phase
 use Rattle.machine.specs.State.{State}
 use Rattle.isolation_laws.specs.Words.{InstanceAt, HeldBy}
 use Rattle.isolation_laws.specs.Begins.{AreFreshBegins}
-use Rattle.isolation_laws.specs.Holds.{Holds}
+use Rattle.isolation_laws.specs.IsolationInvariant.{IsolationInvariant}
 use Rattle.machine.proofs.Lookups.{instance_changed, heldby_changed}
 use Rattle.machine.specs.Outcome.OutcomesOfRequests.{AskedBegin, asked_begin_state, asked_begin_items, AskedCommit, asked_commit_state, Accepted, AcceptedSteadily, accepted_state}
 use Rattle.machine.specs.Outcome.OutcomesOfStamps.{Drew, drew_instance, drew_state, drew_items}
@@ -57,10 +57,10 @@ fresh_fewer old new h items held accepted drawn none fresh = record {
 
 -- ---- a begin is asked
 -- no request of its session is held before
-asks_first : (w : State) (h : List Item) (k : AskedBegin w) (n s : ℕ) (i : InstanceEntry) (p : Progress) → Holds w h → InstanceAt w.nodes n i → HeldBy i s (Begin s) p → k.session ≢ s
+asks_first : (w : State) (h : List Item) (k : AskedBegin w) (n s : ℕ) (i : InstanceEntry) (p : Progress) → IsolationInvariant w h → InstanceAt w.nodes n i → HeldBy i s (Begin s) p → k.session ≢ s
 asks_first w h k n s i p holds at held same = none_held w.nodes w.clients k.session k.c phase.Free holds.requests.requests k.client_at k.free free_waits n i (Begin s) p at (subst (λ r. HeldBy i r (Begin s) p) (sym same) held)
 
-pub fresh_asked_begin : (w : State) (h : List Item) (k : AskedBegin w) → Holds w h → AreFreshBegins (asked_begin_state w k).nodes (h ++ asked_begin_items w k)
+pub fresh_asked_begin : (w : State) (h : List Item) (k : AskedBegin w) → IsolationInvariant w h → AreFreshBegins (asked_begin_state w k).nodes (h ++ asked_begin_items w k)
 fresh_asked_begin w h k holds =
     let fresh : AreFreshBegins w.nodes h = holds.begins.fresh in
     let new : HoldsNew w.nodes (asked_begin_state w k).nodes k.session k.node (Begin k.session) = new_held w.nodes k.session k.node k.i _ k.at in
@@ -90,16 +90,16 @@ begins_asked_commit w k n s j p at held =
       | inr was ↦ (was.0, p, was.1, was.2)
     ]
 
-pub fresh_asked_commit : (w : State) (h : List Item) (k : AskedCommit w) → Holds w h → AreFreshBegins (asked_commit_state w k).nodes (h ++ k.items)
+pub fresh_asked_commit : (w : State) (h : List Item) (k : AskedCommit w) → IsolationInvariant w h → AreFreshBegins (asked_commit_state w k).nodes (h ++ k.items)
 fresh_asked_commit w h k holds = fresh_fewer w.nodes (asked_commit_state w k).nodes h k.items (begins_asked_commit w k) (standing_asked_commit IsAcceptedNow w k (λ is. is)) (standing_asked_commit IsDrawnNow w k (λ is. is)) (λ s. quiet_no_ask s k.items k.quiet) holds.begins.fresh
 
 -- ---- a begin is accepted: all that is placed so far is at most the last stamp
-fresh_now : (w : State) (h : List Item) (k : Accepted w) (s t c : ℕ) → AcceptedSteadily w k → Holds w h → Committed (before_ask s h) t c → c ≤ k.i.last
+fresh_now : (w : State) (h : List Item) (k : Accepted w) (s t c : ℕ) → AcceptedSteadily w k → IsolationInvariant w h → Committed (before_ask s h) t c → c ≤ k.i.last
 fresh_now w h k s t c steady holds placed =
     let now : k.i.term ≡ w.master.term = accepts_now w.setup w.seen k.reading k.node w.nodes w.master k.i holds.numbers.ranges holds.numbers.leases k.at steady k.in_time in
     placed_below_last w.nodes w.master h k.node k.i t c holds.numbers.ranges holds.numbers.drawn holds.numbers.placed k.at now (before_ask-in s h (Placed t c) placed)
 
-pub fresh_accepted : (w : State) (h : List Item) (k : Accepted w) → AcceptedSteadily w k → Holds w h → AreFreshBegins (accepted_state w k).nodes (h ++ k.items)
+pub fresh_accepted : (w : State) (h : List Item) (k : Accepted w) → AcceptedSteadily w k → IsolationInvariant w h → AreFreshBegins (accepted_state w k).nodes (h ++ k.items)
 fresh_accepted w h k steady holds =
     let fresh : AreFreshBegins w.nodes h = holds.begins.fresh in
     let held_ : FewerBegins w.nodes (accepted_state w k).nodes = begins_of w.nodes (accepted_state w k).nodes (held_accepted w k) in
@@ -116,7 +116,7 @@ fresh_accepted w h k steady holds =
     }
 
 -- ---- a start is drawn: it is the one after the last stamp
-drew_fresh : (w : State) (h : List Item) (k : Drew w) (s b t c : ℕ) → Holds w h → HeldBy (drew_instance w k) s (Begin s) (progress.Drawn b) → Committed (before_ask s h) t c → c < b
+drew_fresh : (w : State) (h : List Item) (k : Drew w) (s b t c : ℕ) → IsolationInvariant w h → HeldBy (drew_instance w k) s (Begin s) (progress.Drawn b) → Committed (before_ask s h) t c → c < b
 drew_fresh w h k s b t c holds held before =
     let fresh : AreFreshBegins w.nodes h = holds.begins.fresh in
     elim (heldby_changed k.i k.session s (record k.held { progress = drawn_as k.i.direct k.held.request (k.i.last + 1) }) (Begin s) (progress.Drawn b) (record { held = held.held; has = held.has; asks = held.asks; stands = held.stands })) [
@@ -126,7 +126,7 @@ drew_fresh w h k s b t c holds held before =
       | inr old ↦ fresh.drawn k.node s b t c k.i k.at old.1 before
     ]
 
-pub fresh_drew : (w : State) (h : List Item) (k : Drew w) → Holds w h → AreFreshBegins (drew_state w k).nodes (h ++ drew_items w k)
+pub fresh_drew : (w : State) (h : List Item) (k : Drew w) → IsolationInvariant w h → AreFreshBegins (drew_state w k).nodes (h ++ drew_items w k)
 fresh_drew w h k holds =
     let fresh : AreFreshBegins w.nodes h = holds.begins.fresh in
     let held_ : FewerBegins w.nodes (drew_state w k).nodes = begins_of w.nodes (drew_state w k).nodes (held_drew w k) in

@@ -8,7 +8,7 @@ use Rattle.system_parts.specs.Instance.{InstanceEntry}
 use Rattle.machine.specs.State.{Client, State}
 use Rattle.isolation_laws.specs.Pending.{InFlight, is_placing}
 use Rattle.isolation_laws.specs.Requests.{HaveBegun, AreRequests, AreStarting, ArePending, AreSettled, AreOpen, AreKeys, AreForm, RequestFacts}
-use Rattle.isolation_laws.specs.Holds.{Holds}
+use Rattle.isolation_laws.specs.IsolationInvariant.{IsolationInvariant}
 use Rattle.isolation_laws.proofs.Requests.PendingAfter.{FewerPending}
 use Rattle.isolation_laws.proofs.Requests.ClientsOpen.{FewerOpen, FewerPlacing}
 use Rattle.isolation_laws.proofs.Requests.CommitsInFlight.{StaysPending, pending_fewer, FewerStanding, IsSettledNow, IsAcceptedNow, IsDrawnNow, settled_fewer, accepted_fewer, starting_fewer, open_fewer}
@@ -62,7 +62,7 @@ settled_silent old new h g silent fewer settled = settled_fewer old new h g fewe
 pub open_silent : (old new : List Client) (h g : List Item) → Silent h g → FewerOpen old new → AreOpen old h → AreOpen new g
 open_silent old new h g silent fewer opened = open_fewer old new h g fewer (λ s t e o drew. silent_drawn h g t silent drew) opened
 
-pub requests_silent : (w : State) (h g : List Item) (nodes : List (Option InstanceEntry)) (clients : List Client) → Silent h g → Leaves w h nodes clients → Holds w h → RequestFacts w.setup nodes clients g
+pub requests_silent : (w : State) (h g : List Item) (nodes : List (Option InstanceEntry)) (clients : List Client) → Silent h g → Leaves w h nodes clients → IsolationInvariant w h → RequestFacts w.setup nodes clients g
 requests_silent w h g nodes clients silent left holds = record {
   have_begun = have_silent clients h g silent left.have_begun;
   requests = left.requests;

@@ -3,7 +3,7 @@ use Rattle.std.proofs.Common.{List, ◌++◌, refl}
 use Rattle.history_book.specs.declared.item.Item.{Item}
 use Rattle.machine.specs.State.{State}
 use Rattle.isolation_laws.specs.Requests.{RequestFacts}
-use Rattle.isolation_laws.specs.Holds.{Holds}
+use Rattle.isolation_laws.specs.IsolationInvariant.{IsolationInvariant}
 use Rattle.isolation_laws.proofs.Holding.LeftAlone.{alone}
 use Rattle.machine.specs.Outcome.Outcomes.{Outcome, OfAskedCommit, OfAccepted, OfDrew, OfPlaced, OfOwnPlaced, OfAnsweredBegin, OfWrote, IsTimely, left_by, told_by_outcome}
 use Rattle.isolation_laws.proofs.Requests.RequestsOfMoves.{requests_asked_commit, requests_accepted}
@@ -13,7 +13,7 @@ use Rattle.isolation_laws.proofs.Requests.RequestsOfPlacings.{requests_own_place
 use Rattle.isolation_laws.proofs.Requests.RequestsOfBegins.{requests_answered_begin}
 use Rattle.isolation_laws.proofs.Requests.RequestsOfWrites.{requests_wrote}
 
-pub requests_kept : (w : State) (h : List Item) (o : Outcome w) → IsTimely w o → Holds w h → RequestFacts (left_by w o).setup (left_by w o).nodes (left_by w o).clients (h ++ told_by_outcome w o)
+pub requests_kept : (w : State) (h : List Item) (o : Outcome w) → IsTimely w o → IsolationInvariant w h → RequestFacts (left_by w o).setup (left_by w o).nodes (left_by w o).clients (h ++ told_by_outcome w o)
 requests_kept w h (OfAskedCommit k) timely holds = requests_asked_commit w h k holds
 requests_kept w h (OfAccepted k) timely holds = requests_accepted w h k timely holds
 requests_kept w h (OfDrew k) timely holds = requests_drew w h k holds

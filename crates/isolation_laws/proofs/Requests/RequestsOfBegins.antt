@@ -15,7 +15,7 @@ use Rattle.machine.specs.State.{Client, State}
 use Rattle.machine.specs.Clients.{client_begun, unless_gone}
 use Rattle.isolation_laws.specs.Words.{InstanceAt, HeldBy, Begun, DrewStart, HasDrawn, written_keys}
 use Rattle.isolation_laws.specs.Requests.{HasAsked, RequestFacts}
-use Rattle.isolation_laws.specs.Holds.{Holds}
+use Rattle.isolation_laws.specs.IsolationInvariant.{IsolationInvariant}
 use Rattle.machine.proofs.Lookups.{held_by, instance_changed, heldby_ended, begin_own}
 use Rattle.isolation_laws.proofs.OnceEach.{drawn_once}
 use Rattle.machine.specs.Outcome.OutcomesOfStamps.{AnsweredBegin, answered_begin_state, answered_begin_items}
@@ -43,7 +43,7 @@ no_drawn_begin h s t u (r, n, term, c, m) = (r, n, term, c, in_old (Draw r n ter
 begin_writes_none : (h : List Item) (s t u : ℕ) → written_keys (h ++ Begin s t ∷ []) u ≡ written_keys h u
 begin_writes_none h s t u = written_keys-no_write h (Begin s t) u (λ r v k value is. cc)
 
-pub begin_held : (w : State) (h : List Item) (k : AnsweredBegin w) → Holds w h → HeldBy k.i k.session (BeginRequest k.session) (progress.Drawn k.start)
+pub begin_held : (w : State) (h : List Item) (k : AnsweredBegin w) → IsolationInvariant w h → HeldBy k.i k.session (BeginRequest k.session) (progress.Drawn k.start)
 begin_held w h k holds = record {
   held = k.held;
   has = k.has;
@@ -52,7 +52,7 @@ begin_held w h k holds = record {
 }
 
 -- the start was begun by nobody
-pub start_unbegun : (w : State) (h : List Item) (k : AnsweredBegin w) (r : ℕ) → Holds w h → Begun h r k.start → ⊥
+pub start_unbegun : (w : State) (h : List Item) (k : AnsweredBegin w) (r : ℕ) → IsolationInvariant w h → Begun h r k.start → ⊥
 start_unbegun w h k r holds begun = holds.requests.starting.unbegun k.node k.session k.start r k.i k.at (begin_held w h k holds) begun
 
 pub open_not_asked : HasAsked phase.Open → ⊥
@@ -64,7 +64,7 @@ keys_longer : (w : State) (h : List Item) (k : AnsweredBegin w) (c : Client) →
 keys_longer w h k c keys = record { written = λ t is start. keys.written t is start ∙ sym (begin_writes_none h k.session k.start t); some = keys.some }
 
 -- its client has the new transaction, or has vanished
-begun_client : (w : State) (h : List Item) (k : AnsweredBegin w) → Holds w h → BegunClient (h ++ answered_begin_items w k) k.session (unless_gone k.c (client_begun k.c k.start k.i.epoch))
+begun_client : (w : State) (h : List Item) (k : AnsweredBegin w) → IsolationInvariant w h → BegunClient (h ++ answered_begin_items w k) k.session (unless_gone k.c (client_begun k.c k.start k.i.epoch))
 begun_client w h k holds has = elim (gone_cases k.c (client_begun k.c k.start k.i.epoch)) [
   | inl stays ↦
       let before = holds.requests.have_begun.begun k.session k.c k.client_at (subst (λ (c : Client). IsTrue (has_transaction c.entry.state)) stays.0 has) in
@@ -72,17 +72,17 @@ begun_client w h k holds has = elim (gone_cases k.c (client_begun k.c k.start k.
   | inr moves ↦ (k.start, ap (λ c. c.entry.start) moves, in_last (Begin k.session k.start) h)
 ]
 
-no_write_yet : (w : State) (h : List Item) (k : AnsweredBegin w) → Holds w h → written_keys (h ++ answered_begin_items w k) k.start ≡ []
+no_write_yet : (w : State) (h : List Item) (k : AnsweredBegin w) → IsolationInvariant w h → written_keys (h ++ answered_begin_items w k) k.start ≡ []
 no_write_yet w h k holds = begin_writes_none h k.session k.start k.start ∙ written_keys-none k.start h (λ s key value m.
     let begun = holds.numbers.begun.writes s k.start key value m in start_unbegun w h k begun.0 holds begun.1)
 
-new_keys : (w : State) (h : List Item) (k : AnsweredBegin w) → Holds w h → KeysClient (h ++ answered_begin_items w k) (client_begun k.c k.start k.i.epoch)
+new_keys : (w : State) (h : List Item) (k : AnsweredBegin w) → IsolationInvariant w h → KeysClient (h ++ answered_begin_items w k) (client_begun k.c k.start k.i.epoch)
 new_keys w h k holds = record {
   written = λ t is start. sym (ap (written_keys (h ++ answered_begin_items w k)) (sym (same_Some k.start t start)) ∙ no_write_yet w h k holds);
   some = λ asked. absurd (open_not_asked asked);
 }
 
-begun_keys : (w : State) (h : List Item) (k : AnsweredBegin w) → Holds w h → KeysClient (h ++ answered_begin_items w k) (unless_gone k.c (client_begun k.c k.start k.i.epoch))
+begun_keys : (w : State) (h : List Item) (k : AnsweredBegin w) → IsolationInvariant w h → KeysClient (h ++ answered_begin_items w k) (unless_gone k.c (client_begun k.c k.start k.i.epoch))
 begun_keys w h k holds = elim (gone_cases k.c (client_begun k.c k.start k.i.epoch)) [
   | inl stays ↦ subst (λ (c : Client). KeysClient (h ++ answered_begin_items w k) c) (sym stays.0) (keys_longer w h k k.c (keys_client w.clients h k.session k.c holds.requests.keys k.client_at))
   | inr moves ↦ subst (λ (c : Client). KeysClient (h ++ answered_begin_items w k) c) (sym moves) (new_keys w h k holds)
@@ -92,7 +92,7 @@ draw_session : (s n term t r m other u : ℕ) → Draw s n term t None ≡ Draw 
 draw_session s n term t r m other u same = (cc, cc)
 
 -- another begin in flight has another start
-other_begin : (w : State) (h : List Item) (k : AnsweredBegin w) (n s t r : ℕ) (i : InstanceEntry) → Holds w h → InstanceAt (answered_begin_state w k).nodes n i → HeldBy i s (BeginRequest s) (progress.Drawn t) → Begun (h ++ answered_begin_items w k) r t → ⊥
+other_begin : (w : State) (h : List Item) (k : AnsweredBegin w) (n s t r : ℕ) (i : InstanceEntry) → IsolationInvariant w h → InstanceAt (answered_begin_state w k).nodes n i → HeldBy i s (BeginRequest s) (progress.Drawn t) → Begun (h ++ answered_begin_items w k) r t → ⊥
 other_begin w h k n s t r i holds at held begun = elim (instance_changed w.nodes k.node n (without_request k.i k.session) i at) [
   | inl here ↦
       let left = heldby_ended k.i k.session s (BeginRequest s) (progress.Drawn t) (subst (λ (x : InstanceEntry). HeldBy x s (BeginRequest s) (progress.Drawn t)) here.1 held) in
@@ -108,7 +108,7 @@ other_begin w h k n s t r i holds at held begun = elim (instance_changed w.nodes
   ]
 ]
 
-pub requests_answered_begin : (w : State) (h : List Item) (k : AnsweredBegin w) → Holds w h → RequestFacts w.setup (answered_begin_state w k).nodes (answered_begin_state w k).clients (h ++ answered_begin_items w k)
+pub requests_answered_begin : (w : State) (h : List Item) (k : AnsweredBegin w) → IsolationInvariant w h → RequestFacts w.setup (answered_begin_state w k).nodes (answered_begin_state w k).clients (h ++ answered_begin_items w k)
 requests_answered_begin w h k holds =
     let g : List Item = h ++ answered_begin_items w k in
     let on : GoesOn h g = goes_on h (answered_begin_items w k) in

@@ -17,7 +17,7 @@ use Rattle.machine.specs.Events.Decide.{draw_item}
 use Rattle.isolation_laws.specs.Words.{InstanceAt, HeldBy, OpenAt, Begun, DrewStart, DrewCommit, HasDrawn, written_keys}
 use Rattle.isolation_laws.specs.Pending.{Stage, Taken, Has, InFlight, stage_of}
 use Rattle.isolation_laws.specs.Requests.{AreStarting, IsDrawnSoFar, ArePending, RequestFacts}
-use Rattle.isolation_laws.specs.Holds.{Holds}
+use Rattle.isolation_laws.specs.IsolationInvariant.{IsolationInvariant}
 use Rattle.machine.proofs.Lookups.{heldby_changed, instance_changed}
 use Rattle.isolation_laws.proofs.Owners.{open_not_pending, so_far_unplaced}
 use Rattle.machine.specs.Outcome.OutcomesOfStamps.{Drew, drew_instance, drew_state, drew_items}
@@ -65,7 +65,7 @@ abbrev pub drawing : (w : State) → Drew w → ℕ → List ℕ → InFlight
 drawing w k t keys = record { session = k.session; start = t; keys = keys; stage = Taken k.i.last }
 
 -- another commit in flight is of another transaction
-other_start : (w : State) (h : List Item) (k : Drew w) (q : InFlight) (t : ℕ) → Holds w h → StaysPut w.clients w.nodes k.node k.session q → DrawsFor w k t → q.start ≢ t
+other_start : (w : State) (h : List Item) (k : Drew w) (q : InFlight) (t : ℕ) → IsolationInvariant w h → StaysPut w.clients w.nodes k.node k.session q → DrawsFor w k t → q.start ≢ t
 other_start w h k q t holds stays draws = other_commit w.clients w.nodes h q (drawing w k t draws.1) holds.isolated.stamped holds.requests.requests holds.requests.pending (drew_taken w k draws.0 t draws.1 holds.requests.requests draws.2) stays
 
 -- ---- commits in flight
@@ -78,7 +78,7 @@ taken_one w h k q before so_far = record {
   so_far = so_far;
 }
 
-older_one : (w : State) (h : List Item) (k : Drew w) (q : InFlight) → Holds w h → IsOlder w k q → PendingOne (h ++ drew_items w k) q
+older_one : (w : State) (h : List Item) (k : Drew w) (q : InFlight) → IsolationInvariant w h → IsOlder w k q → PendingOne (h ++ drew_items w k) q
 older_one w h k q holds is =
     let g : List Item = h ++ drew_items w k in
     let before : PendingOne h (record q { stage = Taken k.i.last }) = pending_one w.clients w.nodes h (record q { stage = Taken k.i.last }) holds.requests.pending (inl is.was_taken) in
@@ -91,7 +91,7 @@ older_one w h k q holds is =
 draws_its : (w : State) (h : List Item) (k : Drew w) (s t c : ℕ) (keys : List ℕ) → k.held.request ≡ Commit s t keys → c ≡ k.i.last + 1 → DrewCommit (h ++ drew_items w k) s k.node k.i.term t c
 draws_its w h k s t c keys is stamp = subst (λ x. x ∈ (h ++ drew_items w k)) (ap (λ r. draw_item k.node k.i.term r (k.i.last + 1)) is ∙ ap (λ u. Draw s k.node k.i.term t (Some u)) (sym stamp)) (in_last (new_draw w k) h)
 
-drawn_one : (w : State) (h : List Item) (k : Drew w) (q : InFlight) → Holds w h → IsDrawnQ w k q → PendingOne (h ++ drew_items w k) q
+drawn_one : (w : State) (h : List Item) (k : Drew w) (q : InFlight) → IsolationInvariant w h → IsDrawnQ w k q → PendingOne (h ++ drew_items w k) q
 drawn_one w h k q holds is =
     let g : List Item = h ++ drew_items w k in
     let before : PendingOne h (record q { stage = Taken k.i.last }) = pending_one w.clients w.nodes h (record q { stage = Taken k.i.last }) holds.requests.pending (inl is.was_taken) in
@@ -99,7 +99,7 @@ drawn_one w h k q holds is =
     ((k.node, k.i.term, draws_its w h k q.session q.start (k.i.last + 1) q.keys is.request_is refl), λ c placed. so_far_unplaced h (record q { stage = Taken k.i.last }) (Taken k.i.last) c holds.numbers.placed before.so_far (drew_placed_old w k h q.start c placed)))
 
 -- one that stays as it stood is not the one that draws
-stays_one : (w : State) (h : List Item) (k : Drew w) (q : InFlight) → Holds w h → StaysPut w.clients w.nodes k.node k.session q → StaysPending h (h ++ drew_items w k) q
+stays_one : (w : State) (h : List Item) (k : Drew w) (q : InFlight) → IsolationInvariant w h → StaysPut w.clients w.nodes k.node k.session q → StaysPending h (h ++ drew_items w k) q
 stays_one w h k q holds stays = record {
   alone = record {
     undrawn = λ drew. elim (drew_or_drawn w k h q.start drew) [
@@ -112,7 +112,7 @@ stays_one w h k q holds stays = record {
 }
 
 -- ---- a begin that drew its start: nobody has begun it
-stamp_unbegun : (w : State) (h : List Item) (k : Drew w) (r : ℕ) → Holds w h → Begun h r (k.i.last + 1) → ⊥
+stamp_unbegun : (w : State) (h : List Item) (k : Drew w) (r : ℕ) → IsolationInvariant w h → Begun h r (k.i.last + 1) → ⊥
 stamp_unbegun w h k r holds begun =
     let drew = holds.numbers.begun.drawn r (k.i.last + 1) begun in
     elim (older_stamp w k h r drew.0 drew.1 (k.i.last + 1) None holds.numbers.ranges holds.numbers.drawn drew.2) [
@@ -151,7 +151,7 @@ same_has a b same = cc
 drew_has : (w : State) (k : Drew w) (s last c : ℕ) (request : Request) (p : Progress) → DrewHere w k s request p → stage_of last p ≡ Some (Has c) → c ≡ k.i.last + 1
 drew_has w k s last c request p here is = same_has (k.i.last + 1) c (sym (drawn_stage k.i.direct k.held.request (k.i.last + 1) last) ∙ (ap (stage_of last) here.stands ∙ is))
 
-drew_starting : (w : State) (h : List Item) (k : Drew w) → Holds w h → AreStarting (drew_state w k).nodes (h ++ drew_items w k)
+drew_starting : (w : State) (h : List Item) (k : Drew w) → IsolationInvariant w h → AreStarting (drew_state w k).nodes (h ++ drew_items w k)
 drew_starting w h k holds = record {
   drawn = λ n s t j at held. elim (drew_standing w k n s (BeginRequest s) (progress.Drawn t) j at held) [
     | inl here ↦ subst (λ m. DrewStart (h ++ drew_items w k) s m j.term t) (sym here.0) (subst (λ term. DrewStart (h ++ drew_items w k) s k.node term t) (sym here.1) (begun_now w h k s t here.2.request_is (drew_drawn w k s t (BeginRequest s) here.2)))
@@ -163,7 +163,7 @@ drew_starting w h k holds = record {
   ];
 }
 
-drew_pending : (w : State) (h : List Item) (k : Drew w) → Holds w h → ArePending w.clients (drew_state w k).nodes (h ++ drew_items w k)
+drew_pending : (w : State) (h : List Item) (k : Drew w) → IsolationInvariant w h → ArePending w.clients (drew_state w k).nodes (h ++ drew_items w k)
 drew_pending w h k holds = are_pending w.clients (drew_state w k).nodes (h ++ drew_items w k) (λ q p. elim (pending_drew w k q p) [
   | inl old ↦ pending_on h (h ++ drew_items w k) q (goes_on h (drew_items w k)) (stays_one w h k q holds old) (pending_one w.clients w.nodes h q holds.requests.pending (stays_pending w.clients w.nodes k.node k.session q old))
   | inr (inl older) ↦ older_one w h k q holds older
@@ -173,12 +173,12 @@ drew_pending w h k holds = are_pending w.clients (drew_state w k).nodes (h ++ dr
   | inr was ↦ subst (λ term. DrewCommit (h ++ drew_items w k) s n term t c) (sym was.3) (in_front (Draw s n was.0.term t (Some c)) h (drew_items w k) (holds.requests.pending.here n s t c keys p was.0 was.1 was.2 (has_any_last j.last was.0.last p c is)))
 ])
 
-drew_not_open : (w : State) (h : List Item) (k : Drew w) (s t e : ℕ) → Holds w h → OpenAt w.clients s t e → DrawsFor w k t → ⊥
+drew_not_open : (w : State) (h : List Item) (k : Drew w) (s t e : ℕ) → IsolationInvariant w h → OpenAt w.clients s t e → DrawsFor w k t → ⊥
 drew_not_open w h k s t e holds o draws =
     open_not_pending w.nodes w.clients h s t e holds.isolated.stamped holds.requests.requests holds.requests.pending (open_begun w.clients h s t o.client holds.requests.have_begun o.at o.state_is o.start_is) o
     (record { coming = drawing w k t draws.1; pending = inl (drew_taken w k draws.0 t draws.1 holds.requests.requests draws.2); start_is = refl })
 
-pub requests_drew : (w : State) (h : List Item) (k : Drew w) → Holds w h → RequestFacts w.setup (drew_state w k).nodes w.clients (h ++ drew_items w k)
+pub requests_drew : (w : State) (h : List Item) (k : Drew w) → IsolationInvariant w h → RequestFacts w.setup (drew_state w k).nodes w.clients (h ++ drew_items w k)
 requests_drew w h k holds = record {
   have_begun = have_on w.clients h (drew_items w k) holds.requests.have_begun;
   requests = requests_fewer w.nodes (drew_state w k).nodes w.clients (held_drew w k) holds.requests.requests;

@@ -19,7 +19,7 @@ use Rattle.machine.specs.Clients.{client_asked}
 use Rattle.isolation_laws.specs.Words.{HeldBy, ClientAt, epoch_or_none, OpenAt, Begun, HasDrawn, written_keys}
 use Rattle.isolation_laws.specs.Pending.{Stage, Waits, InFlight, HeldPending}
 use Rattle.isolation_laws.specs.Requests.{IsDrawnSoFar, AreAccepted, RequestFacts}
-use Rattle.isolation_laws.specs.Holds.{Holds}
+use Rattle.isolation_laws.specs.IsolationInvariant.{IsolationInvariant}
 use Rattle.machine.proofs.Lookups.{held_by, held_set, instance_changed}
 use Rattle.isolation_laws.proofs.Owners.{accepts_now, begun_below_last}
 use Rattle.machine.specs.Outcome.OutcomesOfRequests.{AskedCommit, asked_commit_state, Accepted, AcceptedSteadily, accepted_state}
@@ -41,12 +41,12 @@ opens w s t c at is start = record { client = c; at = at; state_is = is; start_i
 asks_commit : (w : State) (k : AskedCommit w) → (client_asked k.c).entry.state ≡ phase.Committing
 asks_commit w k = ap asked_state k.is_open
 
-asked_keys : (w : State) (h : List Item) (k : AskedCommit w) → Holds w h → KeysClient h (client_asked k.c)
+asked_keys : (w : State) (h : List Item) (k : AskedCommit w) → IsolationInvariant w h → KeysClient h (client_asked k.c)
 asked_keys w h k holds =
     let keys : KeysClient h k.c = keys_client w.clients h k.session k.c holds.requests.keys k.client_at in
     record { written = λ t is start. keys.written t (inl k.is_open) start; some = λ asked. k.written }
 
-asked_one : (w : State) (h g : List Item) (k : AskedCommit w) (q : InFlight) → Silent h g → Holds w h → IsAsked w k q → PendingOne g q
+asked_one : (w : State) (h g : List Item) (k : AskedCommit w) (q : InFlight) → Silent h g → IsolationInvariant w h → IsAsked w k q → PendingOne g q
 asked_one w h g k q silent holds is =
     let keys : KeysClient h k.c = keys_client w.clients h k.session k.c holds.requests.keys k.client_at in
     let begun : Begun h k.session k.start = open_begun w.clients h k.session k.start k.c holds.requests.have_begun k.client_at k.is_open k.start_is in
@@ -57,7 +57,7 @@ asked_one w h g k q silent holds is =
       so_far = subst (λ (stage : Stage). IsDrawnSoFar g q stage) (sym is.waits) (λ drew. holds.requests.opened.undrawn k.session k.start (epoch_or_none k.c.entry.epoch) (opens w k.session k.start k.c k.client_at k.is_open k.start_is) (subst (HasDrawn h) is.start_is (silent_drawn h g q.start silent drew)));
     }
 
-pub requests_asked_commit : (w : State) (h : List Item) (k : AskedCommit w) → Holds w h → RequestFacts w.setup (asked_commit_state w k).nodes (asked_commit_state w k).clients (h ++ k.items)
+pub requests_asked_commit : (w : State) (h : List Item) (k : AskedCommit w) → IsolationInvariant w h → RequestFacts w.setup (asked_commit_state w k).nodes (asked_commit_state w k).clients (h ++ k.items)
 requests_asked_commit w h k holds =
     let g : List Item = h ++ k.items in
     let silent : Silent h g = silent_quiet h k.items k.quiet in
@@ -78,7 +78,7 @@ requests_asked_commit w h k holds =
 
 -- ---- a request is accepted: its transaction began within the instance's range
 -- what was taken waited before
-taken_one : (w : State) (h g : List Item) (k : Accepted w) (q : InFlight) → Silent h g → Holds w h → IsTaken w k q → PendingOne g q
+taken_one : (w : State) (h g : List Item) (k : Accepted w) (q : InFlight) → Silent h g → IsolationInvariant w h → IsTaken w k q → PendingOne g q
 taken_one w h g k q silent holds is =
     let before : PendingOne h (record q { stage = Waits }) = pending_one w.clients w.nodes h (record q { stage = Waits }) holds.requests.pending (inl is.waited) in
     record {
@@ -96,7 +96,7 @@ not_old start epoch false is free = leb-false start epoch is
 above_epoch : (i : InstanceEntry) (request : Request) (s t : ℕ) (keys : List ℕ) → request ≡ Commit s t keys → epoch_refusal i request ≡ None → i.epoch < t
 above_epoch i request s t keys is free = not_old t i.epoch (nat_le t i.epoch) refl (subst (λ (r : Request). epoch_refusal i r ≡ None) is free)
 
-accepted_within : (w : State) (h : List Item) (k : Accepted w) (s t : ℕ) (keys : List ℕ) → AcceptedSteadily w k → Holds w h → k.held.request ≡ Commit s t keys → (k.i.epoch < t) × (t ≤ k.i.last)
+accepted_within : (w : State) (h : List Item) (k : Accepted w) (s t : ℕ) (keys : List ℕ) → AcceptedSteadily w k → IsolationInvariant w h → k.held.request ≡ Commit s t keys → (k.i.epoch < t) × (t ≤ k.i.last)
 accepted_within w h k s t keys steady holds is =
     let now : k.i.term ≡ w.master.term = accepts_now w.setup w.seen k.reading k.node w.nodes w.master k.i holds.numbers.ranges holds.numbers.leases k.at steady k.in_time in
     let mine : session_of k.held.request ≡ k.session = holds.requests.requests.own k.node k.session k.i k.held.request k.held.progress k.at (held_by k.i k.session k.held k.has) in
@@ -105,7 +105,7 @@ accepted_within w h k s t keys steady holds is =
     let waits : HeldPending w.nodes q = record { node = k.node; instance_of = k.i; progress_of = progress.Asked; at = k.at; held = record { held = k.held; has = k.has; asks = request; stands = k.asked }; stage_is = refl } in
     (above_epoch k.i k.held.request s t keys is k.in_epoch, begun_below_last w.nodes w.master h k.node k.i k.session t holds.numbers.ranges holds.numbers.drawn holds.numbers.begun k.at now (holds.requests.pending.begun q (inl waits)))
 
-accepted_accepted : (w : State) (h : List Item) (k : Accepted w) → AcceptedSteadily w k → Holds w h → AreAccepted (accepted_state w k).nodes
+accepted_accepted : (w : State) (h : List Item) (k : Accepted w) → AcceptedSteadily w k → IsolationInvariant w h → AreAccepted (accepted_state w k).nodes
 accepted_accepted w h k steady holds = record {
   within = λ n s t keys j at held. elim (instance_changed w.nodes k.node n (moved k.i k.session k.held progress.Accepted) j at) [
     | inl here ↦
@@ -122,7 +122,7 @@ accepted_accepted w h k steady holds = record {
   ];
 }
 
-pub requests_accepted : (w : State) (h : List Item) (k : Accepted w) → AcceptedSteadily w k → Holds w h → RequestFacts w.setup (accepted_state w k).nodes w.clients (h ++ k.items)
+pub requests_accepted : (w : State) (h : List Item) (k : Accepted w) → AcceptedSteadily w k → IsolationInvariant w h → RequestFacts w.setup (accepted_state w k).nodes w.clients (h ++ k.items)
 requests_accepted w h k steady holds =
     let g : List Item = h ++ k.items in
     let silent : Silent h g = silent_quiet h k.items k.quiet in

@@ -16,7 +16,7 @@ use Rattle.machine.specs.State.{Client, State}
 use Rattle.machine.specs.Clients.{client_asked, unless_gone, after_refusal}
 use Rattle.isolation_laws.specs.Words.{InstanceAt, ClientAt}
 use Rattle.isolation_laws.specs.Requests.{HaveBegun, WaitsFor, HasAsked, AreKeys}
-use Rattle.isolation_laws.specs.Holds.{Holds}
+use Rattle.isolation_laws.specs.IsolationInvariant.{IsolationInvariant}
 use Rattle.machine.proofs.Lookups.{held_by, one_client}
 use Rattle.machine.specs.Outcome.OutcomesOfRecord.{Still, still_state, Granted, granted_state, Renewed, renewed_state, Extended, extended_state}
 use Rattle.machine.specs.Outcome.OutcomesOfRequests.{Crashed, crashed_state, AskedBegin, asked_begin_state, Ended, ended_state}
@@ -34,7 +34,7 @@ use Rattle.isolation_laws.proofs.Requests.ClientsBecome.{Becomes, becomes_same, 
 
 -- ---- the record, and what changes nothing
 -- nodes that hold the same requests or fewer, for the same clients
-leaves_nodes : (w : State) (h : List Item) (nodes : List (Option InstanceEntry)) → FewerHeld w.nodes nodes → ((P : Progress → Type 0) → FewerStanding P w.nodes nodes) → FewerServed w.nodes nodes → Holds w h → Leaves w h nodes w.clients
+leaves_nodes : (w : State) (h : List Item) (nodes : List (Option InstanceEntry)) → FewerHeld w.nodes nodes → ((P : Progress → Type 0) → FewerStanding P w.nodes nodes) → FewerServed w.nodes nodes → IsolationInvariant w h → Leaves w h nodes w.clients
 leaves_nodes w h nodes held standing pending holds = record {
   have_begun = holds.requests.have_begun;
   requests = requests_fewer w.nodes nodes w.clients held holds.requests.requests;
@@ -47,23 +47,23 @@ leaves_nodes w h nodes held standing pending holds = record {
   form = form_fewer w.setup w.clients w.clients w.nodes nodes (standing IsDrawnNow) (same_at_work w.clients).placing holds.requests.form;
 }
 
-pub leaves_alone : (w : State) (h : List Item) → Holds w h → Leaves w h w.nodes w.clients
+pub leaves_alone : (w : State) (h : List Item) → IsolationInvariant w h → Leaves w h w.nodes w.clients
 leaves_alone w h holds = leaves_nodes w h w.nodes (held_same w.nodes) (λ P. standing_same P w.nodes) (same_served w.nodes) holds
 
-pub leaves_still : (w : State) (h : List Item) (k : Still w) → Holds w h → Leaves w h (still_state w k).nodes w.clients
+pub leaves_still : (w : State) (h : List Item) (k : Still w) → IsolationInvariant w h → Leaves w h (still_state w k).nodes w.clients
 leaves_still w h k holds = leaves_nodes w h k.nodes (held_alike w.nodes k.nodes k.alike) (λ P. standing_alike P w.nodes k.nodes k.alike) (fewer_still w k) holds
 
-pub leaves_granted : (w : State) (h : List Item) (k : Granted w) → Holds w h → Leaves w h (granted_state w k).nodes w.clients
+pub leaves_granted : (w : State) (h : List Item) (k : Granted w) → IsolationInvariant w h → Leaves w h (granted_state w k).nodes w.clients
 leaves_granted w h k holds = leaves_nodes w h (granted_state w k).nodes (held_granted w k) (λ P. standing_granted P w k) (fewer_granted w k) holds
 
-pub leaves_renewed : (w : State) (h : List Item) (k : Renewed w) → Holds w h → Leaves w h (renewed_state w k).nodes w.clients
+pub leaves_renewed : (w : State) (h : List Item) (k : Renewed w) → IsolationInvariant w h → Leaves w h (renewed_state w k).nodes w.clients
 leaves_renewed w h k holds = leaves_nodes w h (renewed_state w k).nodes (held_renewed w k) (λ P. standing_renewed P w k) (fewer_renewed w k) holds
 
-pub leaves_extended : (w : State) (h : List Item) (k : Extended w) → Holds w h → Leaves w h (extended_state w k).nodes w.clients
+pub leaves_extended : (w : State) (h : List Item) (k : Extended w) → IsolationInvariant w h → Leaves w h (extended_state w k).nodes w.clients
 leaves_extended w h k holds = leaves_nodes w h (extended_state w k).nodes (held_extended w k) (λ P. standing_extended P w k) (fewer_extended w k) holds
 
 -- ---- a crash
-crash_becomes : (w : State) (h : List Item) (k : Crashed w) (s : ℕ) (c : Client) → Holds w h → ClientAt (crashed_state w k).clients s c → (old : Client) × ClientAt w.clients s old × Becomes h s old c
+crash_becomes : (w : State) (h : List Item) (k : Crashed w) (s : ℕ) (c : Client) → IsolationInvariant w h → ClientAt (crashed_state w k).clients s c → (old : Client) × ClientAt w.clients s old × Becomes h s old c
 crash_becomes w h k s c holds at =
     let was = crashed_at k.i.requests w.clients s c at in
     let keys : KeysClient h was.0 = keys_client w.clients h s was.0 holds.requests.keys was.1 in (
@@ -78,7 +78,7 @@ crash_becomes w h k s c holds at =
       ],
     )
 
-crash_begun : (w : State) (h : List Item) (k : Crashed w) → Holds w h → HaveBegun (crashed_state w k).clients h
+crash_begun : (w : State) (h : List Item) (k : Crashed w) → IsolationInvariant w h → HaveBegun (crashed_state w k).clients h
 crash_begun w h k holds = record {
   begun = λ s c at has.
       let was = crash_becomes w h k s c holds at in
@@ -87,13 +87,13 @@ crash_begun w h k holds = record {
       (before.0, kept.1 ∙ before.1, before.2);
 }
 
-crash_keys : (w : State) (h : List Item) (k : Crashed w) → Holds w h → AreKeys (crashed_state w k).clients h
+crash_keys : (w : State) (h : List Item) (k : Crashed w) → IsolationInvariant w h → AreKeys (crashed_state w k).clients h
 crash_keys w h k holds = record {
   written = λ s t c at is start. (crash_becomes w h k s c holds at).2.keys.written t is start;
   some = λ s c at asked. (crash_becomes w h k s c holds at).2.keys.some asked;
 }
 
-pub leaves_crashed : (w : State) (h : List Item) (k : Crashed w) → Holds w h → Leaves w h (crashed_state w k).nodes (crashed_state w k).clients
+pub leaves_crashed : (w : State) (h : List Item) (k : Crashed w) → IsolationInvariant w h → Leaves w h (crashed_state w k).nodes (crashed_state w k).clients
 leaves_crashed w h k holds = record {
   have_begun = crash_begun w h k holds;
   requests = requests_crashed w.nodes w.clients k.node k.i k.at holds.requests.requests;
@@ -116,7 +116,7 @@ no_transaction h s c is has = absurd (has_none c.entry.state (inr (inl is)) has)
 keys_asking : (h : List Item) (c : Client) → c.entry.state ≡ phase.Asking → KeysClient h c
 keys_asking h c is = keys_closed h c (λ o. asking_closed (subst (λ x. (x ≡ phase.Open) ⊎ HasAsked x) is o))
 
-pub leaves_asked_begin : (w : State) (h : List Item) (k : AskedBegin w) → Holds w h → Leaves w h (asked_begin_state w k).nodes (asked_begin_state w k).clients
+pub leaves_asked_begin : (w : State) (h : List Item) (k : AskedBegin w) → IsolationInvariant w h → Leaves w h (asked_begin_state w k).nodes (asked_begin_state w k).clients
 leaves_asked_begin w h k holds = record {
   have_begun = begun_set w.clients h k.session (client_asked k.c) (no_transaction h k.session (client_asked k.c) (asks_begin w k)) holds.requests.have_begun;
   requests = requests_new w.nodes (asked_begin_state w k).nodes w.clients k.node k.session (Begin k.session) k.c (client_asked k.c) phase.Free (new_held w.nodes k.session k.node k.i _ k.at) refl k.client_at k.free free_waits (inr (asks_begin w k)) holds.requests.requests;
@@ -131,12 +131,12 @@ leaves_asked_begin w h k holds = record {
 
 -- ---- the end of a request
 -- the client waits for its request
-pub waits_for : (w : State) (h : List Item) (n s : ℕ) (i : InstanceEntry) (held : Held) (c : Client) → Holds w h → InstanceAt w.nodes n i → held_of i s ≡ Some held → ClientAt w.clients s c → WaitsFor held.request c
+pub waits_for : (w : State) (h : List Item) (n s : ℕ) (i : InstanceEntry) (held : Held) (c : Client) → IsolationInvariant w h → InstanceAt w.nodes n i → held_of i s ≡ Some held → ClientAt w.clients s c → WaitsFor held.request c
 waits_for w h n s i held c holds at has client =
     let waiting = holds.requests.requests.waits n s i held.request held.progress at (held_by i s held has) in
     subst (λ (x : Client). WaitsFor held.request x) (one_client w.clients s waiting.0 c waiting.1 client) waiting.2
 
-pub leaves_over : (w : State) (h : List Item) (n s : ℕ) (i : InstanceEntry) (held : Held) (c new : Client) → InstanceAt w.nodes n i → held_of i s ≡ Some held → ClientAt w.clients s c → Becomes h s c new → FewerServed w.nodes (slice_set w.nodes n (Some (without_request i s))) → FewerAtWork w.clients (slice_set w.clients s new) → Holds w h → Leaves w h (slice_set w.nodes n (Some (without_request i s))) (slice_set w.clients s new)
+pub leaves_over : (w : State) (h : List Item) (n s : ℕ) (i : InstanceEntry) (held : Held) (c new : Client) → InstanceAt w.nodes n i → held_of i s ≡ Some held → ClientAt w.clients s c → Becomes h s c new → FewerServed w.nodes (slice_set w.nodes n (Some (without_request i s))) → FewerAtWork w.clients (slice_set w.clients s new) → IsolationInvariant w h → Leaves w h (slice_set w.nodes n (Some (without_request i s))) (slice_set w.clients s new)
 leaves_over w h n s i held c new at has client becomes served work holds = record {
   have_begun = begun_kept w.clients h s c new client becomes.begun holds.requests.have_begun;
   requests = requests_over w.nodes (slice_set w.nodes n (Some (without_request i s))) w.clients n s i held.request held.progress c new refl at (held_by i s held has) client holds.requests.requests;
@@ -149,13 +149,13 @@ leaves_over w h n s i held c new at has client becomes served work holds = recor
   form = form_fewer w.setup w.clients (slice_set w.clients s new) w.nodes (slice_set w.nodes n (Some (without_request i s))) (standing_over IsDrawnNow w.nodes n s i at) work.placing holds.requests.form;
 }
 
-pub leaves_ended : (w : State) (h : List Item) (k : Ended w) → Holds w h → Leaves w h (ended_state w k).nodes (ended_state w k).clients
+pub leaves_ended : (w : State) (h : List Item) (k : Ended w) → IsolationInvariant w h → Leaves w h (ended_state w k).nodes (ended_state w k).clients
 leaves_ended w h k holds =
     let waits : WaitsFor k.held.request k.c = waits_for w h k.node k.session k.i k.held k.c holds k.at k.has k.client_at in
     leaves_over w h k.node k.session k.i k.held k.c (after_refusal k.held.request k.c) k.at k.has k.client_at
     (refusal_becomes h k.session k.held.request k.c (keys_client w.clients h k.session k.c holds.requests.keys k.client_at) waits) (fewer_ended_one w k) (at_work_after w (OfEnded k) refl) holds
 
-pub leaves_answered_commit : (w : State) (h : List Item) (k : AnsweredCommit w) → Holds w h → Leaves w h (answered_commit_state w k).nodes (answered_commit_state w k).clients
+pub leaves_answered_commit : (w : State) (h : List Item) (k : AnsweredCommit w) → IsolationInvariant w h → Leaves w h (answered_commit_state w k).nodes (answered_commit_state w k).clients
 leaves_answered_commit w h k holds =
     let waits : WaitsFor (Commit k.asker k.start k.keys) k.c = subst (λ (x : Request). WaitsFor x k.c) k.request_is (waits_for w h k.node k.session k.i k.held k.c holds k.at k.has k.client_at) in
     leaves_over w h k.node k.session k.i k.held k.c (unless_gone k.c (answered_client k.by k.c k.commit)) k.at k.has k.client_at

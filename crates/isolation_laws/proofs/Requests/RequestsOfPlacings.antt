@@ -11,7 +11,7 @@ use Rattle.system_parts.specs.Instance.{InstanceEntry}
 use Rattle.machine.specs.State.{Client, State}
 use Rattle.isolation_laws.specs.Words.{HeldBy}
 use Rattle.isolation_laws.specs.Requests.{AreKeys, RequestFacts}
-use Rattle.isolation_laws.specs.Holds.{Holds}
+use Rattle.isolation_laws.specs.IsolationInvariant.{IsolationInvariant}
 use Rattle.isolation_laws.proofs.OnceEach.{begun_once}
 use Rattle.machine.specs.Outcome.OutcomesOfStamps.{answered_client}
 use Rattle.machine.specs.Outcome.OutcomesOfPlacings.{AtPlacing, OwnPlaced, own_placed_state, own_placed_items, OwnNotPlaced, own_not_placed_state}
@@ -27,21 +27,21 @@ use Rattle.isolation_laws.proofs.Requests.SettledNow.{Places, places, places_dra
 use Rattle.isolation_laws.proofs.Requests.RequestsKept.{Leaves, form_fewer}
 use Rattle.isolation_laws.proofs.Requests.RequestsOfClients.{leaves_idle}
 
-own_becomes : (w : State) (h : List Item) (it : AtPlacing w) (by : Settled) → Holds w h → Becomes h it.session it.c (answered_client by it.c it.commit)
+own_becomes : (w : State) (h : List Item) (it : AtPlacing w) (by : Settled) → IsolationInvariant w h → Becomes h it.session it.c (answered_client by it.c it.commit)
 own_becomes w h it by holds = placing_becomes h it.session it.commit by it.c (is_placing_now w it) (keys_client w.clients h it.session it.c holds.requests.keys it.client_at)
 
 -- no settled commit is of its transaction
-own_not_settled : (w : State) (h : List Item) (it : AtPlacing w) (n s c : ℕ) (by : Settled) (i : InstanceEntry) → Holds w h → SettledAt w.nodes n s it.start c by i → ⊥
+own_not_settled : (w : State) (h : List Item) (it : AtPlacing w) (n s c : ℕ) (by : Settled) (i : InstanceEntry) → IsolationInvariant w h → SettledAt w.nodes n s it.start c by i → ⊥
 own_not_settled w h it n s c by i holds (at, (keys, held)) =
     let session = begun_once h s it.session it.start holds.isolated.stamped (holds.requests.settled.begun n s it.start c keys by i at held) (holds.requests.pending.begun (own_in_flight w it) (inr (own_placing w it))) in
     placing_holds_none w.clients w.nodes (own_in_flight w it) holds.requests.requests (own_placing w it) n i (Commit s it.start keys) (progress.Settled c by) at (subst (λ r. HeldBy i r (Commit s it.start keys) (progress.Settled c by)) session held)
 
-own_keys : (w : State) (h g : List Item) (k : OwnPlaced w) → Places h g k.it.start k.it.commit → Holds w h → AreKeys (own_placed_state w k).clients g
+own_keys : (w : State) (h g : List Item) (k : OwnPlaced w) → Places h g k.it.start k.it.commit → IsolationInvariant w h → AreKeys (own_placed_state w k).clients g
 own_keys w h g k all holds =
     let keys : AreKeys (own_placed_state w k).clients h = keys_set w.clients h k.it.session (answered_client k.by k.it.c k.it.commit) (own_becomes w h k.it k.by holds).keys holds.requests.keys in
     record { written = λ s t c at is start. keys.written s t c at is start ∙ sym (all.keys t); some = keys.some }
 
-pub requests_own_placed : (w : State) (h : List Item) (k : OwnPlaced w) → Holds w h → RequestFacts w.setup w.nodes (own_placed_state w k).clients (h ++ own_placed_items w k)
+pub requests_own_placed : (w : State) (h : List Item) (k : OwnPlaced w) → IsolationInvariant w h → RequestFacts w.setup w.nodes (own_placed_state w k).clients (h ++ own_placed_items w k)
 requests_own_placed w h k holds =
     let g : List Item = h ++ own_placed_items w k in
     let new : Client = answered_client k.by k.it.c k.it.commit in
@@ -64,5 +64,5 @@ requests_own_placed w h k holds =
       form = form_fewer w.setup w.clients clients w.nodes w.nodes (standing_same IsDrawnNow w.nodes) (at_work_after w (OfOwnPlaced k) refl).placing holds.requests.form;
     }
 
-pub leaves_own_not_placed : (w : State) (h : List Item) (k : OwnNotPlaced w) → Holds w h → Leaves w h w.nodes (own_not_placed_state w k).clients
+pub leaves_own_not_placed : (w : State) (h : List Item) (k : OwnNotPlaced w) → IsolationInvariant w h → Leaves w h w.nodes (own_not_placed_state w k).clients
 leaves_own_not_placed w h k holds = leaves_idle w h k.it.session k.it.c (answered_client k.by k.it.c k.it.commit) k.it.c.entry.state k.it.client_at refl (placing_waits k.it.c.entry.state (is_placing_now w k.it)) (own_becomes w h k.it k.by holds) (at_work_after w (OfOwnNotPlaced k) refl) holds

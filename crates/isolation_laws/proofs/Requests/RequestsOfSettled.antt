@@ -6,7 +6,7 @@ use Rattle.system_parts.specs.declared.instance.Settled.{Settled}
 use Rattle.system_parts.specs.declared.instance.Settled.TheVariants as how
 use Rattle.machine.specs.State.{State}
 use Rattle.isolation_laws.specs.Requests.{ArePending, IsSettled, AreSettled, RequestFacts}
-use Rattle.isolation_laws.specs.Holds.{Holds}
+use Rattle.isolation_laws.specs.IsolationInvariant.{IsolationInvariant}
 use Rattle.isolation_laws.proofs.Owners.{has_drew}
 use Rattle.machine.specs.Outcome.OutcomesOfStamps.{AtDrawn, PlacedOne, placed_state, placed_items, NotPlaced, not_placed_state}
 use Rattle.isolation_laws.proofs.Requests.PendingFewer.{stays_pending, pending_settled, fewer_settled}
@@ -25,7 +25,7 @@ is_placed_so : (g : List Item) (t c : ℕ) (by : Settled) → (by ≡ how.Placed
 is_placed_so g t c by (inl is) placed = subst (λ (b : Settled). IsSettled g t c b) (sym is) placed
 is_placed_so g t c by (inr is) placed = subst (λ (b : Settled). IsSettled g t c b) (sym is) tt
 
-placed_settled : (w : State) (h : List Item) (k : PlacedOne w) → Holds w h → AreSettled (placed_state w k).nodes (h ++ placed_items w k)
+placed_settled : (w : State) (h : List Item) (k : PlacedOne w) → IsolationInvariant w h → AreSettled (placed_state w k).nodes (h ++ placed_items w k)
 placed_settled w h k holds =
     let g : List Item = h ++ placed_items w k in
     let all : Places h g k.it.start k.it.commit = places h k.items k.it.start k.it.commit k.quiet in
@@ -37,13 +37,13 @@ placed_settled w h k holds =
       ]) (settled_one w.nodes h n s t c by was.0 holds.requests.settled was.1))
     ])
 
-placed_pending : (w : State) (h : List Item) (k : PlacedOne w) → Holds w h → ArePending w.clients (placed_state w k).nodes (h ++ placed_items w k)
+placed_pending : (w : State) (h : List Item) (k : PlacedOne w) → IsolationInvariant w h → ArePending w.clients (placed_state w k).nodes (h ++ placed_items w k)
 placed_pending w h k holds =
     pending_places w.clients w.clients w.nodes (placed_state w k).nodes h (h ++ placed_items w k) k.it.start k.it.commit
     (λ q p. let stays = pending_settled w k.it k.by q p in (stays_pending w.clients w.nodes k.it.node k.it.session q stays, other_than w h k.it q holds stays))
     (standing_settled IsDrawnNow w k.it k.by (λ is. is)) (places h k.items k.it.start k.it.commit k.quiet) holds.requests.pending
 
-pub requests_placed : (w : State) (h : List Item) (k : PlacedOne w) → Holds w h → RequestFacts w.setup (placed_state w k).nodes w.clients (h ++ placed_items w k)
+pub requests_placed : (w : State) (h : List Item) (k : PlacedOne w) → IsolationInvariant w h → RequestFacts w.setup (placed_state w k).nodes w.clients (h ++ placed_items w k)
 requests_placed w h k holds =
     let g : List Item = h ++ placed_items w k in
     let all : Places h g k.it.start k.it.commit = places h k.items k.it.start k.it.commit k.quiet in
@@ -60,11 +60,11 @@ requests_placed w h k holds =
     }
 
 -- ---- not placed
-is_unplaced_so : (w : State) (h g : List Item) (k : AtDrawn w) (by : Settled) → (by ≡ how.Invalid) ⊎ (by ≡ how.Faulted) → Silent h g → Holds w h → IsSettled g k.start k.commit by
+is_unplaced_so : (w : State) (h g : List Item) (k : AtDrawn w) (by : Settled) → (by ≡ how.Invalid) ⊎ (by ≡ how.Faulted) → Silent h g → IsolationInvariant w h → IsSettled g k.start k.commit by
 is_unplaced_so w h g k by (inl is) silent holds = subst (λ (b : Settled). IsSettled g k.start k.commit b) (sym is) (λ d placed. (has_drew w.clients w.nodes h (in_flight_of w k) k.commit holds.requests.pending (inl (drawn_pending w k holds.requests.requests)) refl).1 d (silent.placed k.start d placed))
 is_unplaced_so w h g k by (inr is) silent holds = subst (λ (b : Settled). IsSettled g k.start k.commit b) (sym is) tt
 
-pub requests_not_placed : (w : State) (h : List Item) (k : NotPlaced w) → Holds w h → RequestFacts w.setup (not_placed_state w k).nodes w.clients (h ++ k.items)
+pub requests_not_placed : (w : State) (h : List Item) (k : NotPlaced w) → IsolationInvariant w h → RequestFacts w.setup (not_placed_state w k).nodes w.clients (h ++ k.items)
 requests_not_placed w h k holds =
     let g : List Item = h ++ k.items in
     let silent : Silent h g = silent_quiet h k.items k.quiet in

@@ -14,7 +14,7 @@ use Rattle.machine.specs.Events.Write.{client_wrote}
 use Rattle.isolation_laws.specs.Words.{ClientAt, epoch_or_none, OpenAt, Begun, HasDrawn, written_keys}
 use Rattle.isolation_laws.specs.Pending.{IsPending}
 use Rattle.isolation_laws.specs.Requests.{AreKeys, HasAsked, RequestFacts}
-use Rattle.isolation_laws.specs.Holds.{Holds}
+use Rattle.isolation_laws.specs.IsolationInvariant.{IsolationInvariant}
 use Rattle.machine.proofs.Lookups.{client_set}
 use Rattle.isolation_laws.proofs.OnceEach.{begun_once}
 use Rattle.isolation_laws.proofs.Owners.{open_not_pending}
@@ -32,14 +32,14 @@ use Rattle.isolation_laws.proofs.Requests.RequestsOfBegins.{open_not_asked}
 use Rattle.isolation_laws.proofs.Stores.Calm.{write_places_none}
 
 -- ---- a value that is written
-wrote_begun : (w : State) (h : List Item) (k : WroteOne w) → Holds w h → Begun h k.it.session k.start
+wrote_begun : (w : State) (h : List Item) (k : WroteOne w) → IsolationInvariant w h → Begun h k.it.session k.start
 wrote_begun w h k holds = open_begun w.clients h k.it.session k.start k.it.c holds.requests.have_begun k.it.client_at k.it.is_open k.start_is
 
 pub wrote_open : (w : State) (k : WroteOne w) → OpenAt w.clients k.it.session k.start (epoch_or_none k.it.c.entry.epoch)
 wrote_open w k = record { client = k.it.c; at = k.it.client_at; state_is = k.it.is_open; start_is = k.start_is; epoch_is = refl }
 
 -- no commit in flight is of the transaction that writes
-pub wrote_not_pending : (w : State) (h : List Item) (k : WroteOne w) → Holds w h → IsPending w.clients w.nodes k.start → ⊥
+pub wrote_not_pending : (w : State) (h : List Item) (k : WroteOne w) → IsolationInvariant w h → IsPending w.clients w.nodes k.start → ⊥
 wrote_not_pending w h k holds p = open_not_pending w.nodes w.clients h k.it.session k.start (epoch_or_none k.it.c.entry.epoch) holds.isolated.stamped holds.requests.requests holds.requests.pending (wrote_begun w h k holds) (wrote_open w k) p
 
 write_no_begin : (h : List Item) (s t k : ℕ) (value : List ℕ) (r u : ℕ) → Begun (h ++ Write s t k value ∷ []) r u → Begun h r u
@@ -54,7 +54,7 @@ has_in state (inr (inl is)) = subst (λ s. IsTrue (has_transaction s)) (sym is) 
 has_in state (inr (inr (inl is))) = subst (λ s. IsTrue (has_transaction s)) (sym is) refl
 has_in state (inr (inr (inr is))) = placing_has state is
 
-has_begun_so : (w : State) (h : List Item) (s t : ℕ) (c : Client) → Holds w h → ClientAt w.clients s c → (c.entry.state ≡ phase.Open) ⊎ HasAsked c.entry.state → c.entry.start ≡ Some t → Begun h s t
+has_begun_so : (w : State) (h : List Item) (s t : ℕ) (c : Client) → IsolationInvariant w h → ClientAt w.clients s c → (c.entry.state ≡ phase.Open) ⊎ HasAsked c.entry.state → c.entry.start ≡ Some t → Begun h s t
 has_begun_so w h s t c holds at is start =
     let begun = holds.requests.have_begun.begun s c at (has_in c.entry.state is) in
     subst (Begun h s) (same_Some begun.0 t (sym begun.1 ∙ start)) begun.2
@@ -62,7 +62,7 @@ has_begun_so w h s t c holds at is start =
 open_not_asked_so : (state : SessionState) → state ≡ phase.Open → HasAsked state → ⊥
 open_not_asked_so state is asked = open_not_asked (subst HasAsked is asked)
 
-wrote_keys : (w : State) (h : List Item) (k : WroteOne w) → Holds w h → AreKeys (wrote_state w k).clients (h ++ wrote_items w k)
+wrote_keys : (w : State) (h : List Item) (k : WroteOne w) → IsolationInvariant w h → AreKeys (wrote_state w k).clients (h ++ wrote_items w k)
 wrote_keys w h k holds =
     let g : List Item = h ++ wrote_items w k in
     record {
@@ -82,7 +82,7 @@ wrote_keys w h k holds =
       ];
     }
 
-pub requests_wrote : (w : State) (h : List Item) (k : WroteOne w) → Holds w h → RequestFacts w.setup w.nodes (wrote_state w k).clients (h ++ wrote_items w k)
+pub requests_wrote : (w : State) (h : List Item) (k : WroteOne w) → IsolationInvariant w h → RequestFacts w.setup w.nodes (wrote_state w k).clients (h ++ wrote_items w k)
 requests_wrote w h k holds =
     let g : List Item = h ++ wrote_items w k in
     let on : GoesOn h g = goes_on h (wrote_items w k) in

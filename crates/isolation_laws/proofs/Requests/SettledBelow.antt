@@ -17,7 +17,7 @@ use Rattle.machine.specs.State.{Client, State}
 use Rattle.machine.specs.Events.Take.{rules_of, instance_of}
 use Rattle.isolation_laws.specs.Words.{InstanceAt, HeldBy, OpenAt, Begun}
 use Rattle.isolation_laws.specs.Begins.{AreSettledBelow, IsPast}
-use Rattle.isolation_laws.specs.Holds.{Holds}
+use Rattle.isolation_laws.specs.IsolationInvariant.{IsolationInvariant}
 use Rattle.machine.proofs.Lookups.{instance_changed, one_instance, heldby_changed, heldby_ended}
 use Rattle.machine.specs.Outcome.OutcomesOfRecord.{Granted, granted_nodes, granted_state, Extended, extended_nodes, extended_state}
 use Rattle.machine.specs.Outcome.OutcomesOfStamps.{Drew, drew_instance, drew_state, AnsweredBegin, answered_begin_state}
@@ -60,7 +60,7 @@ below_fewer before after old new opens keeps fewer settled = record {
 }
 
 -- ---- a new instance begins above all that was drawn
-new_past : (w : State) (h : List Item) (k : Granted w) (s b : ℕ) → Holds w h → Begun h s b → IsPast (instance_of w.setup k.node (granted (rules_of w.setup) w.master k.reading)) b
+new_past : (w : State) (h : List Item) (k : Granted w) (s b : ℕ) → IsolationInvariant w h → Begun h s b → IsPast (instance_of w.setup k.node (granted (rules_of w.setup) w.master k.reading)) b
 new_past w h k s b holds begun =
     let drew = holds.numbers.begun.drawn s b begun in
     record {
@@ -68,7 +68,7 @@ new_past w h k s b holds begun =
       settled = λ r t c keys held. absurd (new_holds_none (granted (rules_of w.setup) w.master k.reading) k.node w.setup.buckets w.setup.width w.setup.slots w.setup.direct r (Commit r t keys) (progress.Drawn c) held);
     }
 
-granted_below : (w : State) (h : List Item) (k : Granted w) (failed : Bool) → Holds w h → AreSettledBelow w.clients w.nodes → AreSettledBelow w.clients (granted_nodes w k failed)
+granted_below : (w : State) (h : List Item) (k : Granted w) (failed : Bool) → IsolationInvariant w h → AreSettledBelow w.clients w.nodes → AreSettledBelow w.clients (granted_nodes w k failed)
 granted_below w h k true holds was = was
 granted_below w h k false holds was = record {
   below = λ s b e n j o at. elim (instance_changed w.nodes k.node n (instance_of w.setup k.node (granted (rules_of w.setup) w.master k.reading)) j at) [
@@ -77,14 +77,14 @@ granted_below w h k false holds was = record {
   ];
 }
 
-pub below_granted : (w : State) (h : List Item) (k : Granted w) → Holds w h → AreSettledBelow w.clients w.nodes → AreSettledBelow w.clients (granted_state w k).nodes
+pub below_granted : (w : State) (h : List Item) (k : Granted w) → IsolationInvariant w h → AreSettledBelow w.clients w.nodes → AreSettledBelow w.clients (granted_state w k).nodes
 below_granted w h k holds was = granted_below w h k k.failed holds was
 
 -- ---- a range is added to the instance of the record's term, which is past each start
 widened_past : (i : InstanceEntry) (b ceiling : ℕ) → IsPast i b → IsPast (instance_widened i ceiling) b
 widened_past i b ceiling past = record { last = past.last; settled = λ r t c keys held. past.settled r t c keys (record { held = held.held; has = held.has; asks = held.asks; stands = held.stands }) }
 
-past_now : (w : State) (h : List Item) (k : Extended w) (s b e : ℕ) → Holds w h → AreSettledBelow w.clients w.nodes → OpenAt w.clients s b e → IsPast k.i b
+past_now : (w : State) (h : List Item) (k : Extended w) (s b e : ℕ) → IsolationInvariant w h → AreSettledBelow w.clients w.nodes → OpenAt w.clients s b e → IsPast k.i b
 past_now w h k s b e holds was o = elim (was.below s b e k.node k.i o k.at) [
   | inl all ↦
       let last : b ≤ k.i.last = begun_below_last w.nodes w.master h k.node k.i s b holds.numbers.ranges holds.numbers.drawn holds.numbers.begun k.at (sym k.own) (open_now_begun w h s b e holds o) in
@@ -92,7 +92,7 @@ past_now w h k s b e holds was o = elim (was.below s b e k.node k.i o k.at) [
   | inr past ↦ past
 ]
 
-extended_below : (w : State) (h : List Item) (k : Extended w) (failed : Bool) → Holds w h → AreSettledBelow w.clients w.nodes → AreSettledBelow w.clients (extended_nodes w k failed)
+extended_below : (w : State) (h : List Item) (k : Extended w) (failed : Bool) → IsolationInvariant w h → AreSettledBelow w.clients w.nodes → AreSettledBelow w.clients (extended_nodes w k failed)
 extended_below w h k true holds was = was
 extended_below w h k false holds was = record {
   below = λ s b e n j o at. elim (instance_changed w.nodes k.node n (instance_widened k.i (w.master.ceiling + w.setup.range)) j at) [
@@ -101,7 +101,7 @@ extended_below w h k false holds was = record {
   ];
 }
 
-pub below_extended : (w : State) (h : List Item) (k : Extended w) → Holds w h → AreSettledBelow w.clients w.nodes → AreSettledBelow w.clients (extended_state w k).nodes
+pub below_extended : (w : State) (h : List Item) (k : Extended w) → IsolationInvariant w h → AreSettledBelow w.clients w.nodes → AreSettledBelow w.clients (extended_state w k).nodes
 below_extended w h k holds was = extended_below w h k k.failed holds was
 
 -- ---- a commit is drawn above the last stamp
@@ -136,7 +136,7 @@ all_at P (x ∷ others) (suc s) held all there = all_at P others s held (All-tai
 not_waiting : (start : ℕ) (request : Request) (p : Progress) (r t c : ℕ) (keys : List ℕ) → request ≡ Commit r t keys → p ≡ progress.Drawn c → IfSome (unsettled_by request p) (λ commit. start ≤ commit) → start ≤ c
 not_waiting start request p r t c keys asks stands none = subst (λ (commit : Option ℕ). IfSome commit (λ d. start ≤ d)) (ap (λ x. unsettled_by x p) asks ∙ ap (unsettled_by (Commit r t keys)) stands) none
 
-answered_past : (w : State) (h : List Item) (k : AnsweredBegin w) → Holds w h → IsPast (without_request k.i k.session) k.start
+answered_past : (w : State) (h : List Item) (k : AnsweredBegin w) → IsolationInvariant w h → IsPast (without_request k.i k.session) k.start
 answered_past w h k holds = record {
   last = (holds.numbers.drawn.same k.session k.node k.i.term k.start k.node None k.i (drew_start w h k holds) k.at refl).1;
   settled = λ r t c keys held.
@@ -145,12 +145,12 @@ answered_past w h k holds = record {
 }
 
 -- what an instance has drawn for a commit that it holds
-drawn_there : (w : State) (h : List Item) (n r t c : ℕ) (keys : List ℕ) (j : InstanceEntry) → Holds w h → InstanceAt w.nodes n j → HeldBy j r (Commit r t keys) (progress.Drawn c) → j.epoch < c
+drawn_there : (w : State) (h : List Item) (n r t c : ℕ) (keys : List ℕ) (j : InstanceEntry) → IsolationInvariant w h → InstanceAt w.nodes n j → HeldBy j r (Commit r t keys) (progress.Drawn c) → j.epoch < c
 drawn_there w h n r t c keys j holds at held =
     (holds.numbers.drawn.same r n j.term t n (Some c) j (holds.requests.pending.here n r t c keys (progress.Drawn c) j at held refl) at refl).0
 
 -- other instances end at or below the epoch, or begin above the start
-other_below : (w : State) (h : List Item) (k : AnsweredBegin w) (n : ℕ) (j : InstanceEntry) → Holds w h → n ≢ k.node → InstanceAt w.nodes n j → (j.ceiling ≤ k.i.epoch) ⊎ IsPast j k.start
+other_below : (w : State) (h : List Item) (k : AnsweredBegin w) (n : ℕ) (j : InstanceEntry) → IsolationInvariant w h → n ≢ k.node → InstanceAt w.nodes n j → (j.ceiling ≤ k.i.epoch) ⊎ IsPast j k.start
 other_below w h k n j holds other at = elim (three_ways j.term k.i.term) [
   | inl less ↦ inl (holds.numbers.ranges.apart n k.node j k.i at k.at less)
   | inr (inl same) ↦ absurd (holds.numbers.ranges.differ n k.node j k.i other at k.at same)
@@ -164,7 +164,7 @@ other_below w h k n j holds other at = elim (three_ways j.term k.i.term) [
       })
 ]
 
-new_below : (w : State) (h : List Item) (k : AnsweredBegin w) (n : ℕ) (j : InstanceEntry) → Holds w h → InstanceAt (answered_begin_state w k).nodes n j → (j.ceiling ≤ k.i.epoch) ⊎ IsPast j k.start
+new_below : (w : State) (h : List Item) (k : AnsweredBegin w) (n : ℕ) (j : InstanceEntry) → IsolationInvariant w h → InstanceAt (answered_begin_state w k).nodes n j → (j.ceiling ≤ k.i.epoch) ⊎ IsPast j k.start
 new_below w h k n j holds at = elim (instance_changed w.nodes k.node n (without_request k.i k.session) j at) [
   | inl here ↦ inr (subst (λ (x : InstanceEntry). IsPast x k.start) (sym here.1) (answered_past w h k holds))
   | inr there ↦ other_below w h k n j holds there.0 there.1
@@ -181,7 +181,7 @@ old_below w k s b e n j before o at =
     let was = old_range w k n j at in
     below_on w.nodes (answered_begin_state w k).nodes n b e was.0 j (standing_over IsDrawnNow w.nodes k.node k.session k.i k.at) was.1 at was.2 was.3 (before.below s b e n was.0 o was.1)
 
-pub below_answered_begin : (w : State) (h : List Item) (k : AnsweredBegin w) → Holds w h → AreSettledBelow w.clients w.nodes → AreSettledBelow (answered_begin_state w k).clients (answered_begin_state w k).nodes
+pub below_answered_begin : (w : State) (h : List Item) (k : AnsweredBegin w) → IsolationInvariant w h → AreSettledBelow w.clients w.nodes → AreSettledBelow (answered_begin_state w k).clients (answered_begin_state w k).nodes
 below_answered_begin w h k holds before = record {
   below = λ s b e n j o at. elim (open_answered_begin w k s b e o) [
     | inl old ↦ old_below w k s b e n j before old at

@@ -17,7 +17,7 @@ use Rattle.isolation_laws.specs.Words.{InstanceAt, HeldBy, Begun, HasDrawn, writ
 use Rattle.isolation_laws.specs.Pending.{InFlight, Pending}
 use Rattle.machine.specs.Quiet.{AllQuiet}
 use Rattle.isolation_laws.specs.Requests.{ArePending, IsSettled}
-use Rattle.isolation_laws.specs.Holds.{Holds}
+use Rattle.isolation_laws.specs.IsolationInvariant.{IsolationInvariant}
 use Rattle.machine.proofs.Lookups.{held_by, held_set, one_held, instance_changed, one_instance}
 use Rattle.isolation_laws.proofs.OnceEach.{begun_once}
 use Rattle.machine.specs.Outcome.OutcomesOfStamps.{AtDrawn}
@@ -81,14 +81,14 @@ pending_places clients new_clients nodes new_nodes h g t c but standing all pend
     (here_fewer nodes new_nodes h g standing all.on pending.here)
 
 -- ---- another commit in flight is of another transaction
-pub other_than : (w : State) (h : List Item) (k : AtDrawn w) (q : InFlight) → Holds w h → StaysPut w.clients w.nodes k.node k.session q → q.start ≢ k.start
+pub other_than : (w : State) (h : List Item) (k : AtDrawn w) (q : InFlight) → IsolationInvariant w h → StaysPut w.clients w.nodes k.node k.session q → q.start ≢ k.start
 other_than w h k q holds stays = other_commit w.clients w.nodes h q (in_flight_of w k) holds.isolated.stamped holds.requests.requests holds.requests.pending (drawn_pending w k holds.requests.requests) stays
 
 drawn_no_settled : (a c : ℕ) (by : Settled) → progress.Drawn a ≡ progress.Settled c by → ⊥
 drawn_no_settled a c by same = cc
 
 -- and so is a settled one
-pub settled_other : (w : State) (h : List Item) (k : AtDrawn w) (n s c : ℕ) (by : Settled) (i : InstanceEntry) → Holds w h → SettledAt w.nodes n s k.start c by i → ⊥
+pub settled_other : (w : State) (h : List Item) (k : AtDrawn w) (n s c : ℕ) (by : Settled) (i : InstanceEntry) → IsolationInvariant w h → SettledAt w.nodes n s k.start c by i → ⊥
 settled_other w h k n s c by i holds (at, (keys, held)) =
     let mine : Pending w.clients w.nodes (in_flight_of w k) = inl (drawn_pending w k holds.requests.requests) in
     let session : s ≡ k.session = begun_once h s k.session k.start holds.isolated.stamped (holds.requests.settled.begun n s k.start c keys by i at held) (holds.requests.pending.begun (in_flight_of w k) mine) in
@@ -136,7 +136,7 @@ settled_now w k by n s t c how_ j (at, (keys, held)) = elim (instance_changed w.
 ]
 
 -- it was begun and drawn
-pub settled_here : (w : State) (h g : List Item) (k : AtDrawn w) (by : Settled) (n s t c : ℕ) (how_ : Settled) (term : ℕ) → GoesOn h g → Holds w h → IsSettled g k.start k.commit by → IsNow w k by n s t c how_ term → SettledOne g n s term t c how_
+pub settled_here : (w : State) (h g : List Item) (k : AtDrawn w) (by : Settled) (n s t c : ℕ) (how_ : Settled) (term : ℕ) → GoesOn h g → IsolationInvariant w h → IsSettled g k.start k.commit by → IsNow w k by n s t c how_ term → SettledOne g n s term t c how_
 settled_here w h g k by n s t c how_ term on holds settled now =
     let mine : Pending w.clients w.nodes (in_flight_of w k) = inl (drawn_pending w k holds.requests.requests) in
     let one : SettledOne g k.node k.session k.i.term k.start k.commit by = record {

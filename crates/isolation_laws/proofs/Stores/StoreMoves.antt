@@ -18,7 +18,7 @@ use Rattle.isolation_laws.specs.Words.{Marked}
 use Rattle.isolation_laws.specs.Pending.{Live}
 use Rattle.isolation_laws.specs.Cells.{IsSwept, AreShadowed, CellFacts}
 use Rattle.isolation_laws.specs.UnderWay.{HasShadow}
-use Rattle.isolation_laws.specs.Holds.{Holds}
+use Rattle.isolation_laws.specs.IsolationInvariant.{IsolationInvariant}
 use Rattle.isolation_laws.proofs.OnceEach.{one_commit}
 use Rattle.isolation_laws.proofs.Owners.{live_unplaced}
 use Rattle.isolation_laws.proofs.Stores.Calm.{Calm, calm_same}
@@ -33,10 +33,10 @@ AskFits w h (ask.Remove t) = (c : ℕ) → Committed h t c → AreShadowed w.row
 AskFits w h (ask.Erase k t) = ((c : ℕ) → Committed h t c → AreShadowed w.rows h t c) × (Live w.clients w.nodes t → IsSwept w.pairs h t)
 AskFits w h _ = Unit {0}
 
-pub never_live : (w : State) (h : List Item) → Holds w h → (u d : ℕ) → Live w.clients w.nodes u → Committed h u d → ⊥
+pub never_live : (w : State) (h : List Item) → IsolationInvariant w h → (u d : ℕ) → Live w.clients w.nodes u → Committed h u d → ⊥
 never_live w h holds u d live is = live_unplaced w.clients w.nodes h u d holds.numbers.placed holds.requests.pending holds.requests.opened live is
 
-pub cells_stepped : (w : State) (h : List Item) (asked : Ask) → Holds w h → AskFits w h asked → CellFacts w.clients w.nodes (rows_after asked w.rows) (pairs_after asked w.pairs) h
+pub cells_stepped : (w : State) (h : List Item) (asked : Ask) → IsolationInvariant w h → AskFits w h asked → CellFacts w.clients w.nodes (rows_after asked w.rows) (pairs_after asked w.pairs) h
 cells_stepped w h (ask.Get t) holds fits = holds.cells
 cells_stepped w h (ask.Mark t) holds fits = cells_pairs w.clients w.nodes w.rows w.pairs _ h (marking_moves w.rows w.pairs h t) holds.cells
 cells_stepped w h (ask.Look k t) holds fits = holds.cells
@@ -55,7 +55,7 @@ keeps_more rows new h g keeps calm = record { on = calm.on; writes = λ t c k is
 pub has_shadow_set : (rows new : List Row) (j u c : ℕ) (cell : Cell) → looked new j u ≡ shadowed c (looked rows j u) → looked rows j u ≡ Some cell → HasShadow new j u c
 has_shadow_set rows new j u c cell is there = (record cell { shadow = Some c }, is ∙ ap (shadowed c) there, refl)
 
-pub keeps_shadow : (w : State) (h : List Item) (k t c : ℕ) → Holds w h → Committed h t c → KeepsPlaced w.rows (with_shadow w.rows k t c) h h
+pub keeps_shadow : (w : State) (h : List Item) (k t c : ℕ) → IsolationInvariant w h → Committed h t c → KeepsPlaced w.rows (with_shadow w.rows k t c) h h
 keeps_shadow w h k t c holds is = record {
   on = λ x m. m;
   writes = λ u d j placed. refl;
@@ -65,7 +65,7 @@ keeps_shadow w h k t c holds is = record {
   ];
 }
 
-pub keeps_erase : (w : State) (h : List Item) (k t : ℕ) → Holds w h → KeepsPlaced w.rows (without_bare w.rows k t) h h
+pub keeps_erase : (w : State) (h : List Item) (k t : ℕ) → IsolationInvariant w h → KeepsPlaced w.rows (without_bare w.rows k t) h h
 keeps_erase w h k t holds = record {
   on = λ x m. m;
   writes = λ u d j placed. refl;
@@ -75,7 +75,7 @@ keeps_erase w h k t holds = record {
   ];
 }
 
-pub keeps_stepped : (w : State) (h : List Item) (asked : Ask) → Holds w h → AskFits w h asked → KeepsPlaced w.rows (rows_after asked w.rows) h h
+pub keeps_stepped : (w : State) (h : List Item) (asked : Ask) → IsolationInvariant w h → AskFits w h asked → KeepsPlaced w.rows (rows_after asked w.rows) h h
 keeps_stepped w h (ask.Shadow k t c) holds fits = keeps_shadow w h k t c holds fits
 keeps_stepped w h (ask.Erase k t) holds fits = keeps_erase w h k t holds
 keeps_stepped w h _ holds fits = keeps_same w.rows h h (calm_same h)

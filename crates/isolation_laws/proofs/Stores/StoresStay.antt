@@ -26,7 +26,7 @@ use Rattle.machine.specs.State.{State}
 use Rattle.machine.specs.StoreSteps.{rows_after, pairs_after}
 use Rattle.isolation_laws.specs.Words.{Marked}
 use Rattle.isolation_laws.specs.UnderWay.{HasShadow, IsSweptAt}
-use Rattle.isolation_laws.specs.Holds.{Holds}
+use Rattle.isolation_laws.specs.IsolationInvariant.{IsolationInvariant}
 use Rattle.machine.specs.Outcome.OutcomesOfWork.{MayHaveMarked, CompletedOne}
 use Rattle.isolation_laws.proofs.OnceEach.{one_commit}
 
@@ -156,7 +156,7 @@ undo_fills : (h : List Item) (t : ℕ) (left : List ℕ) (asked : Ask) → first
 undo_fills h t [] asked first k u d is = absurd (none-some asked first)
 undo_fills h t (key ∷ left) asked first k u d is = absurd (erase_no_shadow key t k u d (same_Some (ask.Erase key t) asked first ∙ is))
 
-completed_fills_by : (w : State) (h : List Item) (k : CompletedOne w) (undo : Bool) → Holds w h → k.c.entry.state ≡ phase.Completing undo → FillsPlaced h k.asked
+completed_fills_by : (w : State) (h : List Item) (k : CompletedOne w) (undo : Bool) → IsolationInvariant w h → k.c.entry.state ≡ phase.Completing undo → FillsPlaced h k.asked
 completed_fills_by w h k false holds is =
     let finish = holds.under_way.finishing.finish k.session k.c (k.asked ∷ k.asks) k.client_at is k.under_way in
     finish_fills h finish.0 finish.1 finish.4.left k.asked finish.4.placed (ap first_ask (sym finish.4.shape))
@@ -165,7 +165,7 @@ completed_fills_by w h k true holds is =
     let undo = holds.under_way.undoing.undo k.session begun.0 k.c (k.asked ∷ k.asks) k.client_at is begun.1 k.under_way in
     undo_fills h begun.0 undo.left k.asked (ap first_ask (sym undo.shape))
 
-pub completed_fills : (w : State) (h : List Item) (k : CompletedOne w) → Holds w h → FillsPlaced h k.asked
+pub completed_fills : (w : State) (h : List Item) (k : CompletedOne w) → IsolationInvariant w h → FillsPlaced h k.asked
 completed_fills w h k holds = completed_fills_by w h k k.undo holds k.completing
 
 get_no_shadow : (t k u d : ℕ) (asked : Ask) → Some (ask.Get t) ≡ Some asked → asked ≡ ask.Shadow k u d → ⊥
@@ -185,5 +185,5 @@ swept_fills_at w h t (Left asks) asked (inl (c, finish)) first = finish_fills h 
 swept_fills_at w h t (Left asks) asked (inr (left, shape, marked, listed)) first = undo_fills h t left asked (ap first_ask (sym shape) ∙ first)
 swept_fills_at w h t Undecided asked knows first = λ k u d is. absurd (none-some asked first)
 
-pub swept_fills : (w : State) (h : List Item) (s : Sweeping) (asked : Ask) → Holds w h → w.sweep ≡ Some s → sweep_ask s ≡ Some asked → FillsPlaced h asked
+pub swept_fills : (w : State) (h : List Item) (s : Sweeping) (asked : Ask) → IsolationInvariant w h → w.sweep ≡ Some s → sweep_ask s ≡ Some asked → FillsPlaced h asked
 swept_fills w h s asked holds is first = swept_fills_at w h s.txn s.point asked (holds.under_way.sweeping.knows s is) first

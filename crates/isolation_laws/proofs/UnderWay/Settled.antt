@@ -17,7 +17,7 @@ use Rattle.machine.specs.State.{State}
 use Rattle.machine.specs.StoreSteps.{told_entry, told_mark, told_shadow, told_cell, told_by}
 use Rattle.isolation_laws.specs.Words.{HasRecord, cell_with}
 use Rattle.isolation_laws.specs.UnderWay.{HasShadow, IsShownAt}
-use Rattle.isolation_laws.specs.Holds.{Holds}
+use Rattle.isolation_laws.specs.IsolationInvariant.{IsolationInvariant}
 
 goes_no_decision : (p : SettlePoint) (o : Outcome) → Goes p ≡ Decides o → ⊥
 goes_no_decision p o same = cc
@@ -59,13 +59,13 @@ last_decides : (found : Option Cell) (c : ℕ) (by_table : Bool) → after_last_
 last_decides None c by_table is = absurd (dead_no_commit _ _ is)
 last_decides (Some cell) c by_table is = (cell, refl, last_shadow cell.shadow c by_table is)
 
-decided_at : (w : State) (h : List Item) (key txn c : ℕ) (may_mark by_table : Bool) (at : SettlePoint) → Holds w h → settle_turn_at may_mark at (told_by (ask_at key txn at) w.rows w.pairs) ≡ Decides (CommittedAt c by_table) → Committed h txn c
+decided_at : (w : State) (h : List Item) (key txn c : ℕ) (may_mark by_table : Bool) (at : SettlePoint) → IsolationInvariant w h → settle_turn_at may_mark at (told_by (ask_at key txn at) w.rows w.pairs) ≡ Decides (CommittedAt c by_table) → Committed h txn c
 decided_at w h key txn c may_mark by_table point.FirstLook holds is = let has = first_decides (looked w.rows key txn) c by_table is in holds.cells.rows_are.placed key txn c has.0 has.1 has.2
 decided_at w h key txn c may_mark by_table point.Table holds is = holds.cells.pairs_are.placed txn c (entry_decides (mark_of w.pairs txn) c may_mark by_table is)
 decided_at w h key txn c may_mark by_table point.Marking holds is = holds.cells.pairs_are.placed txn c (mark_decides (mark_of w.pairs txn) c by_table is)
 decided_at w h key txn c may_mark by_table (point.LastLook met) holds is = let has = last_decides (looked w.rows key txn) c by_table is in holds.cells.rows_are.placed key txn c has.0 has.1 has.2
 
-pub decided_placed : (w : State) (h : List Item) (x : Settling) (c : ℕ) (by_table : Bool) → Holds w h → settle_turn x (told_by (settle_ask x) w.rows w.pairs) ≡ Decides (CommittedAt c by_table) → Committed h x.txn c
+pub decided_placed : (w : State) (h : List Item) (x : Settling) (c : ℕ) (by_table : Bool) → IsolationInvariant w h → settle_turn x (told_by (settle_ask x) w.rows w.pairs) ≡ Decides (CommittedAt c by_table) → Committed h x.txn c
 decided_placed w h x c by_table holds is = decided_at w h x.key x.txn c x.may_mark by_table x.point holds is
 
 -- ---- a resolve goes on to its last look only where there is no record
@@ -79,7 +79,7 @@ shadow_of_write : (rows : List Row) (h : List Item) (k t c : ℕ) (value : List 
 shadow_of_write rows h k t c value is wrote = (record { version = t; value = value; shadow = Some c }, is ∙ ap (cell_with t (Some c)) wrote, refl)
 
 -- without a record a placed commit shows in each row that was written
-pub shows_without_record : (w : State) (h : List Item) (k t : ℕ) (value : List ℕ) → Holds w h → ((c : ℕ) → HasRecord w.pairs t c → ⊥) → Wrote h t k value → (c : ℕ) → Committed h t c → HasShadow w.rows k t c
+pub shows_without_record : (w : State) (h : List Item) (k t : ℕ) (value : List ℕ) → IsolationInvariant w h → ((c : ℕ) → HasRecord w.pairs t c → ⊥) → Wrote h t k value → (c : ℕ) → Committed h t c → HasShadow w.rows k t c
 shows_without_record w h k t value holds none wrote c placed = elim (holds.cells.placed.found t c placed) [
   | inl has ↦ absurd (none c has)
   | inr all ↦ shadow_of_write w.rows h k t c value (all k) wrote
@@ -117,13 +117,13 @@ last_goes : (found : Option Cell) (p : SettlePoint) → after_last_look (told_ce
 last_goes None p is = decision_goes _ p is
 last_goes (Some cell) p is = last_goes_shadow cell.shadow p is
 
-goes_shown_at : (w : State) (h : List Item) (key txn : ℕ) (value : List ℕ) (may_mark : Bool) (at p : SettlePoint) → Holds w h → Wrote h txn key value → settle_turn_at may_mark at (told_by (ask_at key txn at) w.rows w.pairs) ≡ Goes p → IsShownAt w.rows h key txn p
+goes_shown_at : (w : State) (h : List Item) (key txn : ℕ) (value : List ℕ) (may_mark : Bool) (at p : SettlePoint) → IsolationInvariant w h → Wrote h txn key value → settle_turn_at may_mark at (told_by (ask_at key txn at) w.rows w.pairs) ≡ Goes p → IsShownAt w.rows h key txn p
 goes_shown_at w h key txn value may_mark point.FirstLook p holds wrote is = subst (λ (q : SettlePoint). IsShownAt w.rows h key txn q) (first_goes (looked w.rows key txn) p is) tt
 goes_shown_at w h key txn value may_mark point.Table p holds wrote is = shown_any w.rows h key txn p (shows_without_record w h key txn value holds (entry_goes (mark_of w.pairs txn) may_mark p is) wrote)
 goes_shown_at w h key txn value may_mark point.Marking p holds wrote is = shown_any w.rows h key txn p (shows_without_record w h key txn value holds (mark_goes (mark_of w.pairs txn) p is) wrote)
 goes_shown_at w h key txn value may_mark (point.LastLook met) p holds wrote is = absurd (last_goes (looked w.rows key txn) p is)
 
-pub goes_shown : (w : State) (h : List Item) (x : Settling) (p : SettlePoint) (value : List ℕ) → Holds w h → Wrote h x.txn x.key value → settle_turn x (told_by (settle_ask x) w.rows w.pairs) ≡ Goes p → IsShownAt w.rows h x.key x.txn p
+pub goes_shown : (w : State) (h : List Item) (x : Settling) (p : SettlePoint) (value : List ℕ) → IsolationInvariant w h → Wrote h x.txn x.key value → settle_turn x (told_by (settle_ask x) w.rows w.pairs) ≡ Goes p → IsShownAt w.rows h x.key x.txn p
 goes_shown w h x p value holds wrote is = goes_shown_at w h x.key x.txn value x.may_mark x.point p holds wrote is
 
 -- ---- that there is no commit is decided at the last look alone, where no shadow shows

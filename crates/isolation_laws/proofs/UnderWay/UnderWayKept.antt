@@ -3,7 +3,7 @@ use Rattle.std.proofs.Common.{List, ◌++◌, refl}
 use Rattle.history_book.specs.declared.item.Item.{Item}
 use Rattle.machine.specs.State.{State}
 use Rattle.isolation_laws.specs.UnderWay.{UnderWayFacts}
-use Rattle.isolation_laws.specs.Holds.{Holds}
+use Rattle.isolation_laws.specs.IsolationInvariant.{IsolationInvariant}
 use Rattle.machine.specs.Outcome.Outcomes.{Outcome, OfAskedBegin, OfAskedCommit, OfPlaced, OfOwnPlaced, OfAnsweredBegin, OfWrote, OfFetched, OfReadStepped, OfSweepListed, left_by, told_by_outcome}
 use Rattle.isolation_laws.proofs.Holding.LeftAlone.{alone}
 use Rattle.isolation_laws.proofs.UnderWay.UnderWayOfRequests.{under_way_asked_begin, under_way_asked_commit, under_way_placed, under_way_answered_begin}
@@ -13,7 +13,7 @@ use Rattle.isolation_laws.proofs.UnderWay.UnderWayOfSweeps.{under_way_sweep_list
 use Rattle.isolation_laws.proofs.UnderWay.WritesKept.{under_way_wrote}
 use Rattle.isolation_laws.proofs.Numbers.Placings.{by_its_node}
 
-pub under_way_kept : (w : State) (h : List Item) (o : Outcome w) → Holds w h → UnderWayFacts (left_by w o).clients (left_by w o).sweep (left_by w o).rows (left_by w o).pairs (h ++ told_by_outcome w o)
+pub under_way_kept : (w : State) (h : List Item) (o : Outcome w) → IsolationInvariant w h → UnderWayFacts (left_by w o).clients (left_by w o).sweep (left_by w o).rows (left_by w o).pairs (h ++ told_by_outcome w o)
 under_way_kept w h (OfAskedBegin k) holds = under_way_asked_begin w h k holds
 under_way_kept w h (OfAskedCommit k) holds = under_way_asked_commit w h k holds
 under_way_kept w h (OfPlaced k) holds = under_way_placed w h (by_its_node w h k holds) k.items k.quiet holds

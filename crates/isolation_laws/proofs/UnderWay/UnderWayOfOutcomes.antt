@@ -14,7 +14,7 @@ use Rattle.machine.specs.StoreSteps.{told_by}
 use Rattle.machine.specs.Events.Step.{client_settled, own_resolve}
 use Rattle.isolation_laws.specs.Words.{written_keys}
 use Rattle.isolation_laws.specs.UnderWay.{IsShownAt, IsOwnResolve, UnderWayFacts}
-use Rattle.isolation_laws.specs.Holds.{Holds}
+use Rattle.isolation_laws.specs.IsolationInvariant.{IsolationInvariant}
 use Rattle.machine.specs.Outcome.OutcomesOfWork.{OutcomeStepped, outcome_state, OutcomeFailed, outcome_failed_state}
 use Rattle.isolation_laws.proofs.Stores.Calm.{calm_quiet}
 use Rattle.isolation_laws.proofs.Requests.WrittenKeys.{key_was_written, first_key_in}
@@ -45,7 +45,7 @@ record OwnStep (w : State) (h : List Item) (k : OutcomeStepped w) : Type 0 where
   start_is : k.it.c.entry.start ≡ Some start
   own : IsOwnResolve w.rows h start k.it.c.entry.keys k.x
 
-own_step : (w : State) (h : List Item) (k : OutcomeStepped w) → Holds w h → OwnStep w h k
+own_step : (w : State) (h : List Item) (k : OutcomeStepped w) → IsolationInvariant w h → OwnStep w h k
 own_step w h k holds = elim k.work [
   | inl busy ↦ elim ((work_of w h k.it.session k.it.c holds k.it.client_at).resolve k.it.is_open) [
     | inl none ↦ absurd (no_settling k.x (sym none ∙ busy))
@@ -76,12 +76,12 @@ works_resolving rows h c t x work is start own = record {
 }
 
 -- its first key was written
-first_written : (w : State) (h : List Item) (k : OutcomeStepped w) (step : OwnStep w h k) → Holds w h → (value : List ℕ) × Wrote h k.x.txn k.x.key value
+first_written : (w : State) (h : List Item) (k : OutcomeStepped w) (step : OwnStep w h k) → IsolationInvariant w h → (value : List ℕ) × Wrote h k.x.txn k.x.key value
 first_written w h k step holds =
     let keys : k.it.c.entry.keys ≡ written_keys h step.start = holds.requests.keys.written k.it.session step.start k.it.c k.it.client_at (inr (inr (inl k.it.is_open))) step.start_is in
     key_was_written h k.x.txn k.x.key (subst (λ q. k.x.key ∈ written_keys h q) (sym step.own.txn) (subst (λ (ks : List ℕ). k.x.key ∈ ks) keys (first_key_in k.x.key step.own.key.0 k.it.c.entry.keys step.own.key.1)))
 
-outcome_works : (w : State) (h : List Item) (k : OutcomeStepped w) (turn : SettleTurn) → Holds w h → OwnStep w h k → settle_turn k.x (told_by (settle_ask k.x) w.rows w.pairs) ≡ turn → Works w.rows h (client_settled k.it.c k.x turn)
+outcome_works : (w : State) (h : List Item) (k : OutcomeStepped w) (turn : SettleTurn) → IsolationInvariant w h → OwnStep w h k → settle_turn k.x (told_by (settle_ask k.x) w.rows w.pairs) ≡ turn → Works w.rows h (client_settled k.it.c k.x turn)
 outcome_works w h k (Goes p) holds step is =
     let wrote = first_written w h k step holds in
     works_resolving w.rows h k.it.c step.start (record k.x { point = p }) (work_of w h k.it.session k.it.c holds k.it.client_at) k.it.is_open step.start_is (record {
@@ -96,7 +96,7 @@ outcome_works w h k (Decides (outcome.Committed c by_table)) holds step is = wor
 outcome_works w h k (Decides outcome.Dead) holds step is = works_aborted w.rows h k.it.c step.start step.start_is
     (λ d placed. dead_unplaced w h k.x (subst (λ q. IsShownAt w.rows h k.x.key q k.x.point) (sym step.own.txn) step.own.shown) is d (subst (λ q. Committed h q d) (sym step.own.txn) placed))
 
-pub under_way_outcome : (w : State) (h : List Item) (k : OutcomeStepped w) → Holds w h → UnderWayFacts (outcome_state w k).clients w.sweep w.rows (outcome_state w k).pairs (h ++ k.items)
+pub under_way_outcome : (w : State) (h : List Item) (k : OutcomeStepped w) → IsolationInvariant w h → UnderWayFacts (outcome_state w k).clients w.sweep w.rows (outcome_state w k).pairs (h ++ k.items)
 under_way_outcome w h k holds =
     let turn : SettleTurn = settle_turn k.x (told_by (settle_ask k.x) w.rows w.pairs) in
     under_way_moved w h (h ++ k.items) k.it.session (client_settled k.it.c k.x turn) w.rows (outcome_state w k).pairs holds (calm_keeps w h) (λ t marked. marks_stepped (settle_ask k.x) w.pairs t marked) (calm_quiet h k.items k.quiet)
@@ -116,5 +116,5 @@ starts_over rows h c is work = record {
   heal = work.heal;
 }
 
-pub under_way_outcome_failed : (w : State) (h : List Item) (k : OutcomeFailed w) → Holds w h → UnderWayFacts (outcome_failed_state w k).clients w.sweep w.rows k.pairs (h ++ k.items)
+pub under_way_outcome_failed : (w : State) (h : List Item) (k : OutcomeFailed w) → IsolationInvariant w h → UnderWayFacts (outcome_failed_state w k).clients w.sweep w.rows k.pairs (h ++ k.items)
 under_way_outcome_failed w h k holds = under_way_moved w h (h ++ k.items) k.it.session (record k.it.c { under_way = Nothing }) w.rows k.pairs holds (calm_keeps w h) (marks_may_mark w.pairs k.pairs k.pairs_are) (calm_quiet h k.items k.quiet) (starts_over w.rows h k.it.c k.it.is_open (work_of w h k.it.session k.it.c holds k.it.client_at))

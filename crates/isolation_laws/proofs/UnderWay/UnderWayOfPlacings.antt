@@ -5,7 +5,7 @@ use Rattle.history_book.specs.declared.item.Item.{Item}
 use Rattle.system_parts.specs.declared.instance.Settled.{Settled}
 use Rattle.machine.specs.State.{State}
 use Rattle.isolation_laws.specs.UnderWay.{UnderWayFacts}
-use Rattle.isolation_laws.specs.Holds.{Holds}
+use Rattle.isolation_laws.specs.IsolationInvariant.{IsolationInvariant}
 use Rattle.isolation_laws.proofs.Owners.{pending_unplaced}
 use Rattle.machine.specs.Outcome.OutcomesOfStamps.{answered_client}
 use Rattle.machine.specs.Outcome.OutcomesOfPlacings.{AtPlacing, OwnPlaced, own_placed_state, own_placed_items, OwnNotPlaced, own_not_placed_state}
@@ -17,7 +17,7 @@ use Rattle.isolation_laws.proofs.UnderWay.ClientWorks.{works_opened, works_abort
 use Rattle.isolation_laws.proofs.UnderWay.SessionMoves.{under_way_client}
 use Rattle.isolation_laws.proofs.UnderWay.UnderWayOfRequests.{placed_works, under_way_placing}
 
-own_placed_works : (w : State) (h : List Item) (k : OwnPlaced w) → Holds w h → Works w.rows (h ++ own_placed_items w k) (answered_client k.by k.it.c k.it.commit)
+own_placed_works : (w : State) (h : List Item) (k : OwnPlaced w) → IsolationInvariant w h → Works w.rows (h ++ own_placed_items w k) (answered_client k.by k.it.c k.it.commit)
 own_placed_works w h k holds =
     let g : List Item = h ++ own_placed_items w k in
     let all : Places h g k.it.start k.it.commit = places h k.items k.it.start k.it.commit k.quiet in
@@ -27,20 +27,20 @@ own_placed_works w h k holds =
       | inr faulted ↦ subst (λ (by : Settled). Works w.rows g (answered_client by k.it.c k.it.commit)) (sym faulted) (works_opened w.rows g k.it.c)
     ]
 
-pub under_way_own_placed : (w : State) (h : List Item) (k : OwnPlaced w) → Holds w h → UnderWayFacts (own_placed_state w k).clients w.sweep w.rows (own_placed_state w k).pairs (h ++ own_placed_items w k)
+pub under_way_own_placed : (w : State) (h : List Item) (k : OwnPlaced w) → IsolationInvariant w h → UnderWayFacts (own_placed_state w k).clients w.sweep w.rows (own_placed_state w k).pairs (h ++ own_placed_items w k)
 under_way_own_placed w h k holds =
     under_way_placing w h (by_its_session w k) (own_placed_state w k).clients k.items k.quiet
     (work_set w.clients w.rows (h ++ own_placed_items w k) k.it.session (answered_client k.by k.it.c k.it.commit) (own_placed_works w h k holds) (placed_works w h (by_its_session w k) k.items k.quiet holds)) holds
 
 -- what a session is placing is not placed
-pub own_unplaced : (w : State) (h : List Item) (it : AtPlacing w) (c : ℕ) → Holds w h → Committed h it.start c → ⊥
+pub own_unplaced : (w : State) (h : List Item) (it : AtPlacing w) (c : ℕ) → IsolationInvariant w h → Committed h it.start c → ⊥
 own_unplaced w h it c holds placed = pending_unplaced w.clients w.nodes h it.start c holds.numbers.placed holds.requests.pending (record { coming = own_in_flight w it; pending = inr (own_placing w it); start_is = refl }) placed
 
-own_not_placed_works : (w : State) (h : List Item) (k : OwnNotPlaced w) → Holds w h → Works w.rows h (answered_client k.by k.it.c k.it.commit)
+own_not_placed_works : (w : State) (h : List Item) (k : OwnNotPlaced w) → IsolationInvariant w h → Works w.rows h (answered_client k.by k.it.c k.it.commit)
 own_not_placed_works w h k holds = elim k.by_is [
   | inl invalid ↦ subst (λ (by : Settled). Works w.rows h (answered_client by k.it.c k.it.commit)) (sym invalid) (works_aborted w.rows h k.it.c k.it.start k.it.start_is (λ d placed. own_unplaced w h k.it d holds placed))
   | inr faulted ↦ subst (λ (by : Settled). Works w.rows h (answered_client by k.it.c k.it.commit)) (sym faulted) (works_opened w.rows h k.it.c)
 ]
 
-pub under_way_own_not_placed : (w : State) (h : List Item) (k : OwnNotPlaced w) → Holds w h → UnderWayFacts (own_not_placed_state w k).clients w.sweep w.rows w.pairs (h ++ k.items)
+pub under_way_own_not_placed : (w : State) (h : List Item) (k : OwnNotPlaced w) → IsolationInvariant w h → UnderWayFacts (own_not_placed_state w k).clients w.sweep w.rows w.pairs (h ++ k.items)
 under_way_own_not_placed w h k holds = under_way_client w h (h ++ k.items) k.it.session (answered_client k.by k.it.c k.it.commit) holds (calm_quiet h k.items k.quiet) (own_not_placed_works w h k holds)

@@ -25,7 +25,7 @@ use Rattle.isolation_laws.specs.Pending.{Waits, Taken, IsPending}
 use Rattle.isolation_laws.specs.Requests.{WaitsFor, IsSettled}
 use Rattle.machine.specs.Quiet.{AllQuiet}
 use Rattle.isolation_laws.specs.UnderWay.{UnderWayFacts}
-use Rattle.isolation_laws.specs.Holds.{Holds}
+use Rattle.isolation_laws.specs.IsolationInvariant.{IsolationInvariant}
 use Rattle.machine.proofs.Lookups.{held_by}
 use Rattle.isolation_laws.proofs.Pushed.{last_write-quiet}
 use Rattle.isolation_laws.proofs.Owners.{NoneInFlight, not_in_flight, pending_unplaced}
@@ -47,7 +47,7 @@ loss_works : (rows : List Row) (h : List Item) (request : Request) (c : Client) 
 loss_works rows h (Begin s) c works = works_unless rows h c (client_freed c) works (λ here. works_freed rows h c)
 loss_works rows h (Commit s t keys) c works = works_unless rows h c (client_opened c) works (λ here. works_opened rows h c)
 
-crashed_works : (w : State) (h : List Item) (k : Crashed w) → Holds w h → AllWork (crashed_state w k).clients w.rows h
+crashed_works : (w : State) (h : List Item) (k : Crashed w) → IsolationInvariant w h → AllWork (crashed_state w k).clients w.rows h
 crashed_works w h k holds s c at =
     let old = crashed_at k.i.requests w.clients s c at in
     let was : Works w.rows h old.0 = work_of w h s old.0 holds old.1 in
@@ -56,21 +56,21 @@ crashed_works w h k holds s c at =
       | inr lost ↦ subst (λ (x : Client). Works w.rows h x) (sym lost.2) (loss_works w.rows h lost.0.request old.0 was)
     ]
 
-pub under_way_crashed : (w : State) (h : List Item) (k : Crashed w) → Holds w h → UnderWayFacts (crashed_state w k).clients w.sweep w.rows w.pairs (h ++ k.items)
+pub under_way_crashed : (w : State) (h : List Item) (k : Crashed w) → IsolationInvariant w h → UnderWayFacts (crashed_state w k).clients w.sweep w.rows w.pairs (h ++ k.items)
 under_way_crashed w h k holds = under_way_calm w h (h ++ k.items) (crashed_state w k).clients w.rows w.pairs holds (keeps_same w.rows h h (calm_same h)) (λ t marked. marked) (calm_quiet h k.items k.quiet) (crashed_works w h k holds)
 
 -- ---- asks
 pub calm_ask : (h : List Item) (s n : ℕ) → Calm h (h ++ AskBegin s n ∷ [])
 calm_ask h s n = calm_push h (AskBegin s n) (record { writes = λ u k. refl; placed = λ u c is. cc })
 
-pub under_way_asked_begin : (w : State) (h : List Item) (k : AskedBegin w) → Holds w h → UnderWayFacts (asked_begin_state w k).clients w.sweep w.rows w.pairs (h ++ asked_begin_items w k)
+pub under_way_asked_begin : (w : State) (h : List Item) (k : AskedBegin w) → IsolationInvariant w h → UnderWayFacts (asked_begin_state w k).clients w.sweep w.rows w.pairs (h ++ asked_begin_items w k)
 under_way_asked_begin w h k holds = under_way_client w h (h ++ asked_begin_items w k) k.session (client_asked k.c) holds (calm_ask h k.session k.node) (works_asked w.rows h k.c)
 
-pub under_way_asked_commit : (w : State) (h : List Item) (k : AskedCommit w) → Holds w h → UnderWayFacts (asked_commit_state w k).clients w.sweep w.rows w.pairs (h ++ k.items)
+pub under_way_asked_commit : (w : State) (h : List Item) (k : AskedCommit w) → IsolationInvariant w h → UnderWayFacts (asked_commit_state w k).clients w.sweep w.rows w.pairs (h ++ k.items)
 under_way_asked_commit w h k holds = under_way_client w h (h ++ k.items) k.session (client_asked k.c) holds (calm_quiet h k.items k.quiet) (works_asked w.rows h k.c)
 
 -- ---- a request is over
-own_request : (w : State) (h : List Item) (n s r t : ℕ) (keys : List ℕ) (i : InstanceEntry) (held : Held) → Holds w h → InstanceAt w.nodes n i → held_of i s ≡ Some held → held.request ≡ Commit r t keys → held.request ≡ Commit s t keys
+own_request : (w : State) (h : List Item) (n s r t : ℕ) (keys : List ℕ) (i : InstanceEntry) (held : Held) → IsolationInvariant w h → InstanceAt w.nodes n i → held_of i s ≡ Some held → held.request ≡ Commit r t keys → held.request ≡ Commit s t keys
 own_request w h n s r t keys i held holds at has is =
     let mine : session_of held.request ≡ s = holds.requests.requests.own n s i held.request held.progress at (held_by i s held has) in
     is ∙ ap (λ q. Commit q t keys) (ap session_of (sym is) ∙ mine)
@@ -83,7 +83,7 @@ refusal_works rows h (Commit s t keys) c works waits unplaced = works_unless row
 ])
 
 -- one that had drawn nothing was in flight
-ended_pending : (w : State) (h : List Item) (k : Ended w) (s t : ℕ) (keys : List ℕ) → Holds w h → k.held.request ≡ Commit s t keys → IsPending w.clients w.nodes t
+ended_pending : (w : State) (h : List Item) (k : Ended w) (s t : ℕ) (keys : List ℕ) → IsolationInvariant w h → k.held.request ≡ Commit s t keys → IsPending w.clients w.nodes t
 ended_pending w h k s t keys holds is =
     let own : k.held.request ≡ Commit k.session t keys = own_request w h k.node k.session s t keys k.i k.held holds k.at k.has is in
     elim k.undrawn [
@@ -99,7 +99,7 @@ ended_pending w h k s t keys holds is =
       }
     ]
 
-pub under_way_ended : (w : State) (h : List Item) (k : Ended w) → Holds w h → UnderWayFacts (ended_state w k).clients w.sweep w.rows w.pairs (h ++ k.items)
+pub under_way_ended : (w : State) (h : List Item) (k : Ended w) → IsolationInvariant w h → UnderWayFacts (ended_state w k).clients w.sweep w.rows w.pairs (h ++ k.items)
 under_way_ended w h k holds = under_way_client w h (h ++ k.items) k.session (after_refusal k.held.request k.c) holds (calm_quiet h k.items k.quiet)
     (refusal_works w.rows h k.held.request k.c (work_of w h k.session k.c holds k.client_at) (waits_for w h k.node k.session k.i k.held k.c holds k.at k.has k.client_at)
     (λ s t d keys is placed. pending_unplaced w.clients w.nodes h t d holds.numbers.placed holds.requests.pending (ended_pending w h k s t keys holds is) placed))
@@ -108,12 +108,12 @@ under_way_ended w h k holds = under_way_client w h (h ++ k.items) k.session (aft
 pub calm_begin : (h : List Item) (s t : ℕ) → Calm h (h ++ BeginItem s t ∷ [])
 calm_begin h s t = calm_push h (BeginItem s t) (record { writes = λ u k. refl; placed = λ u c is. cc })
 
-pub under_way_answered_begin : (w : State) (h : List Item) (k : AnsweredBegin w) → Holds w h → UnderWayFacts (answered_begin_state w k).clients w.sweep w.rows w.pairs (h ++ answered_begin_items w k)
+pub under_way_answered_begin : (w : State) (h : List Item) (k : AnsweredBegin w) → IsolationInvariant w h → UnderWayFacts (answered_begin_state w k).clients w.sweep w.rows w.pairs (h ++ answered_begin_items w k)
 under_way_answered_begin w h k holds = under_way_client w h (h ++ answered_begin_items w k) k.session (unless_gone k.c (client_begun k.c k.start k.i.epoch)) holds (calm_begin h k.session k.start)
     (works_unless w.rows h k.c (client_begun k.c k.start k.i.epoch) (work_of w h k.session k.c holds k.client_at) (λ here. works_begun w.rows h k.c k.start k.i.epoch))
 
 -- the session waits for the answer, or has vanished
-answered_works : (w : State) (h : List Item) (s t commit : ℕ) (by : Settled) (c : Client) → Holds w h → ClientAt w.clients s c → c.entry.state ≡ phase.Committing → c.entry.start ≡ Some t → IsSettled h t commit by → Works w.rows h (answered_client by c commit)
+answered_works : (w : State) (h : List Item) (s t commit : ℕ) (by : Settled) (c : Client) → IsolationInvariant w h → ClientAt w.clients s c → c.entry.state ≡ phase.Committing → c.entry.start ≡ Some t → IsSettled h t commit by → Works w.rows h (answered_client by c commit)
 answered_works w h s t commit how.Placed c holds at is start settled = works_committed w.rows h c t commit start (holds.requests.keys.written s t c at (inr (inl is)) start) settled
 answered_works w h s t commit how.Invalid c holds at is start settled = works_aborted w.rows h c t start settled
 answered_works w h s t commit how.Faulted c holds at is start settled = works_opened w.rows h c
@@ -121,7 +121,7 @@ answered_works w h s t commit how.Faulted c holds at is start settled = works_op
 waits_commit : (request : Request) (s t : ℕ) (keys : List ℕ) (c : Client) → request ≡ Commit s t keys → WaitsFor request c → (c.entry.state ≡ phase.Gone) ⊎ ((c.entry.state ≡ phase.Committing) × (c.entry.start ≡ Some t))
 waits_commit request s t keys c is waits = subst (λ (r : Request). WaitsFor r c) is waits
 
-answered_commit_works : (w : State) (h : List Item) (k : AnsweredCommit w) → Holds w h → Works w.rows h (unless_gone k.c (answered_client k.by k.c k.commit))
+answered_commit_works : (w : State) (h : List Item) (k : AnsweredCommit w) → IsolationInvariant w h → Works w.rows h (unless_gone k.c (answered_client k.by k.c k.commit))
 answered_commit_works w h k holds =
     let own : k.held.request ≡ Commit k.session k.start k.keys = own_request w h k.node k.session k.asker k.start k.keys k.i k.held holds k.at k.has k.request_is in
     let settled : IsSettled h k.start k.commit k.by = holds.requests.settled.settled k.node k.session k.start k.commit k.keys k.by k.i k.at (record { held = k.held; has = k.has; asks = own; stands = k.settled }) in
@@ -130,10 +130,10 @@ answered_commit_works w h k holds =
       | inr asked ↦ answered_works w h k.session k.start k.commit k.by k.c holds k.client_at asked.0 asked.1 settled
     ])
 
-pub under_way_answered_commit : (w : State) (h : List Item) (k : AnsweredCommit w) → Holds w h → UnderWayFacts (answered_commit_state w k).clients w.sweep w.rows w.pairs (h ++ k.items)
+pub under_way_answered_commit : (w : State) (h : List Item) (k : AnsweredCommit w) → IsolationInvariant w h → UnderWayFacts (answered_commit_state w k).clients w.sweep w.rows w.pairs (h ++ k.items)
 under_way_answered_commit w h k holds = under_way_client w h (h ++ k.items) k.session (unless_gone k.c (answered_client k.by k.c k.commit)) holds (calm_quiet h k.items k.quiet) (answered_commit_works w h k holds)
 
-pub under_way_handed : (w : State) (h : List Item) (k : HandedOver w) → Holds w h → UnderWayFacts (handed_over_state w k).clients w.sweep w.rows w.pairs (h ++ k.items)
+pub under_way_handed : (w : State) (h : List Item) (k : HandedOver w) → IsolationInvariant w h → UnderWayFacts (handed_over_state w k).clients w.sweep w.rows w.pairs (h ++ k.items)
 under_way_handed w h k holds = under_way_client w h (h ++ k.items) k.session (unless_gone k.c (client_handed k.c k.commit)) holds (calm_quiet h k.items k.quiet)
     (works_unless w.rows h k.c (client_handed k.c k.commit) (work_of w h k.session k.c holds k.client_at) (λ here. works_handed w.rows h k.c k.commit))
 
@@ -153,7 +153,7 @@ outcome_in_none : NoneInFlight phase.OpenOutcome
 outcome_in_none = record { gone = λ is. cc; committing = λ is. cc; placing = λ is. cc }
 
 -- the transaction in flight is no session's that completes, or whose outcome is open
-placed_elsewhere : (w : State) (h : List Item) (p : PlacedPending w) (s u : ℕ) (c : Client) (state : SessionState) → Holds w h → ClientAt w.clients s c → c.entry.state ≡ state → IsTrue (has_transaction state) → NoneInFlight state → c.entry.start ≡ Some u → u ≡ p.coming.start → ⊥
+placed_elsewhere : (w : State) (h : List Item) (p : PlacedPending w) (s u : ℕ) (c : Client) (state : SessionState) → IsolationInvariant w h → ClientAt w.clients s c → c.entry.state ≡ state → IsTrue (has_transaction state) → NoneInFlight state → c.entry.start ≡ Some u → u ≡ p.coming.start → ⊥
 placed_elsewhere w h p s u c state holds at is has none start same =
     let begun = start_of w h s c state holds at is has in
     let own : begun.0 ≡ p.coming.start = same_Some begun.0 u (sym begun.1 ∙ start) ∙ same in
@@ -166,7 +166,7 @@ placed_keeps w h p items quiet =
     let places_it : IsPlacing h (h ++ placed_item w p ∷ items) p.coming.start p.commit = is_placing h items p.coming.start p.commit quiet in
     record { on = places_it.on; writes = λ t c j is. places_it.writes t j; shadows = λ t c j is has. has }
 
-pub placed_works : (w : State) (h : List Item) (p : PlacedPending w) (items : List Item) → AllQuiet items → Holds w h → AllWork w.clients w.rows (h ++ placed_item w p ∷ items)
+pub placed_works : (w : State) (h : List Item) (p : PlacedPending w) (items : List Item) → AllQuiet items → IsolationInvariant w h → AllWork w.clients w.rows (h ++ placed_item w p ∷ items)
 placed_works w h p items quiet holds s c at =
     works_on w.rows w.rows h (h ++ placed_item w p ∷ items) c (placed_keeps w h p items quiet) (λ t d start is placed. elim ((is_placing h items p.coming.start p.commit quiet).placed t d placed) [
       | inl old ↦ old
@@ -176,10 +176,10 @@ placed_works w h p items quiet holds s c at =
       ]
     ]) (work_of w h s c holds at)
 
-pub under_way_placing : (w : State) (h : List Item) (p : PlacedPending w) (clients : List Client) (items : List Item) → AllQuiet items → AllWork clients w.rows (h ++ placed_item w p ∷ items) → Holds w h → UnderWayFacts clients w.sweep w.rows (placed_pairs w p) (h ++ placed_item w p ∷ items)
+pub under_way_placing : (w : State) (h : List Item) (p : PlacedPending w) (clients : List Client) (items : List Item) → AllQuiet items → AllWork clients w.rows (h ++ placed_item w p ∷ items) → IsolationInvariant w h → UnderWayFacts clients w.sweep w.rows (placed_pairs w p) (h ++ placed_item w p ∷ items)
 under_way_placing w h p clients items quiet work holds =
     under_way clients w.sweep w.rows (placed_pairs w p) (h ++ placed_item w p ∷ items) work
     (sweeping_on w.sweep w.rows w.rows w.pairs (placed_pairs w p) h (h ++ placed_item w p ∷ items) (placed_keeps w h p items quiet) (λ t marked. entry_stays-put_pair w.pairs p.coming.start t (CommittedMark p.commit) InvalidMark marked) holds.under_way.sweeping)
 
-pub under_way_placed : (w : State) (h : List Item) (p : PlacedPending w) (items : List Item) → AllQuiet items → Holds w h → UnderWayFacts w.clients w.sweep w.rows (placed_pairs w p) (h ++ placed_item w p ∷ items)
+pub under_way_placed : (w : State) (h : List Item) (p : PlacedPending w) (items : List Item) → AllQuiet items → IsolationInvariant w h → UnderWayFacts w.clients w.sweep w.rows (placed_pairs w p) (h ++ placed_item w p ∷ items)
 under_way_placed w h p items quiet holds = under_way_placing w h p w.clients items quiet (placed_works w h p items quiet holds) holds

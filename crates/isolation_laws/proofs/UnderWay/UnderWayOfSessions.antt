@@ -20,7 +20,7 @@ use Rattle.machine.specs.Clients.{client_freed, client_aborted, client_vanished}
 use Rattle.machine.specs.StoreSteps.{told_by}
 use Rattle.machine.specs.Events.Fetch.{marks_every, client_read}
 use Rattle.isolation_laws.specs.UnderWay.{UnderWayFacts}
-use Rattle.isolation_laws.specs.Holds.{Holds}
+use Rattle.isolation_laws.specs.IsolationInvariant.{IsolationInvariant}
 use Rattle.machine.specs.Outcome.OutcomesOfSessions.{EndedReadOnly, read_only_state, Aborted, aborted_state, Vanished, vanished_state, Healed, healed_state}
 use Rattle.machine.specs.Outcome.OutcomesOfWork.{Fetched, fetched_turn, fetched_client, fetched_state, fetched_items, ReadDropped, read_dropped_state, ReadStepped, read_turn, read_client, read_stepped_state, read_stepped_items}
 use Rattle.isolation_laws.proofs.Stores.Calm.{calm_same, calm_quiet, calm_turn}
@@ -34,15 +34,15 @@ pub calm_keeps : (w : State) (h : List Item) → KeepsPlaced w.rows w.rows h h
 calm_keeps w h = keeps_same w.rows h h (calm_same h)
 
 -- ---- ends
-pub under_way_read_only : (w : State) (h : List Item) (k : EndedReadOnly w) → Holds w h → UnderWayFacts (read_only_state w k).clients w.sweep w.rows w.pairs (h ++ k.items)
+pub under_way_read_only : (w : State) (h : List Item) (k : EndedReadOnly w) → IsolationInvariant w h → UnderWayFacts (read_only_state w k).clients w.sweep w.rows w.pairs (h ++ k.items)
 under_way_read_only w h k holds = under_way_client w h (h ++ k.items) k.it.session (client_freed k.it.c) holds (calm_quiet h k.items k.quiet) (works_freed w.rows h k.it.c)
 
-pub under_way_aborted : (w : State) (h : List Item) (k : Aborted w) → Holds w h → UnderWayFacts (aborted_state w k).clients w.sweep w.rows w.pairs (h ++ k.items)
+pub under_way_aborted : (w : State) (h : List Item) (k : Aborted w) → IsolationInvariant w h → UnderWayFacts (aborted_state w k).clients w.sweep w.rows w.pairs (h ++ k.items)
 under_way_aborted w h k holds =
     let start = start_of w h k.it.session k.it.c phase.Open holds k.it.client_at k.it.is_open refl in
     under_way_client w h (h ++ k.items) k.it.session (client_aborted k.it.c) holds (calm_quiet h k.items k.quiet) (works_aborted w.rows h k.it.c start.0 start.1 (unplaced_of w h k.it.session start.0 k.it.c holds k.it.client_at k.it.is_open start.1))
 
-pub under_way_vanished : (w : State) (h : List Item) (k : Vanished w) → Holds w h → UnderWayFacts (vanished_state w k).clients w.sweep w.rows w.pairs (h ++ k.items)
+pub under_way_vanished : (w : State) (h : List Item) (k : Vanished w) → IsolationInvariant w h → UnderWayFacts (vanished_state w k).clients w.sweep w.rows w.pairs (h ++ k.items)
 under_way_vanished w h k holds = under_way_client w h (h ++ k.items) k.session (client_vanished k.c) holds (calm_quiet h k.items k.quiet) (works_vanished w.rows h k.c)
 
 -- ---- an offered shadow
@@ -52,14 +52,14 @@ heals_none k t d h o none offer = absurd (none-some (k, t, d) (sym none ∙ offe
 triple_same : (a b : ℕ × ℕ × ℕ) → Some a ≡ Some b → (a.1 ≡ b.1) × (a.2 ≡ b.2)
 triple_same a b same = (ap (λ (p : ℕ × ℕ × ℕ). p.1) (same_Some a b same), ap (λ (p : ℕ × ℕ × ℕ). p.2) (same_Some a b same))
 
-pub heal_placed : (w : State) (h : List Item) (k : Healed w) → Holds w h → Committed h k.version k.commit
+pub heal_placed : (w : State) (h : List Item) (k : Healed w) → IsolationInvariant w h → Committed h k.version k.commit
 heal_placed w h k holds = holds.under_way.heals.placed k.it.session k.key k.version k.commit k.it.c k.it.client_at k.offer
 
-healed_keeps : (w : State) (h : List Item) (k : Healed w) (applied : Bool) → Holds w h → KeepsPlaced w.rows (if applied then with_shadow w.rows k.key k.version k.commit else w.rows) h h
+healed_keeps : (w : State) (h : List Item) (k : Healed w) (applied : Bool) → IsolationInvariant w h → KeepsPlaced w.rows (if applied then with_shadow w.rows k.key k.version k.commit else w.rows) h h
 healed_keeps w h k true holds = keeps_shadow w h k.key k.version k.commit holds (heal_placed w h k holds)
 healed_keeps w h k false holds = calm_keeps w h
 
-pub under_way_healed : (w : State) (h : List Item) (k : Healed w) → Holds w h → UnderWayFacts (healed_state w k).clients w.sweep (healed_state w k).rows w.pairs (h ++ k.items)
+pub under_way_healed : (w : State) (h : List Item) (k : Healed w) → IsolationInvariant w h → UnderWayFacts (healed_state w k).clients w.sweep (healed_state w k).rows w.pairs (h ++ k.items)
 under_way_healed w h k holds = under_way_moved w h (h ++ k.items) k.it.session (record k.it.c { heal = None }) (healed_state w k).rows w.pairs holds (healed_keeps w h k k.applied holds) (λ t marked. marked) (calm_quiet h k.items k.quiet)
     (works_plain (healed_state w k).rows h (record k.it.c { heal = None }) (plain_open (record k.it.c { heal = None }) k.it.is_open) (λ x busy. open_settles_none w h k.it.session k.it.c holds k.it.client_at k.it.is_open x busy) (λ j t d offer. heals_none j t d h None refl offer))
 
@@ -79,7 +79,7 @@ recalls_heal h = record {
   goes = λ cache r k any is heals. known_heals h r k;
 }
 
-pub under_way_fetched : (w : State) (h : List Item) (k : Fetched w) → Holds w h → UnderWayFacts (fetched_state w k).clients w.sweep w.rows w.pairs (h ++ fetched_items w k)
+pub under_way_fetched : (w : State) (h : List Item) (k : Fetched w) → IsolationInvariant w h → UnderWayFacts (fetched_state w k).clients w.sweep w.rows w.pairs (h ++ fetched_items w k)
 under_way_fetched w h k holds =
     let turn : ReadTurn = fetched_turn w k in
     under_way_client w h (h ++ fetched_items w k) k.it.session (client_read (fetched_client w k) turn) holds (calm_turn h k.first k.it.session k.start k.key turn k.quiet)
@@ -105,7 +105,7 @@ offered : (rows : List Row) (h : List Item) (c : Client) (heal : Option (ℕ × 
 offered rows h c heal (inl same) work k t d offer = work.heal k t d (sym same ∙ offer)
 offered rows h c heal (inr none) work k t d offer = heals_none k t d h heal none offer
 
-dropped_works : (w : State) (h : List Item) (k : ReadDropped w) → Holds w h → Works w.rows h (record k.c { under_way = k.under_way; heal = k.heal; cache = put_fresh k.c.cache })
+dropped_works : (w : State) (h : List Item) (k : ReadDropped w) → IsolationInvariant w h → Works w.rows h (record k.c { under_way = k.under_way; heal = k.heal; cache = put_fresh k.c.cache })
 dropped_works w h k holds =
     let work : Works w.rows h k.c = work_of w h k.session k.c holds k.client_at in
     elim k.under_way_is [
@@ -115,7 +115,7 @@ dropped_works w h k holds =
           works_plain w.rows h (record k.c { under_way = Nothing; heal = k.heal; cache = put_fresh k.c.cache }) (record { not_completing = plain.not_completing; not_outcome = plain.not_outcome; handed = plain.handed }) no_settling (offered w.rows h k.c k.heal k.heal_is work))
     ]
 
-pub under_way_dropped : (w : State) (h : List Item) (k : ReadDropped w) → Holds w h → UnderWayFacts (read_dropped_state w k).clients w.sweep w.rows k.pairs (h ++ k.items)
+pub under_way_dropped : (w : State) (h : List Item) (k : ReadDropped w) → IsolationInvariant w h → UnderWayFacts (read_dropped_state w k).clients w.sweep w.rows k.pairs (h ++ k.items)
 under_way_dropped w h k holds = under_way_moved w h (h ++ k.items) k.session (record k.c { under_way = k.under_way; heal = k.heal; cache = put_fresh k.c.cache }) w.rows k.pairs holds (calm_keeps w h) (marks_may_mark w.pairs k.pairs k.pairs_are) (calm_quiet h k.items k.quiet) (dropped_works w h k holds)
 
 -- the shadow that is offered is the table's commit
@@ -125,7 +125,7 @@ found_heals h r c true placed = λ k t d offer.
     subst (λ q. Committed h q d) parts.0 (subst (λ q. Committed h r.cell.version q) parts.1 (placed refl))
 found_heals h r c false placed = λ k t d offer. heals_none k t d h None refl offer
 
-turn_heals : (w : State) (h : List Item) (r : Reading) (turn : SettleTurn) → Holds w h → settle_turn (settling_of r) (told_by (read_ask r) w.rows w.pairs) ≡ turn → TurnHeals h (read_by r turn)
+turn_heals : (w : State) (h : List Item) (r : Reading) (turn : SettleTurn) → IsolationInvariant w h → settle_turn (settling_of r) (told_by (read_ask r) w.rows w.pairs) ≡ turn → TurnHeals h (read_by r turn)
 turn_heals w h r (Goes p) holds is = tt
 turn_heals w h r (Decides outcome.Dead) holds is = read_over_heals h r.every r.key r.start r.epoch r.older
 turn_heals w h r (Decides (outcome.Committed c by_table)) holds is = elim (cases_Bool (nat_lt c r.start)) [
@@ -133,7 +133,7 @@ turn_heals w h r (Decides (outcome.Committed c by_table)) holds is = elim (cases
   | inr late ↦ rw late (read_over_heals h r.every r.key r.start r.epoch r.older)
 ]
 
-pub under_way_read : (w : State) (h : List Item) (k : ReadStepped w) → Holds w h → UnderWayFacts (read_stepped_state w k).clients w.sweep w.rows (read_stepped_state w k).pairs (h ++ read_stepped_items w k)
+pub under_way_read : (w : State) (h : List Item) (k : ReadStepped w) → IsolationInvariant w h → UnderWayFacts (read_stepped_state w k).clients w.sweep w.rows (read_stepped_state w k).pairs (h ++ read_stepped_items w k)
 under_way_read w h k holds =
     let turn : ReadTurn = read_turn w k in
     let told : Told = told_by (read_ask k.r) w.rows w.pairs in

@@ -24,7 +24,7 @@ use Rattle.machine.specs.State.{State}
 use Rattle.machine.specs.StoreSteps.{rows_after, pairs_after, told_entry, told_mark, told_by}
 use Rattle.machine.specs.Events.SweepStep.{still_open, sweep_left}
 use Rattle.isolation_laws.specs.UnderWay.{IsSweptAt, IsSweeping, UnderWayFacts}
-use Rattle.isolation_laws.specs.Holds.{Holds}
+use Rattle.isolation_laws.specs.IsolationInvariant.{IsolationInvariant}
 use Rattle.machine.specs.Outcome.OutcomesOfSweeps.{SweepOpened, sweep_opened_state, SweptOne, swept_state, SweepListed, sweep_listed_state, sweep_listed_items, SweepFailed, sweep_failed_state}
 use Rattle.isolation_laws.proofs.Stores.Calm.{Calm, calm_same, calm_quiet, calm_push}
 use Rattle.isolation_laws.proofs.UnderWay.Works.{AllWork, all_work, under_way, KeepsPlaced, swept_at_on, sweeping_none, work_on}
@@ -39,7 +39,7 @@ opened_knows rows pairs h txn epoch = record {
   knows = λ s is. subst (λ (x : Sweeping). IsSweptAt rows pairs h x.txn x.point) (same_Some (sweep_open txn epoch) s is) tt;
 }
 
-pub under_way_sweep_opened : (w : State) (h : List Item) (k : SweepOpened w) → Holds w h → UnderWayFacts w.clients (sweep_opened_state w k).sweep w.rows w.pairs (h ++ [])
+pub under_way_sweep_opened : (w : State) (h : List Item) (k : SweepOpened w) → IsolationInvariant w h → UnderWayFacts w.clients (sweep_opened_state w k).sweep w.rows w.pairs (h ++ [])
 under_way_sweep_opened w h k holds = subst (λ (g : List Item). UnderWayFacts w.clients (sweep_opened_state w k).sweep w.rows w.pairs g) (sym (append-nil h))
     (under_way w.clients (sweep_opened_state w k).sweep w.rows w.pairs h (all_work w.clients w.sweep w.rows w.pairs h holds.under_way) (opened_knows w.rows w.pairs h k.txn k.epoch))
 
@@ -52,7 +52,7 @@ left_is : (s t : Sweeping) → sweep_left s ≡ Some t → (s ≡ t) × ((a : As
 left_is s t is = still_open_is s t (sweep_ask s) is
 
 -- ---- a step
-after_table_knows : (w : State) (h : List Item) (txn epoch : ℕ) (found : Option Mark) → Holds w h → mark_of w.pairs txn ≡ found → IsSweptAt w.rows w.pairs h txn (sweep_after_table txn epoch (told_entry found))
+after_table_knows : (w : State) (h : List Item) (txn epoch : ℕ) (found : Option Mark) → IsolationInvariant w h → mark_of w.pairs txn ≡ found → IsSweptAt w.rows w.pairs h txn (sweep_after_table txn epoch (told_entry found))
 after_table_knows w h txn epoch None holds e = elim (cases_Bool (nat_lt epoch txn)) [
   | inl above ↦ rw above tt
   | inr below ↦ rw below tt
@@ -60,7 +60,7 @@ after_table_knows w h txn epoch None holds e = elim (cases_Bool (nat_lt epoch tx
 after_table_knows w h txn epoch (Some InvalidMark) holds e = e
 after_table_knows w h txn epoch (Some (CommittedMark c)) holds e = holds.cells.pairs_are.placed txn c e
 
-after_marking_knows : (w : State) (h : List Item) (txn : ℕ) (found : Option Mark) → Holds w h → mark_of w.pairs txn ≡ found → IsSweptAt w.rows (put_pair w.pairs txn InvalidMark) h txn (sweep_after_marking (told_mark found))
+after_marking_knows : (w : State) (h : List Item) (txn : ℕ) (found : Option Mark) → IsolationInvariant w h → mark_of w.pairs txn ≡ found → IsSweptAt w.rows (put_pair w.pairs txn InvalidMark) h txn (sweep_after_marking (told_mark found))
 after_marking_knows w h txn None holds e = mark_of-put_pair w.pairs txn InvalidMark ∙ ap (λ o. Some (entry_or o InvalidMark)) e
 after_marking_knows w h txn (Some InvalidMark) holds e = mark_of-put_pair w.pairs txn InvalidMark ∙ ap (λ o. Some (entry_or o InvalidMark)) e
 after_marking_knows w h txn (Some (CommittedMark c)) holds e = holds.cells.pairs_are.placed txn c e
@@ -73,7 +73,7 @@ no_first : (asks : List Ask) (a : Ask) → asks ≡ [] → first_ask asks ≡ So
 no_first [] a none is = none-some a is
 no_first (x ∷ asks) a none is = cc
 
-left_knows : (w : State) (h : List Item) (txn : ℕ) (asked : Ask) (rest : List Ask) (a : Ask) → Holds w h → first_ask rest ≡ Some a → IsSweptAt w.rows w.pairs h txn (Left (asked ∷ rest)) → Knows w h txn (Left rest) asked
+left_knows : (w : State) (h : List Item) (txn : ℕ) (asked : Ask) (rest : List Ask) (a : Ask) → IsolationInvariant w h → first_ask rest ≡ Some a → IsSweptAt w.rows w.pairs h txn (Left (asked ∷ rest)) → Knows w h txn (Left rest) asked
 left_knows w h txn asked rest a holds more (inl finish) = elim (finish_next w h txn finish.0 asked rest holds finish.1) [
   | inl none ↦ absurd (no_first rest a none more)
   | inr next ↦ inl (finish.0, next)
@@ -85,7 +85,7 @@ left_knows w h txn asked rest a holds more (inr undo) =
 ask_is : (a b : Ask) → Some a ≡ Some b → a ≡ b
 ask_is a b same = same_Some a b same
 
-step_knows : (w : State) (h : List Item) (txn epoch : ℕ) (at : SweepPoint) (asked next : Ask) → Holds w h → sweep_ask_at txn at ≡ Some asked → ((u : ℕ) → asked ≡ ask.Keys u → ⊥) → IsSweptAt w.rows w.pairs h txn at → sweep_ask_at txn (sweep_point_after txn epoch at (told_by asked w.rows w.pairs)) ≡ Some next → Knows w h txn (sweep_point_after txn epoch at (told_by asked w.rows w.pairs)) asked
+step_knows : (w : State) (h : List Item) (txn epoch : ℕ) (at : SweepPoint) (asked next : Ask) → IsolationInvariant w h → sweep_ask_at txn at ≡ Some asked → ((u : ℕ) → asked ≡ ask.Keys u → ⊥) → IsSweptAt w.rows w.pairs h txn at → sweep_ask_at txn (sweep_point_after txn epoch at (told_by asked w.rows w.pairs)) ≡ Some next → Knows w h txn (sweep_point_after txn epoch at (told_by asked w.rows w.pairs)) asked
 step_knows w h txn epoch Table asked next holds is no_list knows more = subst (λ (a : Ask). Knows w h txn (sweep_after_table txn epoch (told_by a w.rows w.pairs)) a) (ask_is (ask.Get txn) asked is) (after_table_knows w h txn epoch (mark_of w.pairs txn) holds refl)
 step_knows w h txn epoch Marking asked next holds is no_list knows more = subst (λ (a : Ask). Knows w h txn (sweep_after_marking (told_by a w.rows w.pairs)) a) (ask_is (ask.Mark txn) asked is) (after_marking_knows w h txn (mark_of w.pairs txn) holds refl)
 step_knows w h txn epoch (Listing found) asked next holds is no_list knows more = absurd (no_list txn (sym (ask_is (ask.Keys txn) asked is)))
@@ -95,7 +95,7 @@ step_knows w h txn epoch (Left (a ∷ rest)) asked next holds is no_list knows m
     subst (λ (x : Ask). Knows w h txn (Left rest) x) same (left_knows w h txn a rest next holds more knows)
 step_knows w h txn epoch Undecided asked next holds is no_list knows more = absurd (none-some asked is)
 
-swept_sweeping : (w : State) (h : List Item) (k : SweptOne w) → Holds w h → IsSweeping (swept_state w k).sweep (swept_state w k).rows (swept_state w k).pairs h
+swept_sweeping : (w : State) (h : List Item) (k : SweptOne w) → IsolationInvariant w h → IsSweeping (swept_state w k).sweep (swept_state w k).rows (swept_state w k).pairs h
 swept_sweeping w h k holds = record {
   knows = λ t is.
       let left = left_is (sweep_told k.s (told_by k.asked w.rows w.pairs)) t is in
@@ -109,17 +109,17 @@ quiet_sweeping sweep rows pairs h g calm sweeping = record {
 }
 
 -- all clients work on beside a sweep
-beside : (w : State) (h g : List Item) (rows : List Row) → Holds w h → KeepsPlaced w.rows rows h h → Calm h g → AllWork w.clients rows g
+beside : (w : State) (h g : List Item) (rows : List Row) → IsolationInvariant w h → KeepsPlaced w.rows rows h h → Calm h g → AllWork w.clients rows g
 beside w h g rows holds keeps calm = work_on w.clients rows rows h g (keeps_same rows h g calm) calm.placed (work_kept w h rows holds keeps)
 
-pub under_way_swept : (w : State) (h : List Item) (k : SweptOne w) → Holds w h → UnderWayFacts w.clients (swept_state w k).sweep (swept_state w k).rows (swept_state w k).pairs (h ++ k.items)
+pub under_way_swept : (w : State) (h : List Item) (k : SweptOne w) → IsolationInvariant w h → UnderWayFacts w.clients (swept_state w k).sweep (swept_state w k).rows (swept_state w k).pairs (h ++ k.items)
 under_way_swept w h k holds =
     let fits : AskFits w h k.asked = sweep_fits w h k.s k.asked holds k.is_open k.asks in
     under_way w.clients (swept_state w k).sweep (swept_state w k).rows (swept_state w k).pairs (h ++ k.items)
     (beside w h (h ++ k.items) (swept_state w k).rows holds (keeps_stepped w h k.asked holds fits) (calm_quiet h k.items k.quiet))
     (quiet_sweeping (swept_state w k).sweep (swept_state w k).rows (swept_state w k).pairs h (h ++ k.items) (calm_quiet h k.items k.quiet) (swept_sweeping w h k holds))
 
-pub under_way_sweep_failed : (w : State) (h : List Item) (k : SweepFailed w) → Holds w h → UnderWayFacts w.clients None (sweep_failed_state w k).rows (sweep_failed_state w k).pairs (h ++ k.items)
+pub under_way_sweep_failed : (w : State) (h : List Item) (k : SweepFailed w) → IsolationInvariant w h → UnderWayFacts w.clients None (sweep_failed_state w k).rows (sweep_failed_state w k).pairs (h ++ k.items)
 under_way_sweep_failed w h k holds =
     let fits : AskFits w h k.asked = sweep_fits w h k.s k.asked holds k.is_open k.asks in
     under_way w.clients None (sweep_failed_state w k).rows (sweep_failed_state w k).pairs (h ++ k.items)
@@ -146,7 +146,7 @@ calm_listing h txn count = calm_push h (Step Janitor (KeysStep txn count)) (reco
 keys_same : (t u : ℕ) → Some (ask.Keys t) ≡ Some (ask.Keys u) → t ≡ u
 keys_same t u same = let asks = ask_is (ask.Keys t) (ask.Keys u) same in cc
 
-listed_knows : (w : State) (h : List Item) (txn listed count : ℕ) (at : SweepPoint) → Holds w h → sweep_ask_at txn at ≡ Some (ask.Keys listed) → IsSweptAt w.rows w.pairs h txn at → IsSweptAt w.rows w.pairs (h ++ Step Janitor (KeysStep listed count) ∷ []) txn (sweep_point_listed txn at (keys_of_version w.rows listed))
+listed_knows : (w : State) (h : List Item) (txn listed count : ℕ) (at : SweepPoint) → IsolationInvariant w h → sweep_ask_at txn at ≡ Some (ask.Keys listed) → IsSweptAt w.rows w.pairs h txn at → IsSweptAt w.rows w.pairs (h ++ Step Janitor (KeysStep listed count) ∷ []) txn (sweep_point_listed txn at (keys_of_version w.rows listed))
 listed_knows w h txn listed count Table holds is knows = tt
 listed_knows w h txn listed count Marking holds is knows = tt
 listed_knows w h txn listed count (Listing (CommittedMark c)) holds is knows =
@@ -166,7 +166,7 @@ listed_knows w h txn listed count (Listing InvalidMark) holds is knows = inr (ke
 listed_knows w h txn listed count (Left asks) holds is knows = swept_at_on w.rows w.rows w.pairs w.pairs h (h ++ Step Janitor (KeysStep listed count) ∷ []) txn (Left asks) (keeps_same w.rows h (h ++ Step Janitor (KeysStep listed count) ∷ []) (calm_listing h listed count)) (λ marked. marked) knows
 listed_knows w h txn listed count Undecided holds is knows = tt
 
-pub under_way_sweep_listed : (w : State) (h : List Item) (k : SweepListed w) → Holds w h → UnderWayFacts w.clients (sweep_listed_state w k).sweep w.rows w.pairs (h ++ sweep_listed_items w k)
+pub under_way_sweep_listed : (w : State) (h : List Item) (k : SweepListed w) → IsolationInvariant w h → UnderWayFacts w.clients (sweep_listed_state w k).sweep w.rows w.pairs (h ++ sweep_listed_items w k)
 under_way_sweep_listed w h k holds =
     let g : List Item = h ++ sweep_listed_items w k in
     under_way w.clients (sweep_listed_state w k).sweep w.rows w.pairs g

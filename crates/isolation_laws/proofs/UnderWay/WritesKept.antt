@@ -14,7 +14,7 @@ use Rattle.isolation_laws.specs.Words.{cell_with}
 use Rattle.isolation_laws.specs.Pending.{Live}
 use Rattle.isolation_laws.specs.Cells.{CellFacts}
 use Rattle.isolation_laws.specs.UnderWay.{UnderWayFacts}
-use Rattle.isolation_laws.specs.Holds.{Holds}
+use Rattle.isolation_laws.specs.IsolationInvariant.{IsolationInvariant}
 use Rattle.machine.proofs.Lookups.{client_set}
 use Rattle.isolation_laws.proofs.OnceEach.{begun_once}
 use Rattle.isolation_laws.proofs.Owners.{open_not_pending}
@@ -39,7 +39,7 @@ bare_cell_of : (t : ℕ) (value : Option (List ℕ)) (cell : Cell) → Some cell
 bare_cell_of t None cell is = absurd (none-some cell (sym is))
 bare_cell_of t (Some v) cell is = ap (λ (x : Cell). x.shadow) (same_Some _ _ is)
 
-pub bare_row_of : (w : State) (h : List Item) (it : AtOpen w) (t k : ℕ) → Holds w h → it.c.entry.start ≡ Some t → (cell : Cell) → looked w.rows k t ≡ Some cell → cell.shadow ≡ None
+pub bare_row_of : (w : State) (h : List Item) (it : AtOpen w) (t k : ℕ) → IsolationInvariant w h → it.c.entry.start ≡ Some t → (cell : Cell) → looked w.rows k t ≡ Some cell → cell.shadow ≡ None
 bare_row_of w h it t k holds start cell found = elim (holds.cells.live.bare t k (inl (open_is w it.session t it.c it.client_at it.is_open start))) [
   | inl bare ↦ bare_cell_of t (last_write h t k) cell (sym found ∙ bare)
   | inr gone ↦ absurd (none-some cell (sym gone.0 ∙ found))
@@ -64,7 +64,7 @@ wrote_is w h k = record {
   others = λ u j other. last_write-elsewhere h k.it.session k.start k.key u j k.value other;
 }
 
-pub cells_wrote : (w : State) (h : List Item) (k : WroteOne w) → Holds w h → CellFacts (wrote_state w k).clients w.nodes (wrote_state w k).rows w.pairs (h ++ wrote_items w k)
+pub cells_wrote : (w : State) (h : List Item) (k : WroteOne w) → IsolationInvariant w h → CellFacts (wrote_state w k).clients w.nodes (wrote_state w k).rows w.pairs (h ++ wrote_items w k)
 cells_wrote w h k holds = cells_put w.clients (wrote_state w k).clients w.nodes w.nodes w.rows w.pairs h (h ++ wrote_items w k) k.it.session k.key k.start k.value
     (live_by_clients w.clients (wrote_state w k).clients w.nodes (at_work_wrote w k))
     (wrote_is w h k)
@@ -74,7 +74,7 @@ cells_wrote w h k holds = cells_put w.clients (wrote_state w k).clients w.nodes 
     (λ live. last_write-own h k.it.session k.start k.key k.value)
     holds.cells
 
-pub under_way_wrote : (w : State) (h : List Item) (k : WroteOne w) → Holds w h → UnderWayFacts (wrote_state w k).clients w.sweep (wrote_state w k).rows w.pairs (h ++ wrote_items w k)
+pub under_way_wrote : (w : State) (h : List Item) (k : WroteOne w) → IsolationInvariant w h → UnderWayFacts (wrote_state w k).clients w.sweep (wrote_state w k).rows w.pairs (h ++ wrote_items w k)
 under_way_wrote w h k holds =
     let g : List Item = h ++ wrote_items w k in
     let writes : IsWrite h g k.key k.start = wrote_is w h k in
@@ -89,7 +89,7 @@ under_way_wrote w h k holds =
 unwritten : (h : List Item) (k t : ℕ) → IsWrite h h k t
 unwritten h k t = record { on = λ x m. m; placed = λ u c placed. placed; others = λ u j other. refl }
 
-failed_not_live : (w : State) (h : List Item) (k : WriteFailed w) → Holds w h → Live (write_failed_state w k).clients w.nodes k.start → ⊥
+failed_not_live : (w : State) (h : List Item) (k : WriteFailed w) → IsolationInvariant w h → Live (write_failed_state w k).clients w.nodes k.start → ⊥
 failed_not_live w h k holds (inl o) =
     let was = (at_work_after w (OfWriteFailed k) refl).opened o.session k.start o.epoch o.open_at in
     let session : o.session ≡ k.it.session = begun_once h o.session k.it.session k.start holds.isolated.stamped (begun_by w h o.session k.start was.client holds was.at was.state_is was.start_is) (begun_by w h k.it.session k.start k.it.c holds k.it.client_at k.it.is_open k.start_is) in
@@ -100,7 +100,7 @@ failed_not_live w h k holds (inl o) =
 failed_not_live w h k holds (inr p) = open_not_pending w.nodes w.clients h k.it.session k.start _ holds.isolated.stamped holds.requests.requests holds.requests.pending (begun_by w h k.it.session k.start k.it.c holds k.it.client_at k.it.is_open k.start_is) (opens w k.it.session k.start k.it.c k.it.client_at k.it.is_open k.start_is)
     (fewer_is_pending w.clients (write_failed_state w k).clients w.nodes w.nodes k.start (fewer_pending w.clients (write_failed_state w k).clients w.nodes w.nodes (at_work_after w (OfWriteFailed k) refl).placing (same_served w.nodes)) p)
 
-failed_cells : (w : State) (h : List Item) (k : WriteFailed w) (rows : List Row) → (rows ≡ w.rows) ⊎ (rows ≡ put_row w.rows k.key k.start k.value) → Holds w h → CellFacts (write_failed_state w k).clients w.nodes rows w.pairs h
+failed_cells : (w : State) (h : List Item) (k : WriteFailed w) (rows : List Row) → (rows ≡ w.rows) ⊎ (rows ≡ put_row w.rows k.key k.start k.value) → IsolationInvariant w h → CellFacts (write_failed_state w k).clients w.nodes rows w.pairs h
 failed_cells w h k rows (inl same) holds = subst (λ (rs : List Row). CellFacts (write_failed_state w k).clients w.nodes rs w.pairs h) (sym same)
     (cells_calm w.clients (write_failed_state w k).clients w.nodes w.nodes w.rows w.pairs h h (λ t live. inl (live_by_clients w.clients (write_failed_state w k).clients w.nodes (at_work_after w (OfWriteFailed k) refl) t live)) (calm_same h) holds.cells)
 failed_cells w h k rows (inr put) holds = subst (λ (rs : List Row). CellFacts (write_failed_state w k).clients w.nodes rs w.pairs h) (sym put)
@@ -113,13 +113,13 @@ failed_cells w h k rows (inr put) holds = subst (λ (rs : List Row). CellFacts (
     (λ live. absurd (failed_not_live w h k holds live))
     holds.cells)
 
-pub cells_write_failed : (w : State) (h : List Item) (k : WriteFailed w) → Holds w h → CellFacts (write_failed_state w k).clients w.nodes k.rows w.pairs (h ++ k.items)
+pub cells_write_failed : (w : State) (h : List Item) (k : WriteFailed w) → IsolationInvariant w h → CellFacts (write_failed_state w k).clients w.nodes k.rows w.pairs (h ++ k.items)
 cells_write_failed w h k holds = cells_calm (write_failed_state w k).clients (write_failed_state w k).clients w.nodes w.nodes k.rows w.pairs h (h ++ k.items) (λ t live. inl live) (calm_quiet h k.items k.quiet) (failed_cells w h k k.rows k.rows_are holds)
 
-failed_keeps : (w : State) (h : List Item) (k : WriteFailed w) (rows : List Row) → (rows ≡ w.rows) ⊎ (rows ≡ put_row w.rows k.key k.start k.value) → Holds w h → KeepsPlaced w.rows rows h h
+failed_keeps : (w : State) (h : List Item) (k : WriteFailed w) (rows : List Row) → (rows ≡ w.rows) ⊎ (rows ≡ put_row w.rows k.key k.start k.value) → IsolationInvariant w h → KeepsPlaced w.rows rows h h
 failed_keeps w h k rows (inl same) holds = subst (λ (rs : List Row). KeepsPlaced w.rows rs h h) (sym same) (keeps_same w.rows h h (calm_same h))
 failed_keeps w h k rows (inr put) holds = subst (λ (rs : List Row). KeepsPlaced w.rows rs h h) (sym put) (keeps_put w h h k.key k.start k.value (unwritten h k.key k.start) (unplaced_of w h k.it.session k.start k.it.c holds k.it.client_at k.it.is_open k.start_is) (bare_row_of w h k.it k.start k.key holds k.start_is))
 
-pub under_way_write_failed : (w : State) (h : List Item) (k : WriteFailed w) → Holds w h → UnderWayFacts (write_failed_state w k).clients w.sweep k.rows w.pairs (h ++ k.items)
+pub under_way_write_failed : (w : State) (h : List Item) (k : WriteFailed w) → IsolationInvariant w h → UnderWayFacts (write_failed_state w k).clients w.sweep k.rows w.pairs (h ++ k.items)
 under_way_write_failed w h k holds = under_way_moved w h (h ++ k.items) k.it.session (client_aborted (client_wrote k.it.c k.key)) k.rows w.pairs holds (failed_keeps w h k k.rows k.rows_are holds) (λ t marked. marked) (calm_quiet h k.items k.quiet)
     (works_aborted k.rows h (client_wrote k.it.c k.key) k.start k.start_is (unplaced_of w h k.it.session k.start k.it.c holds k.it.client_at k.it.is_open k.start_is))

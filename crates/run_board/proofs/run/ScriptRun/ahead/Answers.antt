@@ -1,6 +1,6 @@
 use Rattle.std.proofs.Common.{◌≡◌, subst, sym, ap, ◌∙◌}
 use Rattle.std.specs.Prelude.{IfSome}
-use Rattle.turn_rules.specs.declared.ahead.Ahead.TheVariants.{Passes}
+use Rattle.turn_rules.specs.declared.ahead.NextAction.TheVariants.{Passes}
 use Rattle.turn_rules.specs.Carried.{ahead_at, own_ahead}
 use Rattle.command_semantics.specs.Clocks.{HaveRoom}
 use Rattle.session_script.specs.Script.{data_of}

@@ -1,11 +1,11 @@
 use Rattle.std.proofs.Common.{◌≡◌, ◌∙◌, ap}
-use Rattle.cluster_core.specs.Whole.{Whole}
+use Rattle.cluster_core.specs.ClusterModel.{ClusterModel}
 use Rattle.turn_rules.specs.Carried.{carried_items}
 use Rattle.run_board.specs.Run.{Ran, reached_by}
 use Rattle.run_board.proofs.run.ScriptRun.into_parts.Goals as goal
 
 pub returns-clause-history : goal.returns-clause-history
-returns-clause-history c = ap (λ (w : Whole). w.history) c.into_cluster.ensures ∙ c.self.invariant.0.history ∙ ap (λ (r : Ran). carried_items r.script r.turns) c.self.view_is
+returns-clause-history c = ap (λ (w : ClusterModel). w.history) c.into_cluster.ensures ∙ c.self.invariant.0.history ∙ ap (λ (r : Ran). carried_items r.script r.turns) c.self.view_is
 
 pub returns-clause-state : goal.returns-clause-state
-returns-clause-state c = ap (λ (w : Whole). w.state) c.into_cluster.ensures ∙ c.self.invariant.0.state ∙ ap (λ (r : Ran). (reached_by r).played.state) c.self.view_is
+returns-clause-state c = ap (λ (w : ClusterModel). w.state) c.into_cluster.ensures ∙ c.self.invariant.0.state ∙ ap (λ (r : Ran). (reached_by r).played.state) c.self.view_is

@@ -7,7 +7,7 @@ use Rattle.port_io.specs.contracts.planned.PlannedWeatherWeather.TheImpl.{ahead-
 use Rattle.history_book.specs.declared.item.Item.{Item}
 use Rattle.machine.specs.declared.event.Event.{Event}
 use Rattle.session_script.specs.Script.{data_of}
-use Rattle.command_semantics.specs.declared.point.Halt.{Halt}
+use Rattle.command_semantics.specs.declared.point.Interruption.{Interruption}
 use Rattle.planned_cluster.specs.declared.planned.PlannedCluster.{PlannedCluster}
 use Rattle.planned_cluster.specs.Standing.{StandsAt, clocks_at}
 use Rattle.turn_rules.specs.declared.turn.Turn.{Turn}
@@ -56,7 +56,7 @@ abbrev kept_of : Inside → Kept
 kept_of s = kept_at s s.planned
 
 -- the call, of the history before it and the cluster after it
-abbrev call_of : Turn → Event → Result Unit Stopped → Option Halt → List Item → PlannedCluster → Call
+abbrev call_of : Turn → Event → Result Unit Stopped → Option Interruption → List Item → PlannedCluster → Call
 call_of t e answer stop history planned = record {
   turn = t;
   event = e;
