@@ -10,6 +10,6 @@ pub mod Begins
 pub mod Reads
 pub mod Known
 pub mod Bare
-pub mod Holds
+pub mod IsolationInvariant
 pub mod Sound
 pub mod Laws

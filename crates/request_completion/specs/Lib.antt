@@ -2,6 +2,6 @@ pub mod Closings
 pub mod Silences
 pub mod Overs
 pub mod Completions
-pub mod Turns
+pub mod SessionTransitions
 pub mod Ends
 pub mod Laws
