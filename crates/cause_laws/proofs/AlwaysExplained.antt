@@ -15,7 +15,7 @@ use Rattle.isolation_laws.specs.Sound.{ReachedInvariant}
 use Rattle.isolation_laws.proofs.AlwaysHolds.{dues, facts_stay, steady_stays, steady_now, stands_at_first, setup_after}
 use Rattle.cause_laws.specs.Requests.{AreAsked, AreFaulted, ArePutByNodes, AreOpenAsks}
 use Rattle.cause_laws.specs.Nodes.{AreTaken, AreVacant, AreShownStops, AreLasts}
-use Rattle.cause_laws.specs.ShownInvariant.{ShownInvariant, Tells}
+use Rattle.cause_laws.specs.ShownInvariant.{ShownInvariant, ExplainedInvariant}
 use Rattle.cause_laws.proofs.NodeTransitions.{NodeTransitionOf, nodes_by, items_by}
 use Rattle.cause_laws.proofs.NodeTransitionsDone.{deed_of}
 use Rattle.cause_laws.proofs.AsksKept.{asked_kept, faulted_kept, put_kept}

@@ -16,7 +16,7 @@ use Rattle.isolation_laws.specs.IsolationInvariant.{IsolationInvariant}
 use Rattle.isolation_laws.specs.Sound.{ReachedInvariant}
 use Rattle.machine.specs.Outcome.Outcomes.{Outcome, OfGranted, OfRenewed, OfExtended, left_by}
 use Rattle.isolation_laws.proofs.AlwaysHolds.{each_outcome}
-use Rattle.cause_laws.specs.ShownInvariant.{Tells}
+use Rattle.cause_laws.specs.ShownInvariant.{ExplainedInvariant}
 use Rattle.cause_laws.specs.Bounds.{IsBounded, Bounded}
 use Rattle.cause_laws.proofs.RecordBounds.{bounded_taken, bounded_renewed, bounded_extended, has_room}
 

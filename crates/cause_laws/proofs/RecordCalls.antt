@@ -6,7 +6,7 @@ use Rattle.history_book.specs.declared.item.Item.{Item}
 use Rattle.system_parts.specs.Instance.{InstanceEntry}
 use Rattle.machine.specs.State.{State}
 use Rattle.machine.specs.Events.Take.{rules_of}
-use Rattle.cause_laws.specs.ShownInvariant.{Tells}
+use Rattle.cause_laws.specs.ShownInvariant.{ExplainedInvariant}
 use Rattle.cause_laws.specs.RequestCalls.{PostAt}
 use Rattle.cause_laws.specs.Bounds.{Bounded, PartsAreCounted, TakeMayBeMade, RenewalMayBeMade, CanExtend, ExtensionMayBeMade, DrawMayBeMade}
 use Rattle.cause_laws.proofs.RecordBounds.{take_room, extension_room}

@@ -24,7 +24,7 @@ use Rattle.machine.specs.Outcome.Outcomes.{AtDrawn}
 use Rattle.isolation_laws.proofs.Numbers.NumbersKept.{in_flight_of, drawn_pending}
 use Rattle.isolation_laws.proofs.Owners.{pending_unplaced}
 use Rattle.machine.proofs.Inversions.InversionOfSessions.{work_open}
-use Rattle.cause_laws.specs.ShownInvariant.{Tells}
+use Rattle.cause_laws.specs.ShownInvariant.{ExplainedInvariant}
 use Rattle.cause_laws.specs.RequestCalls.{PostAt, BeginMayBeAsked, CommitMayBeAsked, RequestsAreWaitedFor, PutMayBeMade}
 
 -- ---- who waits

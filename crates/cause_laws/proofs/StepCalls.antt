@@ -31,7 +31,7 @@ use Rattle.machine.specs.Fits.{IsWork}
 use Rattle.isolation_laws.proofs.Inversions.StepsFitting.{work_fits}
 use Rattle.isolation_laws.proofs.Stores.StoresStay.{completed_fills}
 use Rattle.machine.proofs.MarksTold.{marks_same}
-use Rattle.cause_laws.specs.ShownInvariant.{Tells}
+use Rattle.cause_laws.specs.ShownInvariant.{ExplainedInvariant}
 use Rattle.cause_laws.specs.StoreCalls.{StepMayBeMade, PlacingMayBeMade}
 use Rattle.cause_laws.proofs.StoreCalls.{only_shadow, keeps_next}
 

@@ -31,7 +31,7 @@ use Rattle.isolation_laws.specs.Sound.{Sound}
 use Rattle.isolation_laws.proofs.OnceEach.{one_commit}
 use Rattle.isolation_laws.proofs.Stores.StoresStay.{swept_fills}
 use Rattle.machine.proofs.Inversions.InversionOfSessions.{work_open, write_may}
-use Rattle.cause_laws.specs.ShownInvariant.{Tells}
+use Rattle.cause_laws.specs.ShownInvariant.{ExplainedInvariant}
 use Rattle.cause_laws.specs.StoreCalls.{WriteMayBeMade, HealMayBeMade, ReadsFetched, ReadMayGoOn, SweepMayStep}
 
 -- ---- the only shadow that a cell may have

@@ -6,7 +6,7 @@ ghost use Rattle.port_io.specs.declared.weather.Fate.{Fate};
 ghost use Rattle.machine.specs.declared.event.Event.{Event};
 ghost use Rattle.machine.specs.State.{State, opening};
 ghost use Rattle.machine.specs.Machine.{IsSteadyAt, reading_of, stepped};
-ghost use Rattle.cause_laws.specs.ShownInvariant.{Tells};
+ghost use Rattle.cause_laws.specs.ShownInvariant.{ExplainedInvariant};
 ghost use Rattle.cause_laws.specs.Bounds.{Bounded};
 
 /// The numbers of the opening state are in bounds.

@@ -13,7 +13,7 @@ ghost use Rattle.machine.specs.Machine.{Move, Steady, IsSteadyAt, reading_of, st
 ghost use Rattle.cause_rules.specs.Explained.{Explained};
 ghost use Rattle.isolation_laws.specs.Sound.{ReachedInvariant};
 ghost use Rattle.cause_laws.specs.Due.{AreDue};
-ghost use Rattle.cause_laws.specs.ShownInvariant.{Tells};
+ghost use Rattle.cause_laws.specs.ShownInvariant.{ExplainedInvariant};
 
 mod bounds;
 mod record_calls;

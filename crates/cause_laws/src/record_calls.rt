@@ -2,7 +2,7 @@
 ghost use Rattle.std.specs.Prelude.{List};
 ghost use Rattle.history_book.specs.declared.item.Item.{Item};
 ghost use Rattle.machine.specs.State.{State};
-ghost use Rattle.cause_laws.specs.ShownInvariant.{Tells};
+ghost use Rattle.cause_laws.specs.ShownInvariant.{ExplainedInvariant};
 ghost use Rattle.cause_laws.specs.Bounds.{Bounded, PartsAreCounted, TakeMayBeMade, RenewalMayBeMade, ExtensionMayBeMade, DrawMayBeMade};
 
 /// There are 16 clients, and as many posts as the setup has nodes.

@@ -1,5 +1,5 @@
 -- What a cluster keeps of its state and its history, from the opening on.
-use Rattle.cause_laws.specs.ShownInvariant.{Tells}
+use Rattle.cause_laws.specs.ShownInvariant.{ExplainedInvariant}
 use Rattle.cause_laws.specs.Bounds.{Bounded}
 use Rattle.cluster_core.specs.ClusterModel.{ClusterModel}
 use Rattle.cluster_core.specs.Room.{AreRoomy, ArePlacesKept}

@@ -17,7 +17,7 @@ use Rattle.machine.specs.Machine.{asks}
 use Rattle.script_data.specs.Data.{ScriptData}
 use Rattle.cause_rules.specs.Asks.{its_node}
 use Rattle.cause_laws.proofs.SinceWords.{last_told-push}
-use Rattle.cause_laws.specs.ShownInvariant.{Tells}
+use Rattle.cause_laws.specs.ShownInvariant.{ExplainedInvariant}
 use Rattle.command_semantics.specs.Next.{Clocks, reading_at}
 use Rattle.command_semantics.specs.Planned.{is_fault_of, times_told, times_from, time_by, time_or_start, shown, IsTimed}
 use Rattle.command_semantics.specs.Runs.{Played, calls_on, fate_by, fate_of, step_of, clocks_of, clock_after, played}

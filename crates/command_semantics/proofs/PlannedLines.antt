@@ -9,7 +9,7 @@ use Rattle.script_data.specs.declared.line.Line.{Line}
 use Rattle.script_data.specs.declared.line.Verb.{Verb}
 use Rattle.script_data.specs.declared.line.Verb.TheVariants as verb
 use Rattle.script_data.specs.Data.{ScriptData}
-use Rattle.cause_laws.specs.ShownInvariant.{Tells}
+use Rattle.cause_laws.specs.ShownInvariant.{ExplainedInvariant}
 use Rattle.cause_laws.proofs.AlwaysExplained.{tells_stay, tells_at_first}
 use Rattle.command_semantics.specs.declared.point.Interruption.{Interruption}
 use Rattle.command_semantics.specs.declared.point.Interruption.TheVariants.{NoStamp, NotYet, Refused, Faulted}

@@ -3,7 +3,7 @@ use Rattle.std.specs.Prelude.{◌≡◌, ℕ, ◌+◌, ◌≤◌, ◌^◌, unwra
 use Rattle.stamp_base.specs.SetupNumbers.{AreInRange}
 use Rattle.machine.specs.declared.event.Event.{Event}
 use Rattle.script_data.specs.Data.{ScriptData}
-use Rattle.cause_laws.specs.ShownInvariant.{Tells}
+use Rattle.cause_laws.specs.ShownInvariant.{ExplainedInvariant}
 use Rattle.command_semantics.specs.Runs.{Played, clocks_of, played, opening_played}
 use Rattle.command_semantics.specs.Laws.{IsPlayable, IsReached}
 use Rattle.command_semantics.specs.Planned.{with_tick, ticks_in, Planned}

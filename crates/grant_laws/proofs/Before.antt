@@ -5,7 +5,7 @@ use Rattle.history_book.specs.declared.item.Item.{Item}
 use Rattle.script_data.specs.declared.line.Line.{Line}
 use Rattle.script_data.specs.Data.{ScriptData}
 use Rattle.script_data.specs.Ticks.{ticks_of}
-use Rattle.cause_laws.specs.ShownInvariant.{Tells}
+use Rattle.cause_laws.specs.ShownInvariant.{ExplainedInvariant}
 use Rattle.cause_laws.proofs.AlwaysExplained.{tells_stay, tells_at_first}
 use Rattle.command_semantics.specs.Runs.{Played, line_run, lines_played, opening_played, script_played}
 use Rattle.command_semantics.specs.Laws.{EventsLowerWhatIsLeft, IsPlayable, IsReached}

@@ -13,7 +13,7 @@ use Rattle.machine.specs.State.{State}
 use Rattle.isolation_laws.specs.Words.{InstanceAt}
 use Rattle.machine.proofs.Lookups.{held_by}
 use Rattle.cause_laws.specs.Requests.{WhereNodesPut}
-use Rattle.cause_laws.specs.ShownInvariant.{Tells}
+use Rattle.cause_laws.specs.ShownInvariant.{ExplainedInvariant}
 use Rattle.command_semantics.specs.Laws.{EventsLowerWhatIsLeft}
 use Rattle.grant_laws.specs.Laws.{DirectBeginsNeverWait}
 use Rattle.grant_laws.proofs.Before.{Known, known_before}

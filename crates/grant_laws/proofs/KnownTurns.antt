@@ -4,7 +4,7 @@ use Rattle.std.specs.Prelude.{fold}
 use Rattle.stamp_base.specs.SetupNumbers.{AreInRange}
 use Rattle.machine.specs.declared.event.Event.{Event}
 use Rattle.script_data.specs.Data.{ScriptData}
-use Rattle.cause_laws.specs.ShownInvariant.{Tells}
+use Rattle.cause_laws.specs.ShownInvariant.{ExplainedInvariant}
 use Rattle.cause_laws.proofs.AlwaysExplained.{tells_stay, tells_at_first}
 use Rattle.isolation_laws.specs.Sound.{ReachedInvariant}
 use Rattle.command_semantics.specs.Laws.{IsPlayable}

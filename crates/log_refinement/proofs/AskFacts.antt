@@ -14,7 +14,7 @@ use Rattle.stamp_base.specs.declared.stores.Store.TheVariants.{Master}
 use Rattle.cause_rules.specs.Asks.{Ask}
 use Rattle.cause_rules.specs.OpenAsks.{closes, open_asks_of}
 use Rattle.isolation_laws.specs.Words.{ClientAt}
-use Rattle.cause_laws.specs.ShownInvariant.{Tells}
+use Rattle.cause_laws.specs.ShownInvariant.{ExplainedInvariant}
 use Rattle.command_semantics.proofs.ScriptWalks.{actor_same}
 use Rattle.command_semantics.proofs.Walks.{AllNot}
 use Rattle.request_completion.specs.Ends.{Ends}

@@ -18,7 +18,7 @@ use Rattle.machine.specs.State.{Client, State}
 use Rattle.machine.specs.Machine.{stepped}
 use Rattle.cause_rules.specs.Asks.{Ask, ask_by, asks_for, its_ask, since_ask}
 use Rattle.cause_laws.proofs.SinceWords.{last_told-push, since-push}
-use Rattle.cause_laws.specs.ShownInvariant.{Tells}
+use Rattle.cause_laws.specs.ShownInvariant.{ExplainedInvariant}
 use Rattle.isolation_laws.specs.Words.{ClientAt, written_keys}
 use Rattle.machine.proofs.Lookups.{one_client}
 use Rattle.command_semantics.proofs.AlwaysFit.{Fit, found}

@@ -24,7 +24,7 @@ use Rattle.isolation_laws.proofs.Pushed.{in_append}
 use Rattle.cause_rules.specs.Asks.{Ask, its_ask}
 use Rattle.cause_rules.specs.OpenAsks.{open_asks_of}
 use Rattle.cause_laws.specs.Requests.{ask_for, held_count}
-use Rattle.cause_laws.specs.ShownInvariant.{Tells}
+use Rattle.cause_laws.specs.ShownInvariant.{ExplainedInvariant}
 use Rattle.command_semantics.proofs.Walks.{AllNot}
 use Rattle.request_completion.specs.Ends.{IsHeld, IsToAsk, HasVanished, Comes, Made, Failed, Vanished, Left, Ends}
 use Rattle.request_completion.specs.SessionTransitions.{EndsCommit, NoneEnds, SessionTransition}

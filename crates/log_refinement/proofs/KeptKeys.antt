@@ -14,7 +14,7 @@ use Rattle.system_parts.specs.SessionSteps.{SessionEntry, has_key}
 use Rattle.machine.specs.State.{Client, State}
 use Rattle.script_data.specs.declared.line.Verb.{Verb}
 use Rattle.isolation_laws.specs.Words.{ClientAt}
-use Rattle.cause_laws.specs.ShownInvariant.{Tells}
+use Rattle.cause_laws.specs.ShownInvariant.{ExplainedInvariant}
 use Rattle.request_completion.specs.SessionTransitions.{IsUndone as TurnUndone, SessionTransition, Rests, AsksBegin, AsksCommit, Begins, LosesBegin, Writes, Frees, Undoes, Hands, Commits, Refuses, LeavesOpen, Vanishes, IsGone, TakesAsks}
 use Rattle.log_refinement.specs.Owed.{with_key, written_after, Standing, standing_with, with_item, with_items, owed_first, opened}
 use Rattle.log_refinement.proofs.AskFacts.{MachineLaws, same_self}

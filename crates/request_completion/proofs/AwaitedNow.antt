@@ -21,7 +21,7 @@ use Rattle.isolation_laws.proofs.AlwaysHolds.{each_outcome}
 use Rattle.machine.proofs.Lookups.{set_found}
 use Rattle.machine.specs.Outcome.OutcomesOfRequests.{AskedCommit, asked_commit_state}
 use Rattle.machine.specs.Outcome.Outcomes.{Outcome, OfAskedBegin, OfAskedCommit, left_by, told_by_outcome}
-use Rattle.cause_laws.specs.ShownInvariant.{Tells}
+use Rattle.cause_laws.specs.ShownInvariant.{ExplainedInvariant}
 use Rattle.request_completion.specs.Ends.{IsHeld, AreAwaited}
 use Rattle.request_completion.specs.SessionTransitions.{SessionTransition, Rests, AsksBegin, AsksCommit, Begins, LosesBegin, Writes, Frees, Undoes, Hands, Commits, Refuses, LeavesOpen, Vanishes, IsGone}
 use Rattle.request_completion.proofs.OwingItems.{only_is}

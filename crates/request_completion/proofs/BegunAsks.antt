@@ -23,7 +23,7 @@ use Rattle.machine.specs.Outcome.Outcomes.{told_by_outcome}
 use Rattle.isolation_laws.proofs.Numbers.Placings.{placed_item}
 use Rattle.isolation_laws.proofs.Holding.IsolatedItems.{Stamping, StampsNone, StampsPlaced, StampsBegin, stamping, begin_old}
 use Rattle.cause_laws.specs.Requests.{ask_for}
-use Rattle.cause_laws.specs.ShownInvariant.{Tells}
+use Rattle.cause_laws.specs.ShownInvariant.{ExplainedInvariant}
 use Rattle.request_completion.specs.SessionTransitions.{IsAsked, OfBegin, BeginsAreAsked}
 use Rattle.request_completion.proofs.OwingItems.{only_is}
 use Rattle.request_completion.proofs.OwingOutcomes.{among}

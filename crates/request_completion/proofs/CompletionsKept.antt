@@ -23,7 +23,7 @@ use Rattle.machine.specs.Events.Vanish.{vanish_by, vanish_on}
 use Rattle.machine.specs.StoreSteps.{step_item, store_of}
 use Rattle.isolation_laws.specs.Words.{ClientAt}
 use Rattle.machine.proofs.Lookups.{client_set}
-use Rattle.cause_laws.specs.ShownInvariant.{Tells}
+use Rattle.cause_laws.specs.ShownInvariant.{ExplainedInvariant}
 use Rattle.request_completion.specs.Completions.{GoesOn}
 use Rattle.request_completion.specs.Ends.{AreGoneSince, IsToAsk, HasVanished, Comes, Made, Failed, Vanished, Left}
 use Rattle.request_completion.specs.SessionTransitions.{SessionTransition, Rests, AsksBegin, AsksCommit, Begins, LosesBegin, Writes, Frees, Undoes, Hands, Commits, Refuses, LeavesOpen, Vanishes, IsGone}

@@ -23,7 +23,7 @@ use Rattle.isolation_laws.specs.Pending.{is_placing}
 use Rattle.isolation_laws.specs.Requests.{HasAsked}
 use Rattle.isolation_laws.specs.Words.{ClientAt}
 use Rattle.isolation_laws.proofs.AlwaysHolds.{each_outcome}
-use Rattle.cause_laws.specs.ShownInvariant.{Tells}
+use Rattle.cause_laws.specs.ShownInvariant.{ExplainedInvariant}
 use Rattle.request_completion.specs.Closings.{leaves_cells}
 use Rattle.request_completion.specs.Ends.{AreGoneSince, AreClosed, IsToAsk, Comes, Vanished, Left, AreErased}
 use Rattle.request_completion.specs.SessionTransitions.{EndsCommit, IsAsked, IsCommitting, SessionTransition, Rests, AsksBegin, AsksCommit, Begins, LosesBegin, Writes, Frees, Undoes, Hands, Commits, Refuses, LeavesOpen, Vanishes, IsGone}

@@ -35,7 +35,7 @@ use Rattle.machine.specs.Outcome.OutcomesOfPlacings.{AtPlacing, own_told}
 use Rattle.machine.specs.Outcome.OutcomesOfWork.{OutcomeStepped}
 use Rattle.machine.specs.Outcome.Outcomes.{Outcome, OfGranted, OfCrashed, OfAskedBegin, OfAskedCommit, OfAccepted, OfEnded, OfDrew, OfAnsweredBegin, OfAnsweredCommit, OfHanded, OfOwnPlaced, OfOwnNotPlaced, OfOutcome, told_by_outcome}
 use Rattle.cause_laws.specs.Requests.{ask_for}
-use Rattle.cause_laws.specs.ShownInvariant.{Tells}
+use Rattle.cause_laws.specs.ShownInvariant.{ExplainedInvariant}
 use Rattle.cause_laws.proofs.SilentOutcomes.{fault_if_silent, silent_items}
 use Rattle.request_completion.specs.Closings.{Owes, NoneOwes, HasOpenAsk, IsAlone, OwingNeedsAnAsk, CommitsAreAsked}
 use Rattle.request_completion.proofs.OwingItems.{silent_in, first_not, only_not, only_is, draw_not, all_lost_not, answered_owes, answered_start, own_owes}

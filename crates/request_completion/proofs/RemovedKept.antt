@@ -18,7 +18,7 @@ use Rattle.isolation_laws.specs.Requests.{WaitsFor}
 use Rattle.isolation_laws.specs.Words.{ClientAt}
 use Rattle.machine.proofs.Lookups.{held_by}
 use Rattle.isolation_laws.proofs.Pushed.{in_append}
-use Rattle.cause_laws.specs.ShownInvariant.{Tells}
+use Rattle.cause_laws.specs.ShownInvariant.{ExplainedInvariant}
 use Rattle.request_completion.specs.Closings.{Owes}
 use Rattle.request_completion.specs.Ends.{AreGoneSince, IsToAsk, Comes, Vanished, Left, AreRemoved}
 use Rattle.request_completion.specs.SessionTransitions.{EndsCommit, EndsWith, MayCommit, SessionTransition, Rests, AsksBegin, AsksCommit, Begins, LosesBegin, Writes, Frees, Undoes, Hands, Commits, Refuses, LeavesOpen, Vanishes, IsGone}

@@ -31,7 +31,7 @@ use Rattle.machine.specs.Plain.{Silent, AllSilent}
 use Rattle.machine.proofs.Outcome.PlainItems.{one_silent, two_silent}
 use Rattle.machine.specs.Outcome.OutcomesOfStamps.{answered_client, answered_item}
 use Rattle.cause_laws.specs.Requests.{ask_for}
-use Rattle.cause_laws.specs.ShownInvariant.{Tells}
+use Rattle.cause_laws.specs.ShownInvariant.{ExplainedInvariant}
 use Rattle.request_completion.specs.Closings.{Owes, NoneOwes}
 use Rattle.request_completion.specs.SessionTransitions.{NoneEnds, EndsWith, IsAsked, IsCommitting, IsUndone, SessionTransition, Rests, Undoes, Frees, Commits, Refuses, LeavesOpen, IsGone}
 use Rattle.request_completion.proofs.EndingItems.{silent_ends, last_is, owes_ends}

@@ -21,7 +21,7 @@ use Rattle.cause_rules.specs.Asks.{since_ask}
 use Rattle.isolation_laws.specs.Words.{InstanceAt, ClientAt}
 use Rattle.isolation_laws.specs.Requests.{WaitsFor}
 use Rattle.machine.proofs.Lookups.{held_by}
-use Rattle.cause_laws.specs.ShownInvariant.{Tells}
+use Rattle.cause_laws.specs.ShownInvariant.{ExplainedInvariant}
 use Rattle.request_completion.specs.SessionTransitions.{IsCommitting, IsUndone, SessionTransition, Rests, AsksBegin, AsksCommit, Begins, LosesBegin, Writes, Frees, Undoes, Hands, Commits, Refuses, LeavesOpen, Vanishes, IsGone}
 use Rattle.request_completion.specs.Ends.{WasToldToWait, AreToldWaits, AreGoneSince, WasToldOpen, AreToldOpen}
 use Rattle.request_completion.proofs.AskItems.{NoneAsked, ask_stays, since_was, since_now, one_unasked}

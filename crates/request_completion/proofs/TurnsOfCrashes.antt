@@ -18,7 +18,7 @@ use Rattle.isolation_laws.specs.Words.{ClientAt}
 use Rattle.machine.proofs.Lookups.{held_by, one_held}
 use Rattle.machine.specs.Outcome.OutcomesOfRequests.{Crashed, crashed_state}
 use Rattle.machine.specs.Outcome.Outcomes.{OfCrashed}
-use Rattle.cause_laws.specs.ShownInvariant.{Tells}
+use Rattle.cause_laws.specs.ShownInvariant.{ExplainedInvariant}
 use Rattle.request_completion.specs.SessionTransitions.{EndsCommit, NoCommit, SessionTransition, Rests, LosesBegin, LeavesOpen}
 use Rattle.request_completion.proofs.OwingItems.{only_is}
 use Rattle.request_completion.proofs.OwingOutcomes.{among, owing_none}

@@ -13,7 +13,7 @@ use Rattle.machine.specs.Outcome.OutcomesOfStamps.{answered_item}
 use Rattle.machine.specs.Outcome.OutcomesOfWork.{fetched_turn, fetched_client, read_turn, read_client}
 use Rattle.machine.specs.Outcome.Outcomes.{Outcome, OfCrashed, OfAskedBegin, OfAskedCommit, OfEnded, OfAnsweredBegin, OfAnsweredCommit, OfHanded, OfOwnPlaced, OfOwnNotPlaced, OfEndedReadOnly, OfWrote, OfWriteFailed, OfAborted, OfVanished, OfHealed, OfFetched, OfReadDropped, OfReadStepped, OfOutcome, OfOutcomeFailed, OfCompleted, left_by, told_by_outcome}
 use Rattle.isolation_laws.proofs.Requests.ClientsOpen.{read_keeps_entry}
-use Rattle.cause_laws.specs.ShownInvariant.{Tells}
+use Rattle.cause_laws.specs.ShownInvariant.{ExplainedInvariant}
 use Rattle.request_completion.specs.SessionTransitions.{SessionTransition, Rests, AsksBegin, AsksCommit, Writes, Frees, Undoes, Vanishes, SessionsTakeTurns}
 use Rattle.request_completion.proofs.EndedCauses.{ended_leaves}
 use Rattle.request_completion.proofs.EndingItems.{last_none, answered_told, ends_none}

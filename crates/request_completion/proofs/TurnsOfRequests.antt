@@ -13,7 +13,7 @@ use Rattle.machine.proofs.Outcome.PlainItems.{none_silent}
 use Rattle.machine.specs.Outcome.OutcomesOfRequests.{Ended}
 use Rattle.machine.specs.Outcome.OutcomesOfStamps.{AnsweredBegin, AnsweredCommit, HandedOver, answered_client}
 use Rattle.machine.specs.Outcome.Outcomes.{OfAnsweredBegin, OfHanded}
-use Rattle.cause_laws.specs.ShownInvariant.{Tells}
+use Rattle.cause_laws.specs.ShownInvariant.{ExplainedInvariant}
 use Rattle.request_completion.specs.Closings.{leaves_cells}
 use Rattle.request_completion.specs.SessionTransitions.{NoneEnds, NoCommit, SessionTransition, Begins, LosesBegin, Hands, Refuses}
 use Rattle.request_completion.proofs.OwingItems.{only_is}

@@ -18,7 +18,7 @@ use Rattle.machine.specs.Outcome.OutcomesOfPlacings.{AtPlacing, own_told}
 use Rattle.machine.specs.Outcome.OutcomesOfWork.{OutcomeStepped, CompletedOne}
 use Rattle.machine.specs.Outcome.Outcomes.{OfCompleted}
 use Rattle.isolation_laws.proofs.Requests.ClientsAfter.{has_by}
-use Rattle.cause_laws.specs.ShownInvariant.{Tells}
+use Rattle.cause_laws.specs.ShownInvariant.{ExplainedInvariant}
 use Rattle.request_completion.specs.SessionTransitions.{NoneEnds, IsCommitting, SessionTransition, Frees}
 use Rattle.request_completion.proofs.EndingItems.{silent_ends, last_none, answered_told, own_front, own_is, own_silent, ends_none}
 use Rattle.request_completion.proofs.SessionTurns.{answered_turn, settled_turn, asks_turn}

@@ -14,7 +14,7 @@ use Rattle.machine.specs.Machine.{stepped}
 use Rattle.cause_rules.specs.Asks.{its_ask}
 use Rattle.cause_rules.specs.OpenAsks.{open_asks_of}
 use Rattle.isolation_laws.specs.Words.{ClientAt}
-use Rattle.cause_laws.specs.ShownInvariant.{Tells}
+use Rattle.cause_laws.specs.ShownInvariant.{ExplainedInvariant}
 
 -- the refusal ends a commit, and leaves cells to erase
 abbrev pub leaves_cells : Cause → Bool

@@ -16,7 +16,7 @@ use Rattle.machine.specs.Clients.{client_aborted, client_committed, client_opene
 use Rattle.machine.specs.Machine.{stepped}
 use Rattle.cause_rules.specs.Asks.{its_ask}
 use Rattle.isolation_laws.specs.Words.{ClientAt}
-use Rattle.cause_laws.specs.ShownInvariant.{Tells}
+use Rattle.cause_laws.specs.ShownInvariant.{ExplainedInvariant}
 use Rattle.request_completion.specs.Closings.{leaves_cells, NoneOwes}
 
 -- ---- what is told

@@ -13,7 +13,7 @@ use Rattle.machine.specs.State.{Client, State}
 use Rattle.machine.specs.Machine.{stepped}
 use Rattle.cause_rules.specs.OpenAsks.{open_asks_of}
 use Rattle.isolation_laws.specs.Words.{ClientAt}
-use Rattle.cause_laws.specs.ShownInvariant.{Tells}
+use Rattle.cause_laws.specs.ShownInvariant.{ExplainedInvariant}
 
 abbrev pub LostAsksAreOver : Type 0
 LostAsksAreOver =

@@ -8,7 +8,7 @@ use Rattle.history_book.specs.declared.item.Actor.TheVariants.{Clock, Node, Sess
 use Rattle.machine.specs.State.{opening}
 use Rattle.script_data.specs.declared.line.Line.{Line}
 use Rattle.script_data.specs.Data.{ScriptData}
-use Rattle.cause_laws.specs.ShownInvariant.{Tells}
+use Rattle.cause_laws.specs.ShownInvariant.{ExplainedInvariant}
 use Rattle.command_semantics.specs.Answers.{same_actor}
 use Rattle.command_semantics.specs.Planned.{tick_by, with_tick, ticks_in}
 use Rattle.command_semantics.proofs.Ending.{opening_reached}
