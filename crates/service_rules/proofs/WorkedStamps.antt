@@ -75,6 +75,8 @@ pub asked_fresh : FreshStamps (asked_then_told 2)
 unfolding Walks
 asked_fresh = walked StampAbove (asked_then_told 2) (
   tt,
-  ((λ stamp told. absurd (one_asked told.front told.behind told.ask stamp told.is told.told)),
-  ((λ stamp told. absurd (asked_first told.front told.behind told.ask stamp told.is told.asks told.told)), tt)),
+  (
+    (λ stamp told. absurd (one_asked told.front told.behind told.ask stamp told.is told.told)),
+    ((λ stamp told. absurd (asked_first told.front told.behind told.ask stamp told.is told.asks told.told)), tt),
+  ),
 )

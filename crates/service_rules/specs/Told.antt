@@ -14,7 +14,7 @@ abbrev pub WasPlaced : List Item → Item → Type 0
 WasPlaced before (item.Committed session start commit) = Committed before start commit
 WasPlaced before _ = Unit {0}
 
--- the refusal ends a request for good, so that the commit that was asked for is not placed
+-- the refusal ends a commit for good: it is not placed
 abbrev pub ends_for_good : Cause → Bool
 ends_for_good (cause.Expired reading until) = true
 ends_for_good (cause.OldEpoch start epoch) = true
@@ -22,13 +22,13 @@ ends_for_good (cause.Conflict key by) = true
 ends_for_good (cause.Hidden key water) = true
 ends_for_good (cause.Replaced found) = true
 ends_for_good (cause.Spent ceiling) = true
+ends_for_good (cause.Invalid start) = true
 ends_for_good _ = false
 
--- the transaction that an item tells to be over without a commit: the one that it names, or the one whose commit its session asked
--- for last
+-- the transaction that an item tells to be over without a commit: one that ended, or whose commit is refused for good, which its
+-- session asked for last
 abbrev pub over_by : List Item → Item → Option ℕ
 over_by before (item.End session start how) = Some start
-over_by before (item.Refused (Session session) (cause.Invalid start)) = Some start
 over_by before (item.Refused (Session session) why) = if ends_for_good why then start_asked (its_ask before session) else None
 over_by before _ = None
 

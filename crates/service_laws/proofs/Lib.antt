@@ -1,0 +1,7 @@
+mod DeadTransactions
+mod PlainItems
+mod ToldItems
+mod EndlessItems
+mod EndlessEvents
+mod EndItems
+mod ToldKept
