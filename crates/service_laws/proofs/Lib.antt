@@ -5,3 +5,6 @@ mod EndlessItems
 mod EndlessEvents
 mod EndItems
 mod ToldKept
+mod CalmItems
+mod ToldBefore
+mod StampsKept
