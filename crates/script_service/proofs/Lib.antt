@@ -1,0 +1,2 @@
+mod EventsKeep
+mod TurnsKeep
