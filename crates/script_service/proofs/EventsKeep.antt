@@ -1,11 +1,8 @@
 -- What every event keeps of what users rely on, and what follows of it.
-use Rattle.std.proofs.Common.{List, [], ◌++◌}
+use Rattle.std.proofs.Common.{List, []}
 use Rattle.stamp_base.specs.SetupNumbers.{SetupNumbers, AreInRange}
-use Rattle.port_io.specs.declared.weather.Fate.{Fate}
 use Rattle.history_book.specs.declared.item.Item.{Item}
-use Rattle.machine.specs.declared.event.Event.{Event}
 use Rattle.machine.specs.State.{State, opening}
-use Rattle.machine.specs.Machine.{Move, Steady, stepped, reading_of, IsSteadyAt}
 use Rattle.cause_laws.specs.ShownInvariant.{ExplainedInvariant}
 use Rattle.cause_laws.proofs.AlwaysExplained.{tells_stay, tells_at_first}
 use Rattle.service_laws.specs.Told.{ToldInvariant, ToldAtFirst, EventsKeepTold, ToldTrueNow, ToldTrueAlways}

@@ -1,2 +1,3 @@
 mod EventsKeep
 mod TurnsKeep
+mod OrdersKeep

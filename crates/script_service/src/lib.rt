@@ -4,4 +4,6 @@
 
 mod service;
 
-pub use service::{histories_keep_service, scripts_keep_service, turns_keep_service};
+pub use service::{
+    histories_keep_service, orders_keep_service, scripts_keep_service, turns_keep_service,
+};

@@ -1,7 +1,7 @@
 // What users rely on, in the histories of scripts.
-ghost use Rattle.script_service.specs.Service.{HistoriesKeepService, ScriptsKeepService, TurnsKeepService};
+ghost use Rattle.script_service.specs.Service.{HistoriesKeepService, OrdersKeepService, ScriptsKeepService, TurnsKeepService};
 
-use command_semantics::events_lower_what_is_left;
+use command_semantics::{events_lower_what_is_left, events_stay_told};
 use service_laws::{
     events_keep_stamps, events_keep_told, snapshots_rise, stamps_are_fresh, stamps_at_first,
     told_at_first, told_is_true, told_stays_true,
@@ -33,6 +33,19 @@ pub fn scripts_keep_service()
 pub fn turns_keep_service()
     ensures { TurnsKeepService }
 {
+    told_at_first();
+    events_keep_told();
+    told_stays_true();
+    stamps_at_first();
+    events_keep_stamps();
+}
+
+/// So does the history of events in any order, where each reads the clocks as they stand when it is made, and they tick no longer
+/// than the script's lines in all.
+pub fn orders_keep_service()
+    ensures { OrdersKeepService }
+{
+    events_stay_told();
     told_at_first();
     events_keep_told();
     told_stays_true();

@@ -1,4 +1,4 @@
-use Rattle.script_service.proofs.EventsKeep.{ServiceLaws, scripts_keep_service}
+use Rattle.script_service.proofs.EventsKeep.{scripts_keep_service}
 use Rattle.script_service.proofs.service.scripts_keep_service.Goals as goal
 
 pub returns : goal.returns

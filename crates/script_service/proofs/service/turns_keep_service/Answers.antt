@@ -1,4 +1,3 @@
-use Rattle.script_service.proofs.EventsKeep.{ServiceLaws}
 use Rattle.script_service.proofs.TurnsKeep.{turns_keep_service}
 use Rattle.script_service.proofs.service.turns_keep_service.Goals as goal
 
