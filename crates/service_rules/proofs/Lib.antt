@@ -1,0 +1,3 @@
+mod Walks
+mod WorkedTold
+mod WorkedStamps
