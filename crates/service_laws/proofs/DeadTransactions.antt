@@ -1,5 +1,5 @@
 -- A transaction that its session has let go, and whose commit no node holds any more, is neither open nor in flight.
-use Rattle.std.proofs.Common.{◌≡◌, ℕ, Bool, true, List, [], ◌∷◌, Option, Some, inl, inr, refl, sym, ◌∙◌, ap, subst}
+use Rattle.std.proofs.Common.{◌≡◌, ℕ, Bool, true, List, [], ◌∷◌, Some, inl, inr, refl, sym, ◌∙◌, ap, subst}
 use Rattle.std.specs.Prelude.{slice_set}
 use Rattle.history_book.specs.declared.item.Item.{Item}
 use Rattle.system_parts.specs.declared.session.State.{State as SessionState}

@@ -1,6 +1,6 @@
 -- What ends without a commit is lost: its session had it open, or looked up its outcome, and has let it go.
-use Rattle.std.proofs.Common.{◌≡◌, ◌≢◌, ℕ, Bool, true, false, IsTrue, List, [], ◌∷◌, ◌++◌, Option, None, Some, Result, Ok, Err, ◌⊎◌, inl, inr, refl, sym, ◌∙◌, ap, subst}
-use Rattle.std.specs.Prelude.{slice_get, slice_set}
+use Rattle.std.proofs.Common.{◌≡◌, ◌≢◌, ℕ, true, IsTrue, List, [], ◌∷◌, ◌++◌, Option, None, Some, ◌⊎◌, inl, inr, refl, sym, ◌∙◌, ap, subst}
+use Rattle.std.specs.Prelude.{slice_get}
 use Rattle.std.proofs.lemmas.Option.{same_Some}
 use Rattle.stamp_base.specs.declared.stores.Store.TheVariants.{Cells, Table}
 use Rattle.stamp_base.specs.declared.stores.Mark.{Mark}
@@ -24,7 +24,6 @@ use Rattle.system_parts.specs.declared.asks.Told.{Told}
 use Rattle.system_parts.specs.declared.resolve.Outcome.TheVariants as outcome
 use Rattle.system_parts.specs.Resolve.{Settling, SettleTurn, Goes, Decides, settle_ask, settle_turn}
 use Rattle.system_parts.specs.KeyRead.{Reading, read_ask}
-use Rattle.system_parts.specs.Recalled.{Remembering}
 use Rattle.system_parts.specs.declared.session.State.{State as SessionState}
 use Rattle.system_parts.specs.declared.session.State.TheVariants as phase
 use Rattle.system_parts.specs.SessionSteps.{SessionEntry, has_transaction, work_refusal, step_refusal, handed_commit, aborted_by}
@@ -33,25 +32,25 @@ use Rattle.system_parts.specs.Instance.{InstanceEntry}
 use Rattle.system_parts.specs.InstanceSteps.{instance_ask}
 use Rattle.machine.specs.declared.event.Event.{Event}
 use Rattle.machine.specs.declared.event.Event.TheVariants as event
-use Rattle.machine.specs.Effect.{Effect, kept_items}
+use Rattle.machine.specs.Effect.{kept_items}
 use Rattle.machine.specs.State.{UnderWay, Nothing, Reads, Settles, Completes, Client, State}
 use Rattle.machine.specs.StoreSteps.{Met, met, told_by}
 use Rattle.machine.specs.Clients.{is_reading, client_freed, client_aborted}
 use Rattle.machine.specs.Fits.{StepsFit, IsWork}
-use Rattle.machine.specs.Machine.{Step, nothing, step_by, with_reading, stepped, reading_of, IsSteadyAt}
+use Rattle.machine.specs.Machine.{Step, nothing, with_reading, stepped, reading_of, IsSteadyAt}
 use Rattle.machine.specs.Events.Take.{take_on}
 use Rattle.machine.specs.Events.Renew.{renew_on}
 use Rattle.machine.specs.Events.Extend.{extend_on}
 use Rattle.machine.specs.Events.Crash.{crash_on}
 use Rattle.machine.specs.Events.AskBegin.{ask_begin_on}
-use Rattle.machine.specs.Events.AskCommit.{commit_asked, commit_of, ask_commit_by, ask_commit_on}
+use Rattle.machine.specs.Events.AskCommit.{commit_of, ask_commit_by, ask_commit_on}
 use Rattle.machine.specs.Events.Accept.{accept_on}
 use Rattle.machine.specs.Events.Decide.{decide_on}
 use Rattle.machine.specs.Events.Put.{put_on}
 use Rattle.machine.specs.Events.Answer.{answer_on}
 use Rattle.machine.specs.Events.Write.{client_wrote, write_refused, write_by, write_open, write_on}
 use Rattle.machine.specs.Events.Fetch.{client_put_fresh, fetch_on}
-use Rattle.machine.specs.Events.Place.{place_by, place_on}
+use Rattle.machine.specs.Events.Place.{place_by}
 use Rattle.machine.specs.Events.Step.{client_settled, settle_items, settle_by, settle_step, read_by, read_step, complete_by, complete_step, step_at, placed_among, step_due, step_on, work_of, step_recall}
 use Rattle.machine.specs.Events.Step as steps
 use Rattle.machine.specs.Events.Heal.{heal_on}

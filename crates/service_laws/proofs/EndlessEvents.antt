@@ -1,12 +1,10 @@
 -- The sixteen events by which no transaction ends without a commit.
-use Rattle.std.proofs.Common.{◌≡◌, ℕ, Bool, true, false, List, [], ◌∷◌, ◌++◌, Option, None, Some, Result, Ok, Err, refl}
-use Rattle.std.specs.Prelude.{slice_get}
+use Rattle.std.proofs.Common.{ℕ, Bool, true, false, List, [], ◌∷◌, ◌++◌, Option, None, Some, Result, Ok, Err, refl}
 use Rattle.stamp_base.specs.SetupNumbers.{SetupNumbers}
 use Rattle.stamp_base.specs.declared.stores.Mark.{Mark}
 use Rattle.stamp_base.specs.declared.stores.Store.TheVariants.{Cells, Table, Master}
 use Rattle.port_io.specs.declared.weather.Fate.{Fate}
 use Rattle.port_io.specs.declared.weather.Fate.TheVariants.{Works, FailsUnchanged, FailsApplied}
-use Rattle.port_io.specs.Fates.{fated}
 use Rattle.history_book.specs.declared.cause.Cause.{Cause}
 use Rattle.history_book.specs.declared.cause.Cause.TheVariants as cause
 use Rattle.history_book.specs.declared.item.Actor.TheVariants.{Node, Session, Janitor}
@@ -14,9 +12,9 @@ use Rattle.history_book.specs.declared.item.StoreStep.TheVariants as step
 use Rattle.history_book.specs.declared.item.Item.{Item}
 use Rattle.history_book.specs.declared.item.Item.TheVariants as item
 use Rattle.system_parts.specs.declared.rows.Cell.{Cell}
-use Rattle.system_parts.specs.Rows.{Row, fetched, keys_of_version}
-use Rattle.system_parts.specs.Pairs.{Pairs, mark_of, put_pair}
-use Rattle.system_parts.specs.Record.{MasterRecord, granted, taken, take_refused, renewed_until, renewed, renew_refused, extended, extend_refused}
+use Rattle.system_parts.specs.Rows.{Row, fetched}
+use Rattle.system_parts.specs.Pairs.{Pairs, mark_of}
+use Rattle.system_parts.specs.Record.{MasterRecord, granted, take_refused, renewed_until, renew_refused, extend_refused}
 use Rattle.system_parts.specs.declared.record.Grant.{Grant}
 use Rattle.system_parts.specs.declared.record.TakeRefused.{TakeRefused}
 use Rattle.system_parts.specs.declared.record.TakeRefused.TheVariants as take_
@@ -41,7 +39,7 @@ use Rattle.system_parts.specs.declared.instance.Request.TheVariants.{Begin, Comm
 use Rattle.system_parts.specs.Instance.{InstanceEntry, held_of, stamps_at, was_told_not_yet}
 use Rattle.system_parts.specs.InstanceSteps.{InstanceStep, instance_ask, instance_accept, instance_answer}
 use Rattle.system_parts.specs.InstanceLaws.{stamp_of}
-use Rattle.machine.specs.State.{Client, State}
+use Rattle.machine.specs.State.{Client}
 use Rattle.machine.specs.Effect.{kept_items}
 use Rattle.machine.specs.StoreSteps.{met, told_by}
 use Rattle.machine.specs.Events.Take.{rules_of, take_item, take_by, take_on}
@@ -58,7 +56,7 @@ use Rattle.machine.specs.Events.Heal.{no_offer_cause, heal_by, heal_at, heal_on,
 use Rattle.machine.specs.Events.Vanish.{vanish_by, vanish_on}
 use Rattle.machine.specs.Events.SweepOpen.{sweep_open_at, sweep_open_on}
 use Rattle.machine.specs.Events.SweepStep.{undecided_items, sweep_by, sweep_lists, sweep_at, sweep_step_on}
-use Rattle.machine.specs.StoreSteps.{Met, items_met, told_under}
+use Rattle.machine.specs.StoreSteps.{Met}
 use Rattle.service_laws.proofs.EndlessItems.{IsNoEnd, Endless, none_ends, one_endless, then_endless, both_endless, once_endless, kept_endless, met_endless}
 
 -- ---- the master record

@@ -5,14 +5,11 @@ use Rattle.std.proofs.lemmas.List.Elements.{All-nil, All-cons, All-head, All-tai
 use Rattle.port_io.specs.declared.weather.Fate.{Fate}
 use Rattle.port_io.specs.declared.weather.Fate.TheVariants.{Works, FailsUnchanged, FailsApplied}
 use Rattle.history_book.specs.Members.{◌∈◌}
-use Rattle.history_book.specs.declared.cause.Cause.{Cause}
 use Rattle.history_book.specs.declared.item.Actor.{Actor}
 use Rattle.history_book.specs.declared.item.Ending.{Ending}
 use Rattle.history_book.specs.declared.item.Item.{Item}
 use Rattle.history_book.specs.declared.item.Item.TheVariants as item
 use Rattle.stamp_base.specs.declared.stores.Mark.{Mark}
-use Rattle.system_parts.specs.Rows.{Row}
-use Rattle.system_parts.specs.Pairs.{Pairs}
 use Rattle.system_parts.specs.declared.asks.Ask.{Ask}
 use Rattle.system_parts.specs.declared.asks.Ask.TheVariants as ask
 use Rattle.system_parts.specs.declared.asks.Told.{Told}

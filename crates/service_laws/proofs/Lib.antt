@@ -8,3 +8,4 @@ mod ToldKept
 mod CalmItems
 mod ToldBefore
 mod StampsKept
+mod OneCopyLaw

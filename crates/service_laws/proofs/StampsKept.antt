@@ -1,11 +1,10 @@
 -- Stamps keep to real time: at first, and after every event.
-use Rattle.std.proofs.Common.{◌≡◌, ℕ, ◌+◌, ◌<◌, ◌≤◌, ◌==◌, zero, suc, true, false, if◌then◌else◌, List, [], ◌∷◌, ◌++◌, append_assoc, Option, None, Some, inl, inr, refl, sym, ◌∙◌, ap, subst, arith, is_some, take}
+use Rattle.std.proofs.Common.{◌≡◌, ℕ, ◌+◌, ◌<◌, ◌≤◌, zero, suc, if◌then◌else◌, List, [], ◌∷◌, ◌++◌, append_assoc, Option, None, Some, inl, inr, refl, sym, ◌∙◌, ap, subst, arith, is_some, take}
 use Rattle.std.specs.Prelude.{slice_get, replicate}
 use Rattle.std.proofs.lemmas.Bool.{eq-eqb}
 use Rattle.std.proofs.lemmas.List.{append-nil}
 use Rattle.std.proofs.lemmas.Option.{same_Some, none-some}
 use Rattle.stamp_base.specs.SetupNumbers.{SetupNumbers, AreInRange}
-use Rattle.port_io.specs.declared.weather.Fate.{Fate}
 use Rattle.history_book.specs.Members.{◌∈◌, AtEach}
 use Rattle.history_book.specs.Isolation.{Committed}
 use Rattle.history_book.specs.declared.item.Actor.{Actor}
@@ -13,14 +12,13 @@ use Rattle.history_book.specs.declared.item.Actor.TheVariants.{Session}
 use Rattle.history_book.specs.declared.item.StoreStep.TheVariants.{Handed}
 use Rattle.history_book.specs.declared.item.Item.{Item}
 use Rattle.history_book.specs.declared.item.Item.TheVariants as item
-use Rattle.history_book.proofs.MemberLemmas.{AtEach-push, in_front, in_push}
+use Rattle.history_book.proofs.MemberLemmas.{AtEach-push, in_front}
 use Rattle.system_parts.specs.declared.instance.Held.{Held}
 use Rattle.system_parts.specs.declared.instance.Progress.TheVariants as progress
 use Rattle.system_parts.specs.declared.instance.Request.{Request}
 use Rattle.system_parts.specs.declared.instance.Request.TheVariants.{Begin, Commit}
 use Rattle.system_parts.specs.Instance.{InstanceEntry, session_of}
 use Rattle.system_parts.specs.InstanceSteps.{moved, drawn_as}
-use Rattle.machine.specs.declared.event.Event.{Event}
 use Rattle.machine.specs.State.{State, opening}
 use Rattle.machine.specs.Machine.{Step, stepped, Move, state_after, items_after, history_after, reading_of, IsSteadyAt, AreSteady, Steady}
 use Rattle.machine.specs.Events.Decide.{draw_item}
@@ -30,7 +28,6 @@ use Rattle.machine.specs.Outcome.Outcomes.{Outcome, OfAskedBegin, OfAskedCommit,
 use Rattle.machine.proofs.Lookups.{instance_changed, heldby_changed, held_by, commit_own}
 use Rattle.machine.proofs.Outcome.Readings.{steadily}
 use Rattle.isolation_laws.specs.Words.{InstanceAt, HeldBy, DrewCommit, drawn_stamp}
-use Rattle.isolation_laws.specs.Pending.{Has}
 use Rattle.isolation_laws.specs.IsolationInvariant.{IsolationInvariant}
 use Rattle.isolation_laws.proofs.AlwaysHolds.{comes_by, steady_now, steady_stays}
 use Rattle.isolation_laws.proofs.Holding.LeftAlone.{alone}
@@ -44,10 +41,10 @@ use Rattle.cause_laws.specs.ShownInvariant.{ExplainedInvariant}
 use Rattle.cause_laws.proofs.AlwaysExplained.{tells_stay, tells_at_first}
 use Rattle.cause_rules.specs.OpenAsks.{open_asks_of}
 use Rattle.service_rules.specs.Told.{WasPlaced}
-use Rattle.service_rules.specs.Stamps.{stamp_told, WasTold, ToldBeforeAsk, IsAbove, StampAbove, FreshStamps, StartsAboveOwn, SnapshotsRise, CommitsBelowOwn, OwnCommitsAreRead}
+use Rattle.service_rules.specs.Stamps.{stamp_told, ToldBeforeAsk, StampAbove, StartsAboveOwn, CommitsBelowOwn}
 use Rattle.service_laws.specs.Told.{ToldInvariant}
 use Rattle.service_laws.specs.Stamps.{StampInvariant, StampsAtFirst, EventsKeepStamps, StampsAlways, SnapshotsAlways}
-use Rattle.service_laws.proofs.CalmItems.{IsCalm, AllCalm, calm_in, others_calm, NoAsks, calm_asks_none, draw_asks_none, served_asks_none, each_calm}
+use Rattle.service_laws.proofs.CalmItems.{IsCalm, calm_in, others_calm, NoAsks, calm_asks_none, draw_asks_none, served_asks_none, each_calm}
 use Rattle.service_laws.proofs.ToldBefore.{told_earlier, was_told, told_own}
 use Rattle.service_laws.proofs.ToldKept.{events_keep_told, told_at_first}
 

@@ -2,14 +2,12 @@
 use Rattle.std.proofs.Common.{◌≡◌, ℕ, zero, suc, Bool, true, false, List, [], ◌∷◌, ◌++◌, Option, None, Some, inl, inr, refl, sym, ◌∙◌, ap, subst, take, slice_get, ◌⊎◌}
 use Rattle.std.specs.Prelude.{slice_set}
 use Rattle.std.proofs.lemmas.List.{append-nil}
-use Rattle.std.proofs.lemmas.Option.{same_Some, none-some}
-use Rattle.stamp_base.specs.declared.stores.Store.TheVariants.{Table}
+use Rattle.std.proofs.lemmas.Option.{same_Some}
 use Rattle.history_book.specs.Members.{◌∈◌}
 use Rattle.history_book.specs.Isolation.{Committed}
 use Rattle.history_book.specs.declared.cause.Cause.{Cause}
 use Rattle.history_book.specs.declared.cause.Cause.TheVariants as cause
 use Rattle.history_book.specs.declared.item.Actor.TheVariants.{Session}
-use Rattle.history_book.specs.declared.item.Ending.TheVariants.{Dead as DeadEnd}
 use Rattle.history_book.specs.declared.item.StoreStep.TheVariants.{PutFound}
 use Rattle.history_book.specs.declared.item.Item.{Item}
 use Rattle.history_book.specs.declared.item.Item.TheVariants as item
@@ -17,7 +15,6 @@ use Rattle.history_book.proofs.MemberLemmas.{in_front, in_back, in_at}
 use Rattle.system_parts.specs.declared.resolve.Outcome.TheVariants as outcome
 use Rattle.system_parts.specs.Resolve.{SettleTurn, Goes, Decides, settle_ask, settle_turn}
 use Rattle.system_parts.specs.Completion.{finish_asks}
-use Rattle.system_parts.specs.declared.session.State.TheVariants as phase
 use Rattle.system_parts.specs.declared.instance.Progress.TheVariants as progress
 use Rattle.system_parts.specs.declared.instance.Request.{Request}
 use Rattle.system_parts.specs.declared.instance.Request.TheVariants.{Begin, Commit}
@@ -28,7 +25,6 @@ use Rattle.machine.specs.StoreSteps.{told_by}
 use Rattle.machine.specs.Clients.{client_committed, client_aborted, finish_of}
 use Rattle.machine.specs.Events.Step.{client_settled, settle_items}
 use Rattle.machine.proofs.Lookups.{set_found, held_by, commit_own}
-use Rattle.machine.specs.Plain.{Silent}
 use Rattle.machine.specs.Outcome.OutcomesOfRequests.{Ended, ended_state}
 use Rattle.machine.specs.Outcome.OutcomesOfStamps.{AnsweredCommit, answered_commit_state, answered_client, answered_item}
 use Rattle.machine.specs.Outcome.OutcomesOfPlacings.{OwnPlaced, OwnNotPlaced, own_not_placed_state, own_told}

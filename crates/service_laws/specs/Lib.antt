@@ -1,2 +1,3 @@
 pub mod Told
 pub mod Stamps
+pub mod OneCopy

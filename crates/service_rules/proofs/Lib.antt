@@ -1,3 +1,4 @@
 mod Walks
 mod WorkedTold
 mod WorkedStamps
+mod WorkedCopies

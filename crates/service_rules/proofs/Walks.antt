@@ -1,5 +1,5 @@
 -- A history gone through item by item: what holds of each item behind those before it holds at each place.
-use Rattle.std.proofs.Common.{◌≡◌, List, [], ◌∷◌, ◌++◌, append_assoc, sym, subst}
+use Rattle.std.proofs.Common.{List, [], ◌∷◌, ◌++◌, append_assoc, sym, subst}
 use Rattle.std.proofs.lemmas.List.{append-nil}
 use Rattle.history_book.specs.Members.{AtEach}
 use Rattle.history_book.specs.declared.item.Item.{Item}

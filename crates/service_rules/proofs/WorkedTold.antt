@@ -1,5 +1,5 @@
 -- The small histories of told outcomes, gone through place by place.
-use Rattle.std.proofs.Common.{◌≡◌, ℕ, List, None, Some, inl, inr, refl}
+use Rattle.std.proofs.Common.{◌≡◌, ℕ, None, Some, inl, inr, refl}
 use Rattle.history_book.specs.Members.{◌∈◌}
 use Rattle.history_book.specs.declared.cause.Cause.TheVariants as cause
 use Rattle.history_book.specs.declared.item.Actor.TheVariants.{Session}

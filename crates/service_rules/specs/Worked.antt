@@ -1,11 +1,11 @@
 -- Small histories that are, and that are not, as users rely on.
-use Rattle.std.specs.Prelude.{ℕ, List, [], ◌∷◌, ◌++◌, None, Some}
+use Rattle.std.specs.Prelude.{ℕ, List, [], ◌∷◌, None, Some}
 use Rattle.history_book.specs.declared.cause.Cause.{Cause}
 use Rattle.history_book.specs.declared.cause.Cause.TheVariants as cause
 use Rattle.history_book.specs.declared.item.Actor.TheVariants.{Session}
 use Rattle.history_book.specs.declared.item.Ending.TheVariants.{Aborted}
 use Rattle.history_book.specs.declared.item.Item.{Item}
-use Rattle.history_book.specs.declared.item.Item.TheVariants.{AskBegin, AskCommit, Draw, Begin, Placed, Committed, End, Refused}
+use Rattle.history_book.specs.declared.item.Item.TheVariants.{AskBegin, AskCommit, Draw, Begin, Write, Read, Placed, Committed, End, Refused}
 
 -- ---- told outcomes
 -- the commit is told once it is placed, and before
@@ -47,3 +47,17 @@ told_then_begun start = Begin 0 3 ∷ AskBegin 1 0 ∷ Begin 1 start ∷ []
 -- a commit is drawn for an ask that came behind a start that was told
 abbrev pub commit_behind_start : ℕ → List Item
 commit_behind_start commit = Begin 0 3 ∷ AskCommit 1 0 1 ∷ Draw 1 0 1 1 (Some commit) ∷ []
+
+-- ---- one copy
+-- a key is read, another transaction writes it and commits, and then the reader may
+abbrev pub p : List ℕ
+p = 112 ∷ []
+
+abbrev pub crossed_read : List Item → List Item
+crossed_read rest = Read 1 2 0 None ∷ Write 0 1 0 p ∷ Placed 1 3 ∷ rest
+
+abbrev pub reader_commits : List Item
+reader_commits = crossed_read (Placed 2 4 ∷ [])
+
+abbrev pub reader_ends : List Item
+reader_ends = crossed_read []

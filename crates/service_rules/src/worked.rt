@@ -1,8 +1,9 @@
 // Small histories beside the definitions: what each allows, and what it refuses.
 ghost use Rattle.history_book.specs.declared.cause.Cause.TheVariants as cause;
 ghost use Rattle.service_rules.specs.Told.{ToldIsTrue};
+ghost use Rattle.service_rules.specs.OneCopy.{OneCopy};
 ghost use Rattle.service_rules.specs.Stamps.{FreshStamps};
-ghost use Rattle.service_rules.specs.Worked.{placed_then_told, told_then_placed, refused_then_placed, placed_then_refused, refused_begin, ended_then_placed, told_then_drawn, asked_then_told, told_then_begun, commit_behind_start};
+ghost use Rattle.service_rules.specs.Worked.{placed_then_told, told_then_placed, refused_then_placed, placed_then_refused, refused_begin, ended_then_placed, told_then_drawn, asked_then_told, told_then_begun, commit_behind_start, reader_commits, reader_ends};
 
 /// A commit is told once it is placed, and not before.
 pub fn commits_are_placed_before_they_are_told()
@@ -32,4 +33,10 @@ pub fn stamps_are_above_what_was_told()
     ensures asked_before { FreshStamps (asked_then_told 2) }
     ensures begun { FreshStamps (told_then_begun 2) → ⊥ }
     ensures commit { FreshStamps (commit_behind_start 2) → ⊥ }
+{}
+
+/// What a transaction read stands at its place: at its commit, where it has one, and otherwise at its start.
+pub fn reads_are_of_one_copy()
+    ensures commits { OneCopy reader_commits → ⊥ }
+    ensures ends { OneCopy reader_ends }
 {}
