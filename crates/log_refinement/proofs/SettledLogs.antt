@@ -73,7 +73,7 @@ settled_logs_keep_service ordered law script logs whole carried follow rise sett
     let order : IsOrdered script settled.merged whole = ordered script (logs_of logs) whole settled in
     let ticks : ticks_made order.events ≡ ticks_in script.lines = order.ticks ∙ rises_settled script logs whole carried (all_opened script (actors_of script) logs carried.masters follow) rise settled in
     let few : sum (ticks_made order.events) ≤ ticks_of script.lines = subst (λ (made : List ℕ). sum made ≤ ticks_of script.lines) (sym ticks) (ticks_most script.lines) in
-    subst KeepsService (sym order.items) (law script order.events carried.setup carried.playable order.read few)
+    subst (KeepsService script.setup) (sym order.items) (law script order.events carried.setup carried.playable order.read few)
 
 -- before the first entry no session has a transaction open
 keys_first : (script : ScriptData) (actor : Actor) → IsCarried script → KeysKept actor (opening_played script).state []

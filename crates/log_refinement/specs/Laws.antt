@@ -61,7 +61,7 @@ SettledLogsArePlanned =
 -- and what its sessions are told may be relied on
 abbrev pub SettledLogsKeepService : Type 0
 SettledLogsKeepService =
-    (script : ScriptData) (logs : List Logged) (whole : ClusterModel) → IsCarried script → AllFollow script (actors_of script) logs → AllRise logs → Settled (without_lines script) (logs_of logs) whole → KeepsService whole.history
+    (script : ScriptData) (logs : List Logged) (whole : ClusterModel) → IsCarried script → AllFollow script (actors_of script) logs → AllRise logs → Settled (without_lines script) (logs_of logs) whole → KeepsService script.setup whole.history
 
 -- and serves the script
 abbrev pub SettledLogsServe : Type 0

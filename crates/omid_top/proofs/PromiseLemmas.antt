@@ -21,7 +21,7 @@ use Rattle.split_driver.specs.Splits.{SplitsTo}
 use Rattle.history_text.specs.Text.{printed}
 use Rattle.omid_top.specs.Promise.{KeepsPromise, KeepsSplit, WritesSplit}
 
-pub promise_kept : (script : ScriptData) (h : List Item) → h ≡ replayed script → Isolated h → SerialIfStrict script.setup h → Explained script.setup h → Answers script h → Planned script h → KeepsService (replayed script) → KeepsPromise script
+pub promise_kept : (script : ScriptData) (h : List Item) → h ≡ replayed script → Isolated h → SerialIfStrict script.setup h → Explained script.setup h → Answers script h → Planned script h → KeepsService script.setup (replayed script) → KeepsPromise script
 promise_kept script h is isolated serial explained answers planned service = record {
   isolated = subst (λ (x : List Item). Isolated x) is isolated;
   serial = subst (λ (x : List Item). SerialIfStrict script.setup x) is serial;
@@ -32,7 +32,7 @@ promise_kept script h is isolated serial explained answers planned service = rec
 }
 
 -- the same of a history over split stores
-pub split_kept : (script : ScriptData) (whole : ClusterModel) → whole.state.setup ≡ script.setup → Isolated whole.history → Explained whole.state.setup whole.history → Answers script whole.history → Served script whole.history → Planned script whole.history → KeepsService whole.history → KeepsSplit script whole.history
+pub split_kept : (script : ScriptData) (whole : ClusterModel) → whole.state.setup ≡ script.setup → Isolated whole.history → Explained whole.state.setup whole.history → Answers script whole.history → Served script whole.history → Planned script whole.history → KeepsService script.setup whole.history → KeepsSplit script whole.history
 split_kept script whole setup isolated explained answers served planned service = record {
   isolated = isolated;
   explained = subst (λ (numbers : SetupNumbers). Explained numbers whole.history) setup explained;

@@ -29,7 +29,7 @@ pub record KeepsPromise (script : ScriptData) : Type 0 where
   pub explained : Explained script.setup (replayed script)
   pub answers : Answers script (replayed script)
   pub planned : Planned script (replayed script)
-  pub service : KeepsService (replayed script)
+  pub service : KeepsService script.setup (replayed script)
 
 -- the sink got a front of the text
 abbrev pub GainsFront : Option (List ℕ) → Option (List ℕ) → List ℕ → Type 0
@@ -65,7 +65,7 @@ pub record KeepsSplit (script : ScriptData) (history : List Item) : Type 0 where
   pub answers : Answers script history
   pub served : Served script history
   pub planned : Planned script history
-  pub service : KeepsService history
+  pub service : KeepsService script.setup history
 
 -- the text of a history was written that the logs of all actors settle into, each of which is of its actor's lines
 pub record WritesSplit (script : ScriptData) (writes : List ℕ → Type 0) : Type 0 where

@@ -105,7 +105,7 @@ fn told<K: Sink>(alloc: Global, script: &Script, cluster: &Cluster, sink: &mut K
     requires answers { Answers (data_of script.now) cluster.now.history }
     requires served { Served (data_of script.now) cluster.now.history }
     requires planned { Planned (data_of script.now) cluster.now.history }
-    requires service { KeepsService cluster.now.history }
+    requires service { KeepsService (data_of script.now).setup cluster.now.history }
     requires setup { cluster.now.state.setup ≡ numbers_of script.now.setup }
     ensures ran { result.code ≡ 0 → WritesSplit (data_of script.now) (Gains (K.held sink.old) (K.held sink.new)) }
     ensures cut { result.code ≡ 5 → WritesSplit (data_of script.now) (GainsFront (K.held sink.old) (K.held sink.new)) }

@@ -124,7 +124,7 @@ impl<L: Ledger> Board<L> {
         ensures serial { IfOk result (λ r. SerialIfStrict (data_of self.script).setup r.0.history) }
         ensures answered { IfOk result (λ r. AnswersOnThreads (data_of self.script) r.0.history) }
         ensures planned { IfOk result (λ r. Planned (data_of self.script) r.0.history) }
-        ensures service { IfOk result (λ r. KeepsService r.0.history) }
+        ensures service { IfOk result (λ r. KeepsService (data_of self.script).setup r.0.history) }
         ensures back { IfErr result (λ r. (data_of r.0.script ≡ data_of self.script) × (r.1.items ≡ shares.items)) }
     {
         let Board { play, script, .. } = self;

@@ -164,7 +164,7 @@ impl<L: Ledger> Play<L> {
         ensures serial { IfOk result (λ r. SerialIfStrict (data_of script.now).setup r.0.history) }
         ensures answered { IfOk result (λ r. AnswersOnThreads (data_of script.now) r.0.history) }
         ensures planned { IfOk result (λ r. Planned (data_of script.now) r.0.history) }
-        ensures service { IfOk result (λ r. KeepsService r.0.history) }
+        ensures service { IfOk result (λ r. KeepsService (data_of script.now).setup r.0.history) }
         ensures counted { IfOk result (λ r. sum_by (λ s. s.amount) shares.items ≡ all_done self.cursors) }
         ensures back { IfErr result (λ r. (r.0 ≡ self) × (r.1.items ≡ shares.items)) }
     {
@@ -191,7 +191,7 @@ impl<L: Ledger> Play<L> {
         ensures serial { SerialIfStrict self.ran.script.setup result.0.history }
         ensures answered { AnswersOnThreads self.ran.script result.0.history }
         ensures planned { Planned self.ran.script result.0.history }
-        ensures service { KeepsService result.0.history }
+        ensures service { KeepsService self.ran.script.setup result.0.history }
         ensures counted { sum_by (λ s. s.amount) shares.items ≡ all_done self.cursors }
     {
         ended_runs_are_whole();

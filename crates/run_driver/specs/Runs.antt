@@ -21,4 +21,4 @@ pub record RunsTo (script : ScriptData) (history : List Item) (turns : List Turn
   pub serial : SerialIfStrict script.setup history
   pub answers : AnswersOnThreads script history
   pub planned : Planned script history
-  pub service : KeepsService history
+  pub service : KeepsService script.setup history

@@ -56,4 +56,4 @@ all_kept stay P keeps script (x ∷ events) p leads room told has reads =
 pub orders_keep_service : ServiceLaws → EventsStayTold → OrdersKeepService
 orders_keep_service laws stay script events in_range playable reads few =
     let told : IsTold script (opening_played script) = record { reached = opening_reached script in_range; tells = tells_at_first script.setup in_range } in
-    service_now laws _ _ (all_kept stay ServiceInvariant (service_kept laws) script events (opening_played script) playable.leads (omega (arith, few, playable.ticks)) told (service_at_first laws script.setup in_range) reads)
+    service_now laws script.setup _ _ (all_kept stay (ServiceInvariant script.setup) (service_kept laws script.setup) script events (opening_played script) playable.leads (omega (arith, few, playable.ticks)) told (service_at_first laws script.setup in_range) reads)

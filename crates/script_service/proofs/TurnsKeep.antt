@@ -78,4 +78,4 @@ turns_keep : (P : State → List Item → Type 0) (script : ScriptData) (turns :
 turns_keep P script turns keeps first in_range playable = after_all P keeps script playable turns (all_passed script (at_first script)) (facts_at_first script in_range) first
 
 pub turns_keep_service : ServiceLaws → TurnsKeepService
-turns_keep_service laws script turns in_range playable = service_now laws _ _ (turns_keep ServiceInvariant script turns (service_kept laws) (service_at_first laws script.setup in_range) in_range playable)
+turns_keep_service laws script turns in_range playable = service_now laws script.setup _ _ (turns_keep (ServiceInvariant script.setup) script turns (service_kept laws script.setup) (service_at_first laws script.setup in_range) in_range playable)

@@ -3,8 +3,8 @@ ghost use Rattle.script_service.specs.Service.{HistoriesKeepService, OrdersKeepS
 
 use command_semantics::{events_lower_what_is_left, events_stay_told};
 use service_laws::{
-    events_keep_stamps, events_keep_told, snapshots_rise, stamps_are_fresh, stamps_at_first,
-    told_at_first, told_is_true, told_stays_true,
+    events_keep_stamps, events_keep_told, one_copy_if_strict, reads_give_one_copy, snapshots_rise,
+    stamps_are_fresh, stamps_at_first, told_at_first, told_is_true, told_stays_true,
 };
 
 /// Every history of the machine keeps it, where the setup is in range and the clocks are steady.
@@ -14,6 +14,7 @@ pub fn histories_keep_service()
     told_is_true();
     stamps_are_fresh();
     snapshots_rise();
+    one_copy_if_strict();
 }
 
 /// So does the history of a script that is carried out in file order. All that is asked for is that the numbers of the setup are
@@ -27,6 +28,7 @@ pub fn scripts_keep_service()
     told_stays_true();
     stamps_at_first();
     events_keep_stamps();
+    reads_give_one_copy();
 }
 
 /// So does the history that turns make of a script, whichever turns are made.
@@ -38,6 +40,7 @@ pub fn turns_keep_service()
     told_stays_true();
     stamps_at_first();
     events_keep_stamps();
+    reads_give_one_copy();
 }
 
 /// So does the history of events in any order, where each reads the clocks as they stand when it is made, and they tick no longer
@@ -51,4 +54,5 @@ pub fn orders_keep_service()
     told_stays_true();
     stamps_at_first();
     events_keep_stamps();
+    reads_give_one_copy();
 }

@@ -109,6 +109,6 @@ module _ (script : ScriptData) (sound : IsSound script) (few : length script.lin
   split_is_planned (Ok whole) s law = law script s.logs whole (is_carried script sound few may there) s.follow s.rise s.settled
   split_is_planned (Err why) s law = tt
 
-  pub split_keeps_service : (r : Result ClusterModel SplitStop) → Splits script r → SettledLogsKeepService → IfOk r (λ (whole : ClusterModel). KeepsService whole.history)
+  pub split_keeps_service : (r : Result ClusterModel SplitStop) → Splits script r → SettledLogsKeepService → IfOk r (λ (whole : ClusterModel). KeepsService script.setup whole.history)
   split_keeps_service (Ok whole) s law = law script s.logs whole (is_carried script sound few may there) s.follow s.rise s.settled
   split_keeps_service (Err why) s law = tt

@@ -47,7 +47,7 @@ pub fn run_split<R: Threads + Wait + Sync, G: PartGate>(
     ensures waited { IfOk result (λ cluster. Waited cluster.history) }
     ensures served { IfOk result (λ cluster. Served (data_of script.now) cluster.history) }
     ensures planned { IfOk result (λ cluster. Planned (data_of script.now) cluster.history) }
-    ensures service { IfOk result (λ cluster. KeepsService cluster.history) }
+    ensures service { IfOk result (λ cluster. KeepsService (data_of script.now).setup cluster.history) }
     ensures setup { IfOk result (λ cluster. cluster.state.setup ≡ numbers_of script.now.setup) }
     ensures stopped { IfErr result (SplitStops (data_of script.now)) }
 {
@@ -90,7 +90,7 @@ fn answering(script: &Script, split: Result<Cluster, SplitStop>) -> Result<Clust
     ensures waited { IfOk result (λ cluster. Waited cluster.history) }
     ensures served { IfOk result (λ cluster. Served (data_of script.now) cluster.history) }
     ensures planned { IfOk result (λ cluster. Planned (data_of script.now) cluster.history) }
-    ensures service { IfOk result (λ cluster. KeepsService cluster.history) }
+    ensures service { IfOk result (λ cluster. KeepsService (data_of script.now).setup cluster.history) }
     ensures setup { IfOk result (λ cluster. cluster.state.setup ≡ numbers_of script.now.setup) }
     ensures stopped { IfErr result (SplitStops (data_of script.now)) }
 {
