@@ -66,6 +66,7 @@ const SIGNS = {'ask-begin': ['?', 'step', 'ask'], 'ask-commit': ['?', 'step', 'a
   write: ['W', 'own', 'write'], read: ['R', 'own', 'read'], placed: ['P', 'done', 'commit placed'], committed: ['C', 'done', 'commit told'],
   end: ['E', 'step', 'other end'], refused: ['!', 'bad', 'refusal'], mark: ['M', 'mark', 'mark'], take: ['T', 'grant', 'take'],
   renew: ['N', 'grant', 'renew'], extend: ['+', 'grant', 'extend'], fault: ['F', 'bad', 'fault'], crash: ['X', 'bad', 'crash'], vanish: ['V', 'bad', 'vanish']}
+const KINDS = new Set(['committed', 'refused', 'aborted', 'dead', 'open', 'lease'])
 const DOT = ['', 'step', 'step, note, tick'], MINOR = new Set(['step', 'note', 'accept', 'ask-begin', 'ask-commit'])
 let drawnAt, items, bars, told, ringed, lanes, shown, columns, chosen, focused, placedOf, lit
 const plain = text => text.replaceAll('&lt;', '<').replaceAll('&amp;', '&')
@@ -90,7 +91,7 @@ function jsonLine(line) {
 }
 function load(text, barText, toldText) {
   items = lines(text).map((line, at) => itemOf(line[0] == '{' ? jsonLine(line) : line, at))
-  bars = lines(barText).map(line => { const [from, to, kind] = line.split(' '); return {from: +from, to: bounded(1, items.length, +to + 1), kind, opener: items[from - 1]} })
+  bars = lines(barText).map(line => { const [from, to, kind] = line.split(' '); return {from: +from, to: bounded(1, items.length, +to + 1), kind, opener: items[from - 1]} }).filter(bar => bar.opener && KINDS.has(bar.kind))
   placedOf = new Map(items.filter(item => item.kind == 'placed').map(item => [item.start, item.number]))
   readTold(lines(toldText))
   chosen = focused = null
