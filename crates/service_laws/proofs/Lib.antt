@@ -9,3 +9,4 @@ mod CalmItems
 mod ToldBefore
 mod StampsKept
 mod OneCopyLaw
+pub mod ServiceKept

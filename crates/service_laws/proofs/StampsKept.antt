@@ -326,7 +326,7 @@ stamps_after w h (move ∷ moves) tells told inv steady =
     let kept : StampInvariant step.state (h ++ step.items) = events_keep_stamps w h move.event move.fate tells now told inv in
     subst (λ (xs : List Item). StampInvariant (state_after step.state moves) xs) (append_assoc h step.items (items_after step.state moves)) (stamps_after step.state (h ++ step.items) moves after told_after kept (steady_stays w move moves steady))
 
-always_stamped : (setup : SetupNumbers) (moves : List Move) → AreInRange setup → Steady setup moves → StampInvariant (state_after (opening setup) moves) (history_after setup moves)
+pub always_stamped : (setup : SetupNumbers) (moves : List Move) → AreInRange setup → Steady setup moves → StampInvariant (state_after (opening setup) moves) (history_after setup moves)
 always_stamped setup moves in_range steady = stamps_after (opening setup) [] moves (tells_at_first setup in_range) (told_at_first setup) (stamps_at_first setup) steady
 
 pub stamps_are_fresh : StampsAlways

@@ -92,7 +92,7 @@ told_placed h s t c told m =
     let (place, found) = place_of (item.Committed s t c) h m in
     in_front_of (item.Placed t c) place h (told.committed.at place (item.Committed s t c) found)
 
-one_outcome : (h : List Item) → Stamped h → ToldIsTrue h → OneOutcome h
+pub one_outcome : (h : List Item) → Stamped h → ToldIsTrue h → OneOutcome h
 one_outcome h stamped told = record {
   commits = λ r s t c d one other. one_commit h t c d stamped (told_placed h r t c told one) (told_placed h s t d told other);
   over = AtEach-weaker (NeverPlaced h) (NeverToldCommitted h) h told.over (λ before x m never s t c is there. never t c is (told_placed h s t c told there));

@@ -1,3 +1,4 @@
 pub mod Told
 pub mod Stamps
 pub mod OneCopy
+pub mod Service

@@ -3,10 +3,12 @@
 #![tactic(auto)]
 
 mod one_copy;
+mod service;
 mod stamps;
 mod told;
 
 pub use one_copy::{one_copy_if_strict, reads_give_one_copy};
+pub use service::{events_keep_service, service_at_first, service_is_kept, service_stands};
 pub use stamps::{events_keep_stamps, snapshots_rise, stamps_are_fresh, stamps_at_first};
 pub use told::{
     events_keep_told, one_outcome_is_told, told_at_first, told_is_true, told_stays_true,

@@ -1,0 +1,5 @@
+use Rattle.service_laws.proofs.ServiceKept as lemmas
+use Rattle.service_laws.proofs.service.service_stands.Goals as goal
+
+pub returns : goal.returns
+returns c = lemmas.service_now
