@@ -17,7 +17,8 @@ use Rattle.command_semantics.proofs.Ending.{opening_reached}
 use Rattle.command_semantics.proofs.Takes.{takes_at_first}
 use Rattle.command_semantics.specs.Orders.{EventsStayTold, ticks_made}
 use Rattle.script_data.specs.Ticks.{ticks_of}
-use Rattle.script_service.specs.Service.{KeepsService, OrdersKeepService}
+use Rattle.script_service.specs.Service.{OrdersKeepService}
+use Rattle.service_rules.specs.Service.{KeepsService}
 use Rattle.cluster_core.specs.ClusterModel.{ClusterModel}
 use Rattle.thread_scripts.specs.Actors.{actors_of}
 use Rattle.split_stores.specs.Logs.{Logged}

@@ -11,7 +11,7 @@ use Rattle.history_book.specs.declared.item.Item.{Item}
 use Rattle.command_semantics.specs.Answers.{Answers}
 use Rattle.command_semantics.specs.Laws.{IsPlayable, AreLinesOf}
 use Rattle.command_semantics.specs.Planned.{Planned}
-use Rattle.script_service.specs.Service.{KeepsService}
+use Rattle.service_rules.specs.Service.{KeepsService}
 use Rattle.cluster_core.specs.ClusterModel.{ClusterModel}
 use Rattle.thread_scripts.specs.Actors.{actors_of}
 use Rattle.split_stores.specs.Logs.{Logged, ticks_of, rises_above}

@@ -14,7 +14,7 @@ use Rattle.command_semantics.specs.Answers.{Answers}
 use Rattle.command_semantics.specs.Planned.{Planned}
 use Rattle.command_semantics.specs.Runs.{replayed}
 use Rattle.stamp_base.specs.SetupNumbers.{SetupNumbers}
-use Rattle.script_service.specs.Service.{KeepsService}
+use Rattle.service_rules.specs.Service.{KeepsService}
 use Rattle.cluster_core.specs.ClusterModel.{ClusterModel}
 use Rattle.log_refinement.specs.Served.{Served}
 use Rattle.split_driver.specs.Splits.{SplitsTo}

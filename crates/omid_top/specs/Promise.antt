@@ -11,7 +11,7 @@ use Rattle.session_script.specs.Script.{BadLine}
 use Rattle.command_semantics.specs.Runs.{replayed}
 use Rattle.command_semantics.specs.Answers.{Answers}
 use Rattle.command_semantics.specs.Planned.{Planned}
-use Rattle.script_service.specs.Service.{KeepsService}
+use Rattle.service_rules.specs.Service.{KeepsService}
 use Rattle.turn_rules.specs.declared.turn.Turn.{Turn}
 use Rattle.cluster_core.specs.ClusterModel.{ClusterModel}
 use Rattle.run_driver.specs.Runs.{RunsTo}

@@ -8,7 +8,7 @@ ghost use Rattle.session_script.specs.declared.mode.Mode.TheVariants.{Split};
 ghost use Rattle.command_semantics.specs.Answers.{Answers};
 ghost use Rattle.command_semantics.specs.Planned.{Planned};
 ghost use Rattle.log_refinement.specs.Served.{Served};
-ghost use Rattle.script_service.specs.Service.{KeepsService};
+ghost use Rattle.service_rules.specs.Service.{KeepsService};
 ghost use Rattle.split_driver.specs.Splits.{MaySplit, SplitsTo, SplitStops};
 ghost use Rattle.omid_top.specs.Commands.{RunsSplit};
 ghost use Rattle.omid_top.specs.Promise.{GainsFront, WritesSplit, WritesTorn, WritesFront, IsCutSplit};

@@ -10,7 +10,8 @@ use Rattle.turn_rules.specs.declared.turn.Turn.{Turn}
 use Rattle.turn_rules.specs.Carried.{carried_items, AreWhole}
 use Rattle.turn_rules.specs.Lawful.{AreLawful}
 use Rattle.turn_rules.specs.Laws.{TurnsAnswer, TurnsArePlanned}
-use Rattle.script_service.specs.Service.{KeepsService, TurnsKeepService}
+use Rattle.script_service.specs.Service.{TurnsKeepService}
+use Rattle.service_rules.specs.Service.{KeepsService}
 use Rattle.thread_scripts.specs.Actors.{AreAtTheirEnds}
 use Rattle.thread_scripts.proofs.AllEnded.{all_ended}
 use Rattle.run_board.specs.Run.{Ran}

@@ -6,7 +6,7 @@ ghost use Rattle.cause_rules.specs.Strict.{SerialIfStrict};
 ghost use Rattle.session_script.specs.Script.{data_of};
 ghost use Rattle.command_semantics.specs.Answers.{AnswersOnThreads};
 ghost use Rattle.command_semantics.specs.Planned.{Planned};
-ghost use Rattle.script_service.specs.Service.{KeepsService};
+ghost use Rattle.service_rules.specs.Service.{KeepsService};
 ghost use Rattle.turn_rules.specs.Told.{AreForThreads};
 ghost use Rattle.thread_steps.specs.Done.{parts_for, fresh};
 ghost use Rattle.thread_scripts.specs.Actors.{actors_of};

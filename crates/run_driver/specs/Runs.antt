@@ -7,7 +7,7 @@ use Rattle.cause_rules.specs.Strict.{SerialIfStrict}
 use Rattle.script_data.specs.Data.{ScriptData}
 use Rattle.command_semantics.specs.Answers.{AnswersOnThreads}
 use Rattle.command_semantics.specs.Planned.{Planned}
-use Rattle.script_service.specs.Service.{KeepsService}
+use Rattle.service_rules.specs.Service.{KeepsService}
 use Rattle.turn_rules.specs.declared.turn.Turn.{Turn}
 use Rattle.run_board.specs.Playing.{IsResult}
 

@@ -18,7 +18,7 @@ use Rattle.command_semantics.specs.Orders.{TimedEvent, AllRead, all_played, tick
 use Rattle.command_semantics.proofs.Ending.{Keeps, opening_reached}
 use Rattle.command_semantics.proofs.Timing.{Timed, InTime, in_time}
 use Rattle.script_service.specs.Service.{OrdersKeepService}
-use Rattle.script_service.proofs.EventsKeep.{ServiceLaws, ServiceInvariant, service_at_first, service_kept, service_now}
+use Rattle.script_service.proofs.EventsKeep.{ServiceLaws, Served, served_at_first, served_kept, served_now}
 
 reads_timed : (clocks : Clocks) (tick : Option ℕ) (e : Event) → ReadsClocks clocks tick e → Timed clocks (unwrap_or tick 0) e
 reads_timed clocks None (event.Tick to) reads = absurd reads
@@ -56,4 +56,4 @@ all_kept stay P keeps script (x ∷ events) p leads room told has reads =
 pub orders_keep_service : ServiceLaws → EventsStayTold → OrdersKeepService
 orders_keep_service laws stay script events in_range playable reads few =
     let told : IsTold script (opening_played script) = record { reached = opening_reached script in_range; tells = tells_at_first script.setup in_range } in
-    service_now laws script.setup _ _ (all_kept stay (ServiceInvariant script.setup) (service_kept laws script.setup) script events (opening_played script) playable.leads (omega (arith, few, playable.ticks)) told (service_at_first laws script.setup in_range) reads)
+    served_now laws script.setup _ _ (all_kept stay (Served script.setup) (served_kept laws script.setup) script events (opening_played script) playable.leads (omega (arith, few, playable.ticks)) told (served_at_first laws script.setup in_range) reads)

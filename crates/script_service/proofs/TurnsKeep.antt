@@ -21,7 +21,7 @@ use Rattle.turn_rules.proofs.Facts.{Facts, ticks_left, clock_ticks, facts_turned
 use Rattle.turn_rules.proofs.OwnTimes.{own_tick}
 use Rattle.turn_rules.proofs.OwnTurns.{OwnTurn, own_turn, turn_timed, stage_turn}
 use Rattle.script_service.specs.Service.{TurnsKeepService}
-use Rattle.script_service.proofs.EventsKeep.{ServiceLaws, ServiceInvariant, service_at_first, service_kept, service_now}
+use Rattle.script_service.proofs.EventsKeep.{ServiceLaws, Served, served_at_first, served_kept, served_now}
 
 -- a property of the state and the history, of what was carried out
 abbrev HasNow : (State → List Item → Type 0) → Carried → Type 0
@@ -78,4 +78,4 @@ turns_keep : (P : State → List Item → Type 0) (script : ScriptData) (turns :
 turns_keep P script turns keeps first in_range playable = after_all P keeps script playable turns (all_passed script (at_first script)) (facts_at_first script in_range) first
 
 pub turns_keep_service : ServiceLaws → TurnsKeepService
-turns_keep_service laws script turns in_range playable = service_now laws script.setup _ _ (turns_keep (ServiceInvariant script.setup) script turns (service_kept laws script.setup) (service_at_first laws script.setup in_range) in_range playable)
+turns_keep_service laws script turns in_range playable = served_now laws script.setup _ _ (turns_keep (Served script.setup) script turns (served_kept laws script.setup) (served_at_first laws script.setup in_range) in_range playable)

@@ -1,9 +1,7 @@
-//! Why the histories of scripts keep what users rely on beside isolation, in file order and on threads: what sessions are told is
-//! true, and stamps keep to real time.
+//! Why the histories of scripts keep what users rely on beside isolation, in file order, on threads and in any other order of
+//! events.
 #![tactic(auto)]
 
 mod service;
 
-pub use service::{
-    histories_keep_service, orders_keep_service, scripts_keep_service, turns_keep_service,
-};
+pub use service::{orders_keep_service, scripts_keep_service, turns_keep_service};

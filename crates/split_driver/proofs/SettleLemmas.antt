@@ -8,7 +8,7 @@ use Rattle.script_data.specs.declared.line.Line.{Line}
 use Rattle.script_data.specs.Data.{ScriptData, IsSound}
 use Rattle.command_semantics.specs.Answers.{Answers}
 use Rattle.command_semantics.specs.Planned.{Planned}
-use Rattle.script_service.specs.Service.{KeepsService}
+use Rattle.service_rules.specs.Service.{KeepsService}
 use Rattle.command_semantics.specs.Runs.{Played, opening_played, fate_of}
 use Rattle.machine.specs.State.{State}
 use Rattle.machine.proofs.PartsKept.{leaves_parts}

@@ -5,7 +5,7 @@ ghost use Rattle.stamp_base.specs.Setups.{numbers_of};
 ghost use Rattle.session_script.specs.Script.{data_of};
 ghost use Rattle.command_semantics.specs.Answers.{Answers};
 ghost use Rattle.command_semantics.specs.Planned.{Planned};
-ghost use Rattle.script_service.specs.Service.{KeepsService};
+ghost use Rattle.service_rules.specs.Service.{KeepsService};
 ghost use Rattle.planned_cluster.specs.Fitting.{SessionIsThere};
 ghost use Rattle.thread_scripts.specs.Actors.{actors_of};
 ghost use Rattle.log_refinement.specs.Served.{Served};
