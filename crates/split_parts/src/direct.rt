@@ -1,6 +1,6 @@
 // Events that are made of the lent parts themselves.
 ghost use Rattle.std.specs.FinMap as map;
-ghost use Rattle.std.specs.Prelude.{◌≡◌, ◌<◌, IfOk, IfSome, IsSome, IsTrue, OnErr, OnOk, None, slice_index_or, slice_set, List, ℕ, []};
+ghost use Rattle.std.specs.Prelude.{◌≡◌, ◌<◌, IfOk, IfSome, IsTrue, OnErr, OnOk, None, slice_index_or, slice_set, List, ℕ, []};
 ghost use Rattle.machine.specs.Events.Write.{write_refused, write_on};
 ghost use Rattle.machine.specs.Events.Abort.{abort_on};
 ghost use Rattle.machine.specs.Events.Vanish.{vanish_on};
@@ -27,7 +27,7 @@ ghost use Rattle.split_parts.specs.Acts.{Acts, asked_of};
 ghost use Rattle.split_parts.specs.Agrees.{CallsFit, HasSession};
 ghost use Rattle.split_parts.specs.Direct.{HasAll, HasPost, lent_effect, MakesOfCells, MakesOfNode, MakesOfSession, MakesOfStores, MakesOfTable, on_both, on_rows, on_table_too, turned};
 ghost use Rattle.split_parts.specs.Making.{called_after};
-ghost use Rattle.split_parts.specs.Parts.{LeasesBySetup, behind, cells_of, fate_of, filled, lent_pairs, lent_rows, node_of, seen, session_of, sessions_seen, setup_of, table_of};
+ghost use Rattle.split_parts.specs.Parts.{LeasesBySetup, behind, cells_of, fate_of, filled, lent_pairs, lent_rows, node_of, seen, session_of, sessions_seen, table_of};
 
 use crate::acting::ended;
 use crate::parts::{CellsPart, NodePart, SessionPart, TablePart};
