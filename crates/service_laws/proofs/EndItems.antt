@@ -114,7 +114,7 @@ only_end : (s t session start : ℕ) (how by : Ending) (front : List Item) → E
 unfolding ◌∈◌
 only_end s t session start how by front none m = elim (in_append (item.End s t how) front (item.End session start by ∷ []) m) [
   | inl before ↦ absurd (no_end_in front s t how none before)
-  | inr last ↦ elim last [ inl same ↦ same | inr none_more ↦ absurd none_more ]
+  | inr last ↦ elim last [ inl same ↦ same | inr nothing_ ↦ absurd nothing_ ]
 ]
 
 -- ---- a commit of what wrote nothing

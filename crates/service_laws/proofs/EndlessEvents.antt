@@ -17,11 +17,11 @@ use Rattle.system_parts.specs.Pairs.{Pairs, mark_of}
 use Rattle.system_parts.specs.Record.{MasterRecord, granted, take_refused, renewed_until, renew_refused, extend_refused}
 use Rattle.system_parts.specs.declared.record.Grant.{Grant}
 use Rattle.system_parts.specs.declared.record.TakeRefused.{TakeRefused}
-use Rattle.system_parts.specs.declared.record.TakeRefused.TheVariants as take_refusal
+use Rattle.system_parts.specs.declared.record.TakeRefused.TheVariants as take_
 use Rattle.system_parts.specs.declared.record.RenewRefused.{RenewRefused}
-use Rattle.system_parts.specs.declared.record.RenewRefused.TheVariants as renew_refusal
+use Rattle.system_parts.specs.declared.record.RenewRefused.TheVariants as renew_
 use Rattle.system_parts.specs.declared.record.ExtendRefused.{ExtendRefused}
-use Rattle.system_parts.specs.declared.record.ExtendRefused.TheVariants as extend_refusal
+use Rattle.system_parts.specs.declared.record.ExtendRefused.TheVariants as extend_
 use Rattle.system_parts.specs.declared.asks.Ask.{Ask}
 use Rattle.system_parts.specs.declared.asks.Ask.TheVariants as ask
 use Rattle.system_parts.specs.declared.asks.Told.{Told}
@@ -65,9 +65,9 @@ fault_behind kept x none rest = both_endless kept (x ∷ []) rest (one_endless x
 
 took : (setup : SetupNumbers) (node reading : ℕ) (master : MasterRecord) (kept : List Item) (answer : Result Grant TakeRefused) → Endless kept → Endless (take_by setup node reading master kept answer).items
 took setup node reading master kept (Ok grant) none = one_endless (take_item node reading grant) refl
-took setup node reading master kept (Err take_refusal.StoreFault) none = fault_behind kept (item.Fault (Node node) Master) refl none
-took setup node reading master kept (Err (take_refusal.Early at until)) none = one_endless (item.Refused (Node node) (cause.Early at until)) refl
-took setup node reading master kept (Err (take_refusal.Spent ceiling)) none = one_endless (item.Refused (Node node) (cause.Spent ceiling)) refl
+took setup node reading master kept (Err take_.StoreFault) none = fault_behind kept (item.Fault (Node node) Master) refl none
+took setup node reading master kept (Err (take_.Early at until)) none = one_endless (item.Refused (Node node) (cause.Early at until)) refl
+took setup node reading master kept (Err (take_.Spent ceiling)) none = one_endless (item.Refused (Node node) (cause.Spent ceiling)) refl
 
 pub take_endless : (setup : SetupNumbers) (node reading : ℕ) (fate : Fate) (post : Option InstanceEntry) (master : MasterRecord) → Endless (take_on setup node reading fate post master).items
 take_endless setup node reading fate (Some i) master = one_endless (item.Refused (Node node) (cause.Holding i.term)) refl
@@ -76,8 +76,8 @@ take_endless setup node reading fate None master =
 
 renewing : (node reading : ℕ) (i : InstanceEntry) (master : MasterRecord) (kept : List Item) (answer : Result ℕ RenewRefused) → Endless kept → Endless (renew_by node reading i master kept answer).items
 renewing node reading i master kept (Ok until) none = one_endless (item.Renew node reading i.term until) refl
-renewing node reading i master kept (Err renew_refusal.StoreFault) none = fault_behind kept (item.Fault (Node node) Master) refl none
-renewing node reading i master kept (Err (renew_refusal.Replaced found)) none = one_endless (item.Refused (Node node) (cause.Replaced found)) refl
+renewing node reading i master kept (Err renew_.StoreFault) none = fault_behind kept (item.Fault (Node node) Master) refl none
+renewing node reading i master kept (Err (renew_.Replaced found)) none = one_endless (item.Refused (Node node) (cause.Replaced found)) refl
 
 pub renew_endless : (setup : SetupNumbers) (node reading : ℕ) (fate : Fate) (post : Option InstanceEntry) (master : MasterRecord) → Endless (renew_on setup node reading fate post master).items
 renew_endless setup node reading fate None master = one_endless (item.Refused (Node node) (cause.NoOracle node)) refl
@@ -86,9 +86,9 @@ renew_endless setup node reading fate (Some i) master =
 
 extending : (node : ℕ) (i : InstanceEntry) (master : MasterRecord) (kept : List Item) (answer : Result ℕ ExtendRefused) → Endless kept → Endless (extend_by node i master kept answer).items
 extending node i master kept (Ok ceiling) none = one_endless (item.Extend node i.term ceiling) refl
-extending node i master kept (Err extend_refusal.StoreFault) none = fault_behind kept (item.Fault (Node node) Master) refl none
-extending node i master kept (Err (extend_refusal.Replaced found)) none = one_endless (item.Refused (Node node) (cause.Replaced found)) refl
-extending node i master kept (Err (extend_refusal.Spent ceiling)) none = one_endless (item.Refused (Node node) (cause.Spent ceiling)) refl
+extending node i master kept (Err extend_.StoreFault) none = fault_behind kept (item.Fault (Node node) Master) refl none
+extending node i master kept (Err (extend_.Replaced found)) none = one_endless (item.Refused (Node node) (cause.Replaced found)) refl
+extending node i master kept (Err (extend_.Spent ceiling)) none = one_endless (item.Refused (Node node) (cause.Spent ceiling)) refl
 
 pub extend_endless : (setup : SetupNumbers) (node : ℕ) (fate : Fate) (post : Option InstanceEntry) (master : MasterRecord) → Endless (extend_on setup node fate post master).items
 extend_endless setup node fate None master = one_endless (item.Refused (Node node) (cause.NoOracle node)) refl

@@ -49,7 +49,7 @@ no_end_in (y ∷ ys) s t how none m = elim m [
   | inr deeper ↦ no_end_in ys s t how (All-tail IsNoEnd y ys none) deeper
 ]
 
-pub once_endless : (again : Bool) (x : Item) → IsNoEnd x → Endless (if again then [] else x ∷ [])
+pub once_endless : (told_ : Bool) (x : Item) → IsNoEnd x → Endless (if told_ then [] else x ∷ [])
 once_endless true x none = none_ends
 once_endless false x none = one_endless x none
 

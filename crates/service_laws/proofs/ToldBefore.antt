@@ -76,8 +76,8 @@ one_item n s count x xs is none = elim (cases_Bool (asks_at n s x)) [
   | inl asks ↦ inl (record { front = []; ask = x; behind = xs; is = refl; asks = asks; none = none })
   | inr other ↦ elim (cases_Bool (closes n s x)) [
     | inl shut ↦
-        let shut_now : open_then n s count x ≡ 0 = rw (other, shut) refl in
-        absurd (zero_not_one (open_then n s count x) shut_now is)
+        let zero_ : open_then n s count x ≡ 0 = rw (other, shut) refl in
+        absurd (zero_not_one (open_then n s count x) zero_ is)
     | inr stays ↦
         let same : open_then n s count x ≡ count = rw (other, stays) refl in
         inr (sym same ∙ is, All-cons (λ (y : Item). closes n s y ≡ false) x xs stays none)

@@ -62,7 +62,7 @@ at_these : (items these : List Item) (place : ℕ) (x : Item) → items ≡ thes
 at_these items these place x is found = subst (λ (xs : List Item). slice_get xs place ≡ Some x) is found
 
 not_false : (b : Bool) → b ≡ true → b ≡ false → ⊥
-not_false b is none = not_true (sym none ∙ is)
+not_false b yes_ none = not_true (sym none ∙ yes_)
 
 -- ---- answers to a commit, from its node or by its session itself
 answered_committed : (by : Settled) (session start commit s t c : ℕ) → answered_item by session start commit ≡ item.Committed s t c → (by ≡ how.Placed) × (start ≡ t) × (commit ≡ c)
