@@ -1,7 +1,7 @@
 #!/usr/bin/env python3
 """Checks that README.md and docs/ show what is so: their commands, scripts, histories and links.
 
-    bench/check_pages.py                  builds omid, omid_view and bank once each, unproved (bench/keep.py), and checks all
+    bench/check_pages.py                  builds omid, omid_view, omid_check and bank, unproved (bench/keep.py), and checks all
     bench/check_pages.py --with FOLDER    the same with the programs that stand in the folder
     bench/check_pages.py --built          the same with those in crates/*/out, which a green gate leaves there
     bench/check_pages.py --links          the links alone: no program is needed
@@ -33,7 +33,7 @@ import tempfile
 
 ROOT = os.path.dirname(os.path.dirname(os.path.abspath(__file__)))
 sys.path.insert(0, os.path.join(ROOT, 'bench'))
-PROGRAMS = ('omid', 'omid_view', 'bank')
+PROGRAMS = ('omid', 'omid_view', 'omid_check', 'bank')
 # how often what threads write is tried
 TRIES = 20
 # a command that takes longer than this is stuck

@@ -196,7 +196,7 @@ def most(files):
     crates = defaultdict(int)
     for path, lines in files.items():
         crates[path.split('/')[1]] += lines
-    return ', '.join(f'`{name}` {lines}' for name, lines in sorted(crates.items(), key=lambda it: -it[1])[:4])
+    return ', '.join(f'`{name}` {lines}' for name, lines in sorted(crates.items(), key=lambda it: -it[1])[:2])
 
 
 def with_table(text):

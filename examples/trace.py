@@ -176,22 +176,30 @@ def by_stamps(history, txns):
 
 
 def by_moments(history, txns):
-    """In the order of the clock, with the asks: a session is taken from an ask to its begin alone."""
+    """In the order of the clock, with the asks. A session is taken from an ask to its begin, and where others are free up to the commit
+    too, so that a picture has a lane for each transaction that runs."""
     moments = [((txn['asked'], 0, place), txn) for place, txn in enumerate(txns)]
     moments += [((txn['begun'], 1, place), txn) for place, txn in enumerate(txns)]
     moments += [((txn['done'], 2, place), txn) for place, txn in enumerate(txns) if txn['to'] is not None]
-    free, taken, found, crowded = list(range(SESSIONS))[::-1], {}, [], 0
+    free, running, taken, kept, found, crowded = set(range(SESSIONS)), [0] * SESSIONS, {}, {}, [], 0
     for (_, which, place), txn in sorted(moments, key=lambda it: it[0]):
         if which == 2:
             found.append(placed(txn))
+            if place in kept:
+                running[kept.pop(place)] -= 1
         elif which == 0 and free:
-            taken[place] = free.pop()
+            taken[place] = min(free, key=lambda it: (running[it], it))
+            free.remove(taken[place])
             found.append({'kind': 'ask-begin', 'node': 'a', 'session': f's{taken[place]}'})
         elif which == 1:
             crowded += place not in taken
-            found += history.items(txn, f's{taken.get(place, place % SESSIONS)}')
+            session = taken.get(place, place % SESSIONS)
+            found += history.items(txn, f's{session}')
             if place in taken:
-                free.append(taken.pop(place))
+                free.add(taken.pop(place))
+            if txn['to'] is not None:
+                kept[place] = session
+                running[session] += 1
     if crowded:
         tell(f'{crowded} transactions were asked for while {SESSIONS} others were: they have no `ask-begin`')
     return found

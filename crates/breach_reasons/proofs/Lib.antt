@@ -1,0 +1,3 @@
+mod WriteTold
+mod AnswerTold
+mod AskTold

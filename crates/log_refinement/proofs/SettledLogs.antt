@@ -1,5 +1,5 @@
 -- The history that logs settle into, which follow the lines of a script, answers the script and is as it plans.
-use Rattle.std.proofs.Common.{◌≡◌, List, [], None, refl, sym, ap, subst, arith}
+use Rattle.std.proofs.Common.{◌≡◌, ℕ, ◌≤◌, List, [], None, refl, sym, ◌∙◌, ap, subst, arith}
 use Rattle.std.specs.Prelude.{filter, sum, IsTrue}
 use Rattle.history_book.specs.Members.{◌∈◌}
 use Rattle.history_book.specs.declared.item.Actor.{Actor}
@@ -15,14 +15,17 @@ use Rattle.command_semantics.specs.Runs.{opening_played}
 use Rattle.command_semantics.proofs.AlwaysFit.{fit_at_first}
 use Rattle.command_semantics.proofs.Ending.{opening_reached}
 use Rattle.command_semantics.proofs.Takes.{takes_at_first}
-use Rattle.command_semantics.specs.Orders.{EventsStayTold}
+use Rattle.command_semantics.specs.Orders.{EventsStayTold, ticks_made}
+use Rattle.script_data.specs.Ticks.{ticks_of}
+use Rattle.script_service.specs.Service.{OrdersKeepService}
+use Rattle.service_rules.specs.Service.{KeepsService}
 use Rattle.cluster_core.specs.ClusterModel.{ClusterModel}
 use Rattle.thread_scripts.specs.Actors.{actors_of}
 use Rattle.split_stores.specs.Logs.{Logged}
 use Rattle.split_stores.specs.Merged.{kept_items, IsSettledAt, Settled}
 use Rattle.split_stores.specs.Merging.{logs_of}
-use Rattle.split_stores.specs.Orders.{rises_in, without_lines, SettledByPlans, SettledIsPlanned}
-use Rattle.log_refinement.specs.Laws.{AllRise, IsCarried, SettledLogsAnswer, SettledLogsArePlanned, SettledLogsServe}
+use Rattle.split_stores.specs.Orders.{rises_in, without_lines, SettledByPlans, IsOrdered, SettledIsOrdered, SettledIsPlanned}
+use Rattle.log_refinement.specs.Laws.{AllRise, IsCarried, SettledLogsAnswer, SettledLogsArePlanned, SettledLogsKeepService, SettledLogsServe}
 use Rattle.log_refinement.specs.Owed.{first_standing}
 use Rattle.log_refinement.specs.Served.{Nothing, AnsweredServed}
 use Rattle.log_refinement.proofs.AskFacts.{MachineLaws}
@@ -65,6 +68,13 @@ settled_logs_answer law by_plans script logs whole carried follow_all rise settl
 pub settled_logs_are_planned : SettledIsPlanned → SettledLogsArePlanned
 settled_logs_are_planned law script logs whole carried follow rise settled =
     law script (logs_of logs) whole settled carried.setup carried.playable (rises_settled script logs whole carried (all_opened script (actors_of script) logs carried.masters follow) rise settled)
+
+pub settled_logs_keep_service : SettledIsOrdered → OrdersKeepService → SettledLogsKeepService
+settled_logs_keep_service ordered law script logs whole carried follow rise settled =
+    let order : IsOrdered script settled.merged whole = ordered script (logs_of logs) whole settled in
+    let ticks : ticks_made order.events ≡ ticks_in script.lines = order.ticks ∙ rises_settled script logs whole carried (all_opened script (actors_of script) logs carried.masters follow) rise settled in
+    let few : sum (ticks_made order.events) ≤ ticks_of script.lines = subst (λ (made : List ℕ). sum made ≤ ticks_of script.lines) (sym ticks) (ticks_most script.lines) in
+    subst (KeepsService script.setup) (sym order.items) (law script order.events carried.setup carried.playable order.read few)
 
 -- before the first entry no session has a transaction open
 keys_first : (script : ScriptData) (actor : Actor) → IsCarried script → KeysKept actor (opening_played script).state []

@@ -11,6 +11,7 @@ use Rattle.history_book.specs.declared.item.Item.{Item}
 use Rattle.command_semantics.specs.Answers.{Answers}
 use Rattle.command_semantics.specs.Laws.{IsPlayable, AreLinesOf}
 use Rattle.command_semantics.specs.Planned.{Planned}
+use Rattle.service_rules.specs.Service.{KeepsService}
 use Rattle.cluster_core.specs.ClusterModel.{ClusterModel}
 use Rattle.thread_scripts.specs.Actors.{actors_of}
 use Rattle.split_stores.specs.Logs.{Logged, ticks_of, rises_above}
@@ -56,6 +57,11 @@ SettledLogsAnswer =
 abbrev pub SettledLogsArePlanned : Type 0
 SettledLogsArePlanned =
     (script : ScriptData) (logs : List Logged) (whole : ClusterModel) → IsCarried script → AllFollow script (actors_of script) logs → AllRise logs → Settled (without_lines script) (logs_of logs) whole → Planned script whole.history
+
+-- and what its sessions are told may be relied on
+abbrev pub SettledLogsKeepService : Type 0
+SettledLogsKeepService =
+    (script : ScriptData) (logs : List Logged) (whole : ClusterModel) → IsCarried script → AllFollow script (actors_of script) logs → AllRise logs → Settled (without_lines script) (logs_of logs) whole → KeepsService script.setup whole.history
 
 -- and serves the script
 abbrev pub SettledLogsServe : Type 0

@@ -1,12 +1,13 @@
 // What holds of every history that logs settle into, which follow the lines of a script.
-ghost use Rattle.log_refinement.specs.Laws.{ServedHistoriesAnswer, SettledLogsAnswer, SettledLogsArePlanned, SettledLogsServe};
+ghost use Rattle.log_refinement.specs.Laws.{ServedHistoriesAnswer, SettledLogsAnswer, SettledLogsArePlanned, SettledLogsKeepService, SettledLogsServe};
 
 use command_semantics::events_stay_told;
 use request_completion::{
     asks_are_turns, begins_are_asked, closed_asks_are_over, ends_at_first, events_keep_ends,
     lost_asks_are_over, over_stays_over, session_turns, silent_answers_repeat,
 };
-use split_stores::{settled_by_plans, settled_is_planned};
+use script_service::orders_keep_service;
+use split_stores::{settled_by_plans, settled_is_ordered, settled_is_planned};
 
 /// The history answers the script: each line of each actor once, in the order of the actor's lines.
 pub fn settled_logs_answer()
@@ -21,6 +22,14 @@ pub fn settled_logs_are_planned()
     ensures { SettledLogsArePlanned }
 {
     settled_is_planned();
+}
+
+/// What its sessions are told may be relied on: outcomes are true, and stamps keep to real time.
+pub fn settled_logs_keep_service()
+    ensures { SettledLogsKeepService }
+{
+    settled_is_ordered();
+    orders_keep_service();
 }
 
 /// It serves the script: what each begin and each commit has asked is over before its session's next line, unless its node could

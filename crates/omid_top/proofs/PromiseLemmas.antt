@@ -14,29 +14,32 @@ use Rattle.command_semantics.specs.Answers.{Answers}
 use Rattle.command_semantics.specs.Planned.{Planned}
 use Rattle.command_semantics.specs.Runs.{replayed}
 use Rattle.stamp_base.specs.SetupNumbers.{SetupNumbers}
+use Rattle.service_rules.specs.Service.{KeepsService}
 use Rattle.cluster_core.specs.ClusterModel.{ClusterModel}
 use Rattle.log_refinement.specs.Served.{Served}
 use Rattle.split_driver.specs.Splits.{SplitsTo}
 use Rattle.history_text.specs.Text.{printed}
 use Rattle.omid_top.specs.Promise.{KeepsPromise, KeepsSplit, WritesSplit}
 
-pub promise_kept : (script : ScriptData) (h : List Item) → h ≡ replayed script → Isolated h → SerialIfStrict script.setup h → Explained script.setup h → Answers script h → Planned script h → KeepsPromise script
-promise_kept script h is isolated serial explained answers planned = record {
+pub promise_kept : (script : ScriptData) (h : List Item) → h ≡ replayed script → Isolated h → SerialIfStrict script.setup h → Explained script.setup h → Answers script h → Planned script h → KeepsService script.setup (replayed script) → KeepsPromise script
+promise_kept script h is isolated serial explained answers planned service = record {
   isolated = subst (λ (x : List Item). Isolated x) is isolated;
   serial = subst (λ (x : List Item). SerialIfStrict script.setup x) is serial;
   explained = subst (λ (x : List Item). Explained script.setup x) is explained;
   answers = subst (λ (x : List Item). Answers script x) is answers;
   planned = subst (λ (x : List Item). Planned script x) is planned;
+  service = service;
 }
 
 -- the same of a history over split stores
-pub split_kept : (script : ScriptData) (whole : ClusterModel) → whole.state.setup ≡ script.setup → Isolated whole.history → Explained whole.state.setup whole.history → Answers script whole.history → Served script whole.history → Planned script whole.history → KeepsSplit script whole.history
-split_kept script whole setup isolated explained answers served planned = record {
+pub split_kept : (script : ScriptData) (whole : ClusterModel) → whole.state.setup ≡ script.setup → Isolated whole.history → Explained whole.state.setup whole.history → Answers script whole.history → Served script whole.history → Planned script whole.history → KeepsService script.setup whole.history → KeepsSplit script whole.history
+split_kept script whole setup isolated explained answers served planned service = record {
   isolated = isolated;
   explained = subst (λ (numbers : SetupNumbers). Explained numbers whole.history) setup explained;
   answers = answers;
   served = served;
   planned = planned;
+  service = service;
 }
 
 pub split_written : (script : ScriptData) (whole : ClusterModel) (writes : List ℕ → Type 0) (h : List Item) → SplitsTo script whole → KeepsSplit script whole.history → h ≡ whole.history → writes (printed h) → WritesSplit script writes

@@ -11,6 +11,7 @@ use Rattle.session_script.specs.Script.{BadLine}
 use Rattle.command_semantics.specs.Runs.{replayed}
 use Rattle.command_semantics.specs.Answers.{Answers}
 use Rattle.command_semantics.specs.Planned.{Planned}
+use Rattle.service_rules.specs.Service.{KeepsService}
 use Rattle.turn_rules.specs.declared.turn.Turn.{Turn}
 use Rattle.cluster_core.specs.ClusterModel.{ClusterModel}
 use Rattle.run_driver.specs.Runs.{RunsTo}
@@ -20,13 +21,15 @@ use Rattle.history_text.specs.Text.{printed}
 use Rattle.omid_top.specs.Texts.{bad_line_text, spent_text, torn_text}
 
 -- The history of the script, carried out in file order, is snapshot isolated, is serial where the script asks for strict reads, shows
--- the cause of every refusal, answers every line, and has the faults, times and readings that the script plans.
+-- the cause of every refusal, answers every line, has the faults, times and readings that the script plans, and what its sessions are
+-- told may be relied on.
 pub record KeepsPromise (script : ScriptData) : Type 0 where
   pub isolated : Isolated (replayed script)
   pub serial : SerialIfStrict script.setup (replayed script)
   pub explained : Explained script.setup (replayed script)
   pub answers : Answers script (replayed script)
   pub planned : Planned script (replayed script)
+  pub service : KeepsService script.setup (replayed script)
 
 -- the sink got a front of the text
 abbrev pub GainsFront : Option (List ℕ) → Option (List ℕ) → List ℕ → Type 0
@@ -62,6 +65,7 @@ pub record KeepsSplit (script : ScriptData) (history : List Item) : Type 0 where
   pub answers : Answers script history
   pub served : Served script history
   pub planned : Planned script history
+  pub service : KeepsService script.setup history
 
 -- the text of a history was written that the logs of all actors settle into, each of which is of its actor's lines
 pub record WritesSplit (script : ScriptData) (writes : List ℕ → Type 0) : Type 0 where

@@ -19,6 +19,7 @@ use crate::{Status, print};
 use port_io::{ReadStop, Sink, Source, read_up_to};
 use replay_driver::{replay_told, storm_script};
 use run_driver::Gate;
+use script_service::scripts_keep_service;
 use stamp_base::{BYTE_LIMIT, NoMemory};
 use std::alloc::Global;
 
@@ -91,6 +92,7 @@ fn replay_script<K: Sink, G: Gate>(
     ensures lines { result.code ≡ 6 → GainsLines (K.held sink.old) (K.held sink.new) (replayed (data_of script.now)) }
     ensures codes { (result.code ≡ 0) ⊎ (result.code ≡ 5) ⊎ (result.code ≡ 6) }
 {
+    scripts_keep_service();
     match replay_told(alloc, script, &TellsGate { gate }) {
         Ok(cluster) => match print::print_in(alloc, form, sink, cluster.history()) {
             Ok(()) => Status::DONE,

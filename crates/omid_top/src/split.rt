@@ -8,6 +8,7 @@ ghost use Rattle.session_script.specs.declared.mode.Mode.TheVariants.{Split};
 ghost use Rattle.command_semantics.specs.Answers.{Answers};
 ghost use Rattle.command_semantics.specs.Planned.{Planned};
 ghost use Rattle.log_refinement.specs.Served.{Served};
+ghost use Rattle.service_rules.specs.Service.{KeepsService};
 ghost use Rattle.split_driver.specs.Splits.{MaySplit, SplitsTo, SplitStops};
 ghost use Rattle.omid_top.specs.Commands.{RunsSplit};
 ghost use Rattle.omid_top.specs.Promise.{GainsFront, WritesSplit, WritesTorn, WritesFront, IsCutSplit};
@@ -104,6 +105,7 @@ fn told<K: Sink>(alloc: Global, script: &Script, cluster: &Cluster, sink: &mut K
     requires answers { Answers (data_of script.now) cluster.now.history }
     requires served { Served (data_of script.now) cluster.now.history }
     requires planned { Planned (data_of script.now) cluster.now.history }
+    requires service { KeepsService (data_of script.now).setup cluster.now.history }
     requires setup { cluster.now.state.setup ≡ numbers_of script.now.setup }
     ensures ran { result.code ≡ 0 → WritesSplit (data_of script.now) (Gains (K.held sink.old) (K.held sink.new)) }
     ensures cut { result.code ≡ 5 → WritesSplit (data_of script.now) (GainsFront (K.held sink.old) (K.held sink.new)) }

@@ -9,7 +9,7 @@ use Rattle.history_json.specs.History.{AreItems, IsFirstBad}
 use Rattle.history_json.proofs.OneHistory.{too_long_is_bad}
 use Rattle.omid_view.proofs.WordLemmas.{one_command}
 use Rattle.omid_view.specs.declared.command.Command.{Command}
-use Rattle.omid_view.specs.declared.command.Command.TheVariants.{Breach, Explain, Picture}
+use Rattle.omid_view.specs.declared.command.Command.TheVariants.{Breach, Explain, Page, Picture}
 use Rattle.omid_view.specs.Views.{GainsFront, IsEnd, IsTold, Judges, Makes, Names, Shown, ShownFront, ShownFrontOf, ShownOf, Views, bad_line_text}
 
 -- ---- statuses
@@ -60,6 +60,7 @@ pub seven_judges : (command : Command) (items : List Item) (code : ℕ) (text : 
 seven_judges (Picture from to brief) items code text made seven = absurd (omega (arith, made.0, seven))
 seven_judges (Breach strict) items code text made seven = tt
 seven_judges (Explain strict) items code text made seven = tt
+seven_judges (Page strict) items code text made seven = tt
 
 -- a status of bytes that were told is one of items, or names a line
 pub end_of_told : (code : ℕ) → IsEnd code ⊎ (code ≡ 5) ⊎ (code ≡ 6) → IsTold code → IsEnd code

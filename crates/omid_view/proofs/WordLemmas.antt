@@ -5,7 +5,7 @@ use Rattle.std.specs.Str.Parse.{ParsesUnsigned, digits_value}
 use Rattle.std.proofs.lemmas.Fmt.{parse-decimal, decimal_injective, decimal_is_IsNumeral}
 use Rattle.history_reading.specs.ReadWords.{is_word}
 use Rattle.omid_view.specs.declared.command.Command.{Command}
-use Rattle.omid_view.specs.declared.command.Command.TheVariants.{Breach, Explain, Picture}
+use Rattle.omid_view.specs.declared.command.Command.TheVariants.{Breach, Explain, Page, Picture}
 use Rattle.omid_view.specs.Views.{IsInRange, IsJudging, IsKnown, IsPart, IsPictureFor, IsWhole, Judges, Names}
 
 -- ---- numbers
@@ -33,10 +33,10 @@ none_in_range first last from to this that out m n range one other =
 
 -- ---- the command that words name, where they name one: by how many words there are, and by the first of them
 one_word : List ℕ → Command
-one_word word = if is_word (codes "picture") word then Picture 1 2000 false else if is_word (codes "breach") word then Breach false else Explain false
+one_word word = if is_word (codes "picture") word then Picture 1 2000 false else if is_word (codes "breach") word then Breach false else if is_word (codes "page") word then Page false else Explain false
 
 two_words : List ℕ → Command
-two_words word = if is_word (codes "picture") word then Picture 1 2000 true else if is_word (codes "breach") word then Breach true else Explain true
+two_words word = if is_word (codes "picture") word then Picture 1 2000 true else if is_word (codes "breach") word then Breach true else if is_word (codes "page") word then Page true else Explain true
 
 named : List (List ℕ) → Command
 named [] = Explain false
@@ -68,6 +68,8 @@ is_named (Breach true) words it = sym (ap named it)
 is_named (Breach false) words it = sym (ap named it)
 is_named (Explain true) words it = sym (ap named it)
 is_named (Explain false) words it = sym (ap named it)
+is_named (Page true) words it = sym (ap named it)
+is_named (Page false) words it = sym (ap named it)
 
 -- words name one command at most
 pub one_command : (one other : Command) (words : List (List ℕ)) → Names one words → Names other words → one ≡ other
@@ -79,7 +81,8 @@ known_for found words named = (found, named)
 pub judging_for : (found : Command) (words : List (List ℕ)) → Names found words → Judges found → IsJudging words
 judging_for (Picture from to brief) words named judges = absurd judges
 judging_for (Breach strict) words named judges = (strict, inl named)
-judging_for (Explain strict) words named judges = (strict, inr named)
+judging_for (Explain strict) words named judges = (strict, inr (inl named))
+judging_for (Page strict) words named judges = (strict, inr (inr named))
 
 -- ---- four words: a brief picture of a part, or no command
 abbrev NoRange : List ℕ → List ℕ → Type 0
@@ -98,11 +101,14 @@ no_brief from to none (Breach true) it = cc
 no_brief from to none (Breach false) it = cc
 no_brief from to none (Explain true) it = cc
 no_brief from to none (Explain false) it = cc
+no_brief from to none (Page true) it = cc
+no_brief from to none (Page false) it = cc
 
 is_brief : (from to : List ℕ) (command : Command) → IsPictureFor true command from to → Names command (codes "picture" ∷ codes "brief" ∷ from ∷ to ∷ [])
 is_brief from to (Picture f t brief) it = inr (record { named = rw (it.0, it.2, it.3) refl; range = it.1 })
 is_brief from to (Breach strict) it = absurd it
 is_brief from to (Explain strict) it = absurd it
+is_brief from to (Page strict) it = absurd it
 
 pub brief_known : (from to : List ℕ) (found : Option Command) → MatchOption found (NoRange from to) (λ command. IsPictureFor true command from to)
     → MatchOption found (IsKnown (codes "picture" ∷ codes "brief" ∷ from ∷ to ∷ []) → ⊥) (λ command. Names command (codes "picture" ∷ codes "brief" ∷ from ∷ to ∷ []))

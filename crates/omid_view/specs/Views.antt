@@ -12,13 +12,14 @@ use Rattle.history_view.specs.Earlier.{earlier_bars}
 use Rattle.history_view.specs.Lanes.{lanes_for}
 use Rattle.history_view.specs.Signs.{AreSigns}
 use Rattle.history_view.specs.Page.{picture_text}
+use Rattle.history_page.specs.Pages.{page_text}
 use Rattle.refusal_reasons.specs.Words.{explanations}
 use Rattle.breach_reasons.specs.declared.finding.Finding.{Finding}
 use Rattle.breach_reasons.specs.Breaches.{breach_text}
 use Rattle.breach_reasons.specs.Concerned.{breach_items, ringed}
 use Rattle.breach_reasons.specs.Findings.{IsFound, finding_line, finding_status}
 use Rattle.omid_view.specs.declared.command.Command.{Command}
-use Rattle.omid_view.specs.declared.command.Command.TheVariants.{Breach, Picture, Explain}
+use Rattle.omid_view.specs.declared.command.Command.TheVariants.{Breach, Picture, Explain, Page}
 
 -- ---- the words of a command
 -- a picture's items have numbers, from 1 on
@@ -53,10 +54,14 @@ IsBreach strict words = words ≡ codes "breach" ∷ if_so strict (codes "strict
 abbrev pub IsExplain : Bool → List (List ℕ) → Type 0
 IsExplain strict words = words ≡ codes "explain" ∷ if_so strict (codes "strict")
 
+abbrev pub IsPage : Bool → List (List ℕ) → Type 0
+IsPage strict words = words ≡ codes "page" ∷ if_so strict (codes "strict")
+
 abbrev pub Names : Command → List (List ℕ) → Type 0
 Names (Picture from to brief) words = (IsWhole brief words × (from ≡ 1) × (to ≡ 2000)) ⊎ IsPart from to brief words
 Names (Breach strict) words = IsBreach strict words
 Names (Explain strict) words = IsExplain strict words
+Names (Page strict) words = IsPage strict words
 
 -- the words name a command that is built
 abbrev pub IsKnown : List (List ℕ) → Type 0
@@ -69,7 +74,7 @@ Judges _ = Unit {0}
 
 -- the words name one that does
 abbrev pub IsJudging : List (List ℕ) → Type 0
-IsJudging words = (strict : Bool) × (IsBreach strict words ⊎ IsExplain strict words)
+IsJudging words = (strict : Bool) × (IsBreach strict words ⊎ IsExplain strict words ⊎ IsPage strict words)
 
 -- by two words that are numbers
 abbrev pub IsPictureFor : Bool → Command → List ℕ → List ℕ → Type 0
@@ -127,17 +132,29 @@ pub record PicturesBreach (strict : Bool) (items : List Item) (code : ℕ) (text
   pub status : finding_status found ≡ code
   pub is : IsBreachOf strict items found (breach_items items found) text
 
+-- what is told of these items: what was found, and each refusal explained
+abbrev pub told_of : Bool → List Item → Finding → List ℕ
+told_of strict items found = breach_text strict items found ++ explanations items 0 items
+
 -- the text tells what was found, and explains each refusal among these items
 pub record Explains (strict : Bool) (items : List Item) (code : ℕ) (text : List ℕ) : Type 0 where
   pub found : Finding
   pub judged : IsFound strict items found
   pub status : finding_status found ≡ code
-  pub is : text ≡ breach_text strict items found ++ explanations items 0 items
+  pub is : text ≡ told_of strict items found
+
+-- the text is the page of these items, with all bars and with what is told of them
+pub record PagesHistory (strict : Bool) (items : List Item) (code : ℕ) (text : List ℕ) : Type 0 where
+  pub found : Finding
+  pub judged : IsFound strict items found
+  pub status : finding_status found ≡ code
+  pub is : text ≡ page_text items (chosen_in false items 0 (length items)) (told_of strict items found)
 
 abbrev pub Makes : Command → List Item → ℕ → List ℕ → Type 0
 Makes (Picture from to brief) items code text = (code ≡ 0) × PicturesPart from (shown_count from to items) brief items text
 Makes (Breach strict) items code text = PicturesBreach strict items code text
 Makes (Explain strict) items code text = Explains strict items code text
+Makes (Page strict) items code text = PagesHistory strict items code text
 
 -- ---- what is right to write for items
 -- done, or what was explained is not isolated
@@ -207,7 +224,7 @@ pub record Views (command : Command) (code : ℕ) (left rest held now : Option (
   pub codes : IsTold code ⊎ (4 ≤ code) × (code ≤ 6)
 
 abbrev pub usage_text : List ℕ
-usage_text = codes "usage: omid_view picture [brief] [FROM TO] | breach [strict] | explain [strict]\n"
+usage_text = codes "usage: omid_view picture [brief] [FROM TO] | breach [strict] | explain [strict] | page [strict]\n"
 
 -- the usage line was written, or a front of it
 pub record SaysUsage (code : ℕ) (held now : Option (List ℕ)) : Type 0 where

@@ -17,6 +17,8 @@ pub enum Command {
     Breach { strict: bool },
     /// What is broken, and all refusals in words.
     Explain { strict: bool },
+    /// A page to explore the history, with what is told of it.
+    Page { strict: bool },
 }
 
 /// The longest word that is told from others. No word of a command is longer.
@@ -76,6 +78,8 @@ fn one_word(word: &str) -> Option<Command>
         Some(Command::Breach { strict: false })
     } else if is_word(word, "explain") {
         Some(Command::Explain { strict: false })
+    } else if is_word(word, "page") {
+        Some(Command::Page { strict: false })
     } else {
         None
     }
@@ -91,6 +95,8 @@ fn two_words(word: &str, next: &str) -> Option<Command>
         Some(Command::Breach { strict: true })
     } else if is_word(word, "explain") && is_word(next, "strict") {
         Some(Command::Explain { strict: true })
+    } else if is_word(word, "page") && is_word(next, "strict") {
+        Some(Command::Page { strict: true })
     } else {
         None
     }

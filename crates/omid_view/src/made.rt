@@ -1,12 +1,15 @@
 // What a command makes of items.
-ghost use Rattle.std.specs.Prelude.{◌≡◌, ◌+◌, ◌-◌, ◌≤◌, ◌<◌, ◌^◌, ◌⊎◌, IfOk, length, min};
+ghost use Rattle.std.specs.Prelude.{◌≡◌, ◌+◌, ◌-◌, ◌≤◌, ◌<◌, ◌^◌, ◌⊎◌, IfOk, false, length, min};
 ghost use Rattle.breach_reasons.specs.Findings.{finding_status};
-ghost use Rattle.omid_view.specs.Views.{Explains, IsBreachOf, IsInRange, IsPictureOf, IsSound, Makes, PicturesBreach, PicturesPart, breach_frame, first_of, first_place, last_of, part_frame, shown_count};
+ghost use Rattle.history_view.specs.Chosen.{chosen_in};
+ghost use Rattle.history_page.specs.Pages.{page_text};
+ghost use Rattle.omid_view.specs.Views.{Explains, IsBreachOf, IsInRange, IsPictureOf, IsSound, Makes, PagesHistory, PicturesBreach, PicturesPart, breach_frame, first_of, first_place, last_of, part_frame, shown_count, told_of};
 
 use crate::command::Command;
 use crate::status;
 use breach_reasons::{Finding, breach_items, find, print_finding, print_line, ringed};
 use history_book::Item;
+use history_page::print_history_page;
 use history_view::{
     Chosen, Frame, Text, choose_part, earlier_bars, lanes_of, print_picture, signs_of,
 };
@@ -31,6 +34,7 @@ pub fn made_of(alloc: Global, command: Command, items: &[Item]) -> Result<Made, 
         Command::Picture { from, to, brief } => pictured(alloc, items, from, to, brief),
         Command::Breach { strict } => breach_pictured(alloc, items, strict),
         Command::Explain { strict } => explained(alloc, items, strict),
+        Command::Page { strict } => paged(alloc, items, strict),
     }
 }
 
@@ -178,14 +182,44 @@ fn explained(alloc: Global, items: &[Item], strict: bool) -> Result<Made, NoMemo
     ensures codes { IfOk result (λ made. (made.code ≡ 0) ⊎ (made.code ≡ 7)) }
 {
     let found = find(alloc, items, strict)?;
-    let mut text = Text::new(alloc);
-    print_finding(&mut text, items, strict, &found)?;
-    let reasons = explain_refusals(alloc, items)?;
-    text.push(reasons.as_slice())?;
+    let text = told_of(alloc, items, strict, &found)?;
     Ok(Made {
         text,
         code: status_of(&found),
     })
+}
+
+/// What was found, and each refusal explained.
+fn told_of(alloc: Global, items: &[Item], strict: bool, found: &Finding) -> Result<Text, NoMemory>
+    ensures { IfOk result (λ text. text ≡ told_of strict items.now found.now) }
+{
+    let mut text = Text::new(alloc);
+    print_finding(&mut text, items, strict, found)?;
+    let reasons = explain_refusals(alloc, items)?;
+    text.push(reasons.as_slice())?;
+    Ok(text)
+}
+
+fn paged(alloc: Global, items: &[Item], strict: bool) -> Result<Made, NoMemory>
+    ensures made { IfOk result (λ made. PagesHistory strict items.now made.code made.text) }
+    ensures codes { IfOk result (λ made. (made.code ≡ 0) ⊎ (made.code ≡ 7)) }
+{
+    let found = find(alloc, items, strict)?;
+    let told = told_of(alloc, items, strict, &found)?;
+    let text = page_of(alloc, items, told.as_slice())?;
+    Ok(Made {
+        text,
+        code: status_of(&found),
+    })
+}
+
+fn page_of(alloc: Global, items: &[Item], told: &[u8]) -> Result<Text, NoMemory>
+    ensures { IfOk result (λ text. text ≡ page_text items.now (chosen_in false items.now 0 (length items.now)) told.now) }
+{
+    let chosen = choose_part(alloc, items, 0, items.len(), false)?;
+    let mut text = Text::new(alloc);
+    print_history_page(&mut text, items, &chosen, told)?;
+    Ok(text)
 }
 
 fn status_of(found: &Finding) -> u8

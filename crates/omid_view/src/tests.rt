@@ -32,7 +32,7 @@ const LOST_TOLD: &str = "not isolated: apart 5 6
 ";
 
 const USAGE: &str =
-    "usage: omid_view picture [brief] [FROM TO] | breach [strict] | explain [strict]\n";
+    "usage: omid_view picture [brief] [FROM TO] | breach [strict] | explain [strict] | page [strict]\n";
 
 /// The bars of the items 2 and 3 of `LOST`, behind that of the first.
 const PART: &str =
@@ -43,6 +43,23 @@ const PART: &str =
 /// The second ringed sign of the breach in `LOST`.
 const RINGED: &str =
     "<g class='done'><title>6: placed start=2 commit=4</title><g class='ring'><circle cx='416' cy='78' r='13'/></g>";
+
+/// What the page of `LOST` has between its head and what is told, and the first line of that.
+const PAGED: &str = "<script id=items type=text/plain>
+begin s0 start=1
+begin s1 start=2
+write s0 start=1 k0 a
+write s1 start=2 k0 b
+placed start=1 commit=3
+placed start=2 commit=4
+</script>
+<script id=bars type=text/plain>
+1 4 committed
+2 5 committed
+</script>
+<script id=told type=text/plain>
+not isolated: apart 5 6
+";
 
 fn bytes_of(alloc: Global, text: &str) -> Result<Vec<u8>, AllocError> {
     let mut bytes = Vec::new(alloc);
@@ -67,7 +84,7 @@ fn called(
 ) -> Result<(u8, Vec<u8>), Fail> {
     let words = words_of(alloc, words)?;
     let mut source = MemSource::new(bytes_of(alloc, history)?, vec![in alloc; failing.0; 1]?);
-    let mut sink = MemSink::open(alloc, 20_000, vec![in alloc; failing.1; 1]?)?;
+    let mut sink = MemSink::open(alloc, 60_000, vec![in alloc; failing.1; 1]?)?;
     let code = view(alloc, &words, &mut source, &mut sink);
     let mut held = Vec::new(alloc);
     held.extend_from_slice(sink.bytes())?;
@@ -110,6 +127,26 @@ fn draws_a_breach(rt: HostRuntime) -> Result<(), Fail> {
     assert_eq!(rt; code, status::NOT_ISOLATED);
     let text = str::from_utf8(held.as_slice())?;
     assert!(rt; text.contains(RINGED));
+    Ok(())
+}
+
+#[test]
+fn writes_a_page(rt: HostRuntime) -> Result<(), Fail> {
+    for (words, history, status, part) in [
+        ("page", LOST, status::NOT_ISOLATED, PAGED),
+        ("page", REFUSED, status::DONE, REFUSED_TOLD),
+        (
+            "page strict",
+            "write s0 start=1 k0 </script>&\n",
+            status::DONE,
+            "write s0 start=1 k0 &lt;/script>&amp;\n</script>\n",
+        ),
+    ] {
+        let (code, held) = called(rt.alloc(), words, history, (0, 0))?;
+        assert_eq!(rt; code, status);
+        let text = str::from_utf8(held.as_slice())?;
+        assert!(rt; text.contains(part));
+    }
     Ok(())
 }
 

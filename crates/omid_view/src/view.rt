@@ -16,8 +16,8 @@ use port_io::{Failed, ReadStop, Sink, Source, read_up_to, write_all_of};
 use stamp_base::BYTE_LIMIT;
 use std::alloc::Global;
 
-/// Carries out what the words name: reads a history, and writes its picture or that of what is broken in it, or what is broken and the
-/// explanations of its refusals. The status is 0 where that was done, 2 where the words are no command, 3 where the bytes are
+/// Carries out what the words name: reads a history, and writes its picture or that of what is broken in it, what is broken and the
+/// explanations of its refusals, or a page to explore it. The status is 0 where that was done, 2 where the words are no command, 3 where the bytes are
 /// no history, 4 where the source failed, 5 where the sink did, 6 where memory was refused, and 7 where a history that was
 /// judged is not isolated or, by a strict command, not serial. On 2 the source is not read.
 pub fn view<S: Source, K: Sink>(alloc: Global, words: &[String], source: &mut S, sink: &mut K) -> u8
@@ -169,7 +169,7 @@ fn say_usage<K: Sink>(sink: &mut K) -> u8
 {
     match print_text(
         sink,
-        b"usage: omid_view picture [brief] [FROM TO] | breach [strict] | explain [strict]\n",
+        b"usage: omid_view picture [brief] [FROM TO] | breach [strict] | explain [strict] | page [strict]\n",
     ) {
         Ok(()) => status::USAGE,
         Err(_) => status::SINK_FAILED,

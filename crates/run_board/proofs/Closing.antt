@@ -10,6 +10,8 @@ use Rattle.turn_rules.specs.declared.turn.Turn.{Turn}
 use Rattle.turn_rules.specs.Carried.{carried_items, AreWhole}
 use Rattle.turn_rules.specs.Lawful.{AreLawful}
 use Rattle.turn_rules.specs.Laws.{TurnsAnswer, TurnsArePlanned}
+use Rattle.script_service.specs.Service.{TurnsKeepService}
+use Rattle.service_rules.specs.Service.{KeepsService}
 use Rattle.thread_scripts.specs.Actors.{AreAtTheirEnds}
 use Rattle.thread_scripts.proofs.AllEnded.{all_ended}
 use Rattle.run_board.specs.Run.{Ran}
@@ -38,6 +40,9 @@ answered_at_end r cursors history law answer k is ends = subst (λ (h : List Ite
 
 pub planned_at_end : (r : Ran) (cursors : List Cursor) (history : List Item) → EndedRunsAreWhole → TurnsArePlanned → IsKept r cursors → history ≡ carried_items r.script r.turns → AreAtTheirEnds r.script cursors → Planned r.script history
 planned_at_end r cursors history law plan k is ends = subst (λ (h : List Item). Planned r.script h) (sym is) (plan r.script r.turns k.sound.setup (playable_at_first r.script k.sound k.few) (whole_at_end r cursors law k ends))
+
+pub service_at_end : (r : Ran) (cursors : List Cursor) (history : List Item) → TurnsKeepService → IsKept r cursors → history ≡ carried_items r.script r.turns → KeepsService r.script.setup history
+service_at_end r cursors history law k is = subst (KeepsService r.script.setup) (sym is) (law r.script r.turns k.sound.setup (playable_at_first r.script k.sound k.few))
 
 -- what holds of the parts at their ends holds of the play that they are
 pub of_parts : (r : Ran) (cursors : List Cursor) (p : Played) (P : ScriptData → Type 0) → record { ran = r; cursors = cursors } ≡ p → (AreAtTheirEnds r.script cursors → P r.script) → AreAtTheirEnds p.ran.script p.cursors → P p.ran.script

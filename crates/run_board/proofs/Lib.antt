@@ -23,6 +23,8 @@ mod SessionEvents
 mod OtherViews
 mod PassedOnce
 mod OneActor
+mod ByIndex
+mod SeatedOnce
 mod OthersSit
 mod Advancing
 mod PlayKept

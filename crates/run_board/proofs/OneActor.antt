@@ -53,7 +53,7 @@ at_seat : (b : Bool) (line : Option Line) (halt : Option Interruption) (asked : 
 at_seat true line halt asked s = at_line line halt asked s
 at_seat false line halt asked s = refl
 
-same_seat : (t : Turn) (halt : Option Interruption) (asked : Bool) (s : Seated) → (after_turn t halt asked s).seat.actor ≡ s.seat.actor
+pub same_seat : (t : Turn) (halt : Option Interruption) (asked : Bool) (s : Seated) → (after_turn t halt asked s).seat.actor ≡ s.seat.actor
 same_seat (turn.Own actor aim) halt asked s = at_seat (same_actor s.seat.actor actor) (line_of s) halt asked s
 same_seat (turn.Accept node r) halt asked s = refl
 same_seat (turn.Decide node r) halt asked s = refl

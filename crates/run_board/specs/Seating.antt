@@ -1,5 +1,5 @@
 -- Seats with their actors' lines beside them.
-use Rattle.std.specs.Prelude.{◌≡◌, ℕ, ◌≤◌, Bool, if◌then◌else◌, List, [], ◌∷◌, ◌++◌, All, drop, filter, find, length, map, slice_get, Option, None, Some}
+use Rattle.std.specs.Prelude.{◌≡◌, ℕ, ◌≤◌, Bool, false, if◌then◌else◌, List, [], ◌∷◌, ◌++◌, All, drop, filter, find, length, map, slice_get, Option, None, Some}
 use Rattle.history_book.specs.declared.item.Actor.{Actor}
 use Rattle.history_book.specs.declared.item.Actor.TheVariants.{Clock, Node, Session, Janitor}
 use Rattle.machine.specs.State.{State}
@@ -26,13 +26,28 @@ line_of s = slice_get s.lines.items s.seat.place
 abbrev pub seated_of : List Seated → Actor → Option Seated
 seated_of seated actor = find (λ s. same_actor s.seat.actor actor) seated
 
+-- whether it sits there
+abbrev pub is_seat_of : Option Seated → Actor → Bool
+is_seat_of None actor = false
+is_seat_of (Some s) actor = same_actor s.seat.actor actor
+
+abbrev pub sits_at : List Seated → ℕ → Actor → Bool
+sits_at seated index actor = is_seat_of (slice_get seated index) actor
+
+-- no actor has two seats
+abbrev pub SitOnce : List Seated → Type 0
+SitOnce seated = (i j : ℕ) (a b : Seated) → slice_get seated i ≡ Some a → slice_get seated j ≡ Some b → a.seat.actor ≡ b.seat.actor → i ≡ j
+
 -- ---- an own turn's event moves its actor's seat on from the present line's point
 abbrev pub gone_on_at : Option Line → Option Interruption → Bool → Seat → Seat
 gone_on_at None halt asked seat = seat
 gone_on_at (Some line) halt asked seat = gone_on line.verb halt asked seat
 
+abbrev pub gone_on_with : Option Interruption → Bool → Seated → Seated
+gone_on_with halt asked s = record s { seat = gone_on_at (line_of s) halt asked s.seat }
+
 abbrev pub after_turn : Turn → Option Interruption → Bool → Seated → Seated
-after_turn (turn.Own actor aim) halt asked s = if same_actor s.seat.actor actor then record s { seat = gone_on_at (line_of s) halt asked s.seat } else s
+after_turn (turn.Own actor aim) halt asked s = if same_actor s.seat.actor actor then gone_on_with halt asked s else s
 after_turn _ halt asked s = s
 
 -- ---- passing lines

@@ -6,6 +6,7 @@ ghost use Rattle.cause_rules.specs.Strict.{SerialIfStrict};
 ghost use Rattle.session_script.specs.Script.{data_of};
 ghost use Rattle.command_semantics.specs.Answers.{AnswersOnThreads};
 ghost use Rattle.command_semantics.specs.Planned.{Planned};
+ghost use Rattle.service_rules.specs.Service.{KeepsService};
 ghost use Rattle.turn_rules.specs.Told.{AreForThreads};
 ghost use Rattle.thread_steps.specs.Done.{parts_for, fresh};
 ghost use Rattle.thread_scripts.specs.Actors.{actors_of};
@@ -123,6 +124,7 @@ impl<L: Ledger> Board<L> {
         ensures serial { IfOk result (λ r. SerialIfStrict (data_of self.script).setup r.0.history) }
         ensures answered { IfOk result (λ r. AnswersOnThreads (data_of self.script) r.0.history) }
         ensures planned { IfOk result (λ r. Planned (data_of self.script) r.0.history) }
+        ensures service { IfOk result (λ r. KeepsService (data_of self.script).setup r.0.history) }
         ensures back { IfErr result (λ r. (data_of r.0.script ≡ data_of self.script) × (r.1.items ≡ shares.items)) }
     {
         let Board { play, script, .. } = self;

@@ -6,6 +6,7 @@ ghost use Rattle.cause_rules.specs.Strict.{SerialIfStrict};
 ghost use Rattle.session_script.specs.Script.{data_of};
 ghost use Rattle.command_semantics.specs.Answers.{AnswersOnThreads};
 ghost use Rattle.command_semantics.specs.Planned.{Planned};
+ghost use Rattle.service_rules.specs.Service.{KeepsService};
 ghost use Rattle.turn_rules.specs.Told.{AreForThreads};
 ghost use Rattle.turn_rules.specs.Carried.{carried_items};
 ghost use Rattle.thread_steps.specs.Done.{all_done, first_cursor};
@@ -24,6 +25,7 @@ use crate::run::ScriptRun;
 use crate::sessions::see_sessions;
 use cluster_core::Cluster;
 use history_book::Item;
+use script_service::turns_keep_service;
 use session_script::Script;
 use stamp_base::{NoMemory, NodeNo, SessionNo, Stage, Term};
 use std::alloc::Global;
@@ -162,6 +164,7 @@ impl<L: Ledger> Play<L> {
         ensures serial { IfOk result (λ r. SerialIfStrict (data_of script.now).setup r.0.history) }
         ensures answered { IfOk result (λ r. AnswersOnThreads (data_of script.now) r.0.history) }
         ensures planned { IfOk result (λ r. Planned (data_of script.now) r.0.history) }
+        ensures service { IfOk result (λ r. KeepsService (data_of script.now).setup r.0.history) }
         ensures counted { IfOk result (λ r. sum_by (λ s. s.amount) shares.items ≡ all_done self.cursors) }
         ensures back { IfErr result (λ r. (r.0 ≡ self) × (r.1.items ≡ shares.items)) }
     {
@@ -188,11 +191,13 @@ impl<L: Ledger> Play<L> {
         ensures serial { SerialIfStrict self.ran.script.setup result.0.history }
         ensures answered { AnswersOnThreads self.ran.script result.0.history }
         ensures planned { Planned self.ran.script result.0.history }
+        ensures service { KeepsService self.ran.script.setup result.0.history }
         ensures counted { sum_by (λ s. s.amount) shares.items ≡ all_done self.cursors }
     {
         ended_runs_are_whole();
         turns_answer();
         turns_are_planned();
+        turns_keep_service();
         let Play { run, cursors } = self;
         cursors.audit(shares);
         let _history = run.history();

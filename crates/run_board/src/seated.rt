@@ -1,9 +1,9 @@
 // The seats of the actors, each with its actor's lines.
-ghost use Rattle.std.specs.Prelude.{◌≡◌, ◌<◌, ◌≤◌, All, map, IfOk, OnOk, MatchOption, None, Some};
+ghost use Rattle.std.specs.Prelude.{◌≡◌, ◌<◌, ◌≤◌, All, true, length, map, IfNone, IfOk, IfSome, OnOk, MatchOption, None, Some};
 ghost use Rattle.history_book.specs.declared.item.Actor.TheVariants.{Node, Session};
 ghost use Rattle.planned_cluster.specs.Fitting.{SessionIsThere};
 ghost use Rattle.planned_cluster.specs.Standing.{clocks_at};
-ghost use Rattle.run_board.specs.Seating.{own_lines, line_of, seated_of, after_turn, after_passing, after_passes, passing_of, touched, CanPass, AreSeatedFirst, SitsDown};
+ghost use Rattle.run_board.specs.Seating.{own_lines, line_of, seated_of, sits_at, gone_on_with, after_turn, after_passing, after_passes, passing_of, touched, CanPass, AreSeatedFirst, SitOnce, SitsDown};
 
 use command_semantics::Interruption;
 use history_book::Actor;
@@ -28,15 +28,9 @@ impl Seated {
         self.lines.get(self.seat.place).copied()
     }
 
-    fn go_on(&mut self, turn: &Turn, halt: Option<Interruption>, asked: bool)
-        ensures { self.new ≡ after_turn turn.now halt asked self.old }
+    fn go_on(&mut self, halt: Option<Interruption>, asked: bool)
+        ensures { self.new ≡ gone_on_with halt asked self.old }
     {
-        let Turn::Own { actor, .. } = turn else {
-            return;
-        };
-        if self.seat.actor != *actor {
-            return;
-        }
         if let Some(line) = self.line() {
             self.seat.go_on(&line.verb, halt, asked);
         }
@@ -55,15 +49,6 @@ impl Seated {
             self.lines.as_slice(),
             &mut self.seat,
         );
-    }
-
-    fn pass_if(&mut self, planned: &PlannedCluster, leads: &[u64], session: SessionNo)
-        requires { CanPass planned.now.clock leads.now self.old }
-        ensures { self.new ≡ passing_of session (clocks_at planned.now.cluster planned.now.clock leads.now) planned.now.cluster.state self.old }
-    {
-        if self.seat.actor == Actor::Session(session) {
-            self.pass(planned, leads);
-        }
     }
 }
 
@@ -148,11 +133,56 @@ fn own_lines(alloc: Global, actor: &Actor, lines: &[Line]) -> Result<Vec<Line>, 
 
 /// Where the actor sits.
 pub fn seated_of<'a>(seated: &'a [Seated], actor: &Actor) -> Option<&'a Seated>
+    requires { SitOnce seated.now }
     ensures { MatchOption result (seated_of seated.now actor.now ≡ None) (λ found. seated_of seated.now actor.now ≡ Some found.now) }
 {
-    for one in seated {
-        if one.seat.actor == *actor {
-            return Some(one);
+    match index_of(seated, actor) {
+        Some(index) => Some(&seated[index]),
+        None => None,
+    }
+}
+
+/// The index of the actor's seat: looked for where it lies in a list of first seats, and only then seat by seat.
+fn index_of(seated: &[Seated], actor: &Actor) -> Option<usize>
+    ensures sits { IfSome result (λ index. sits_at seated.now index actor.now ≡ true) }
+    ensures inside { IfSome result (λ index. index < length seated.now) }
+    ensures missing { IfNone result (seated_of seated.now actor.now ≡ None) }
+{
+    let usual = usual_index(seated.len(), actor);
+    if sits_at(seated, usual, actor) {
+        return Some(usual);
+    }
+    searched_index(seated, actor)
+}
+
+// First seats lie in this order: clock, janitor, nodes, sessions. It is a guess: whoever asks looks who sits there.
+fn usual_index(seats: usize, actor: &Actor) -> usize {
+    match actor {
+        Actor::Clock => 0,
+        Actor::Janitor => 1,
+        Actor::Node(node) => 2 + node.index(),
+        Actor::Session(session) => seats.saturating_sub(SessionNo::COUNT - session.index()),
+    }
+}
+
+fn sits_at(seated: &[Seated], index: usize, actor: &Actor) -> bool
+    ensures value { result ≡ sits_at seated.now index actor.now }
+    ensures inside { result ≡ true → index < length seated.now }
+{
+    match seated.get(index) {
+        Some(one) => one.seat.actor == *actor,
+        None => false,
+    }
+}
+
+fn searched_index(seated: &[Seated], actor: &Actor) -> Option<usize>
+    ensures sits { IfSome result (λ index. sits_at seated.now index actor.now ≡ true) }
+    ensures inside { IfSome result (λ index. index < length seated.now) }
+    ensures missing { IfNone result (seated_of seated.now actor.now ≡ None) }
+{
+    for index in 0..seated.len() {
+        if sits_at(seated, index, actor) {
+            return Some(index);
         }
     }
     None
@@ -160,10 +190,14 @@ pub fn seated_of<'a>(seated: &'a [Seated], actor: &Actor) -> Option<&'a Seated>
 
 /// An own turn's event moves its actor's seat.
 pub fn go_on(seated: &mut Vec<Seated>, turn: &Turn, halt: Option<Interruption>, asked: bool)
+    requires { SitOnce seated.old.items }
     ensures { seated.new.items ≡ map (after_turn turn.now halt asked) seated.old.items }
 {
-    for number in 0..seated.len() {
-        seated[number].go_on(turn, halt, asked);
+    let Turn::Own { actor, .. } = turn else {
+        return;
+    };
+    if let Some(index) = index_of(seated.as_slice(), actor) {
+        seated[index].go_on(halt, asked);
     }
 }
 
@@ -187,7 +221,8 @@ fn touched(turn: &Turn) -> Option<SessionNo>
 
 /// The session of the turn passes its lines with nothing left to do, or each actor does where the turn is of no session.
 pub fn pass_touched(planned: &PlannedCluster, leads: &[u64], seated: &mut Vec<Seated>, turn: &Turn)
-    requires { All (CanPass planned.now.clock leads.now) seated.old.items }
+    requires once { SitOnce seated.old.items }
+    requires can_pass { All (CanPass planned.now.clock leads.now) seated.old.items }
     ensures { seated.new.items ≡ after_passes (touched turn.now) (clocks_at planned.now.cluster planned.now.clock leads.now) planned.now.cluster.state seated.old.items }
 {
     match touched(turn) {
@@ -198,11 +233,12 @@ pub fn pass_touched(planned: &PlannedCluster, leads: &[u64], seated: &mut Vec<Se
 
 /// The session passes its lines with nothing left to do.
 fn pass_one(planned: &PlannedCluster, leads: &[u64], seated: &mut Vec<Seated>, session: SessionNo)
-    requires { All (CanPass planned.now.clock leads.now) seated.old.items }
+    requires once { SitOnce seated.old.items }
+    requires can_pass { All (CanPass planned.now.clock leads.now) seated.old.items }
     ensures { seated.new.items ≡ map (passing_of session (clocks_at planned.now.cluster planned.now.clock leads.now) planned.now.cluster.state) seated.old.items }
 {
-    for number in 0..seated.len() {
-        seated[number].pass_if(planned, leads, session);
+    if let Some(index) = index_of(seated.as_slice(), &Actor::Session(session)) {
+        seated[index].pass(planned, leads);
     }
 }
 

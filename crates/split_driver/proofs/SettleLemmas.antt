@@ -8,6 +8,7 @@ use Rattle.script_data.specs.declared.line.Line.{Line}
 use Rattle.script_data.specs.Data.{ScriptData, IsSound}
 use Rattle.command_semantics.specs.Answers.{Answers}
 use Rattle.command_semantics.specs.Planned.{Planned}
+use Rattle.service_rules.specs.Service.{KeepsService}
 use Rattle.command_semantics.specs.Runs.{Played, opening_played, fate_of}
 use Rattle.machine.specs.State.{State}
 use Rattle.machine.proofs.PartsKept.{leaves_parts}
@@ -26,7 +27,7 @@ use Rattle.split_stores.specs.Orders.{without_lines}
 use Rattle.log_refinement.specs.Follows.{AllFollow, AllFollowSome}
 use Rattle.log_refinement.specs.Served.{Served}
 use Rattle.log_refinement.proofs.FirstsAmong.{all_begin}
-use Rattle.log_refinement.specs.Laws.{IsCarried, AllRise, SettledLogsAnswer, SettledLogsServe, SettledLogsArePlanned}
+use Rattle.log_refinement.specs.Laws.{IsCarried, AllRise, SettledLogsAnswer, SettledLogsServe, SettledLogsArePlanned, SettledLogsKeepService}
 use Rattle.split_driver.specs.declared.stop.SplitStop.{SplitStop}
 use Rattle.split_driver.specs.declared.stop.SplitStop.TheVariants as stop
 use Rattle.split_driver.specs.Actors.{IsOfAll, SettlesBy, TearsBy}
@@ -107,3 +108,7 @@ module _ (script : ScriptData) (sound : IsSound script) (few : length script.lin
   pub split_is_planned : (r : Result ClusterModel SplitStop) → Splits script r → SettledLogsArePlanned → IfOk r (λ (whole : ClusterModel). Planned script whole.history)
   split_is_planned (Ok whole) s law = law script s.logs whole (is_carried script sound few may there) s.follow s.rise s.settled
   split_is_planned (Err why) s law = tt
+
+  pub split_keeps_service : (r : Result ClusterModel SplitStop) → Splits script r → SettledLogsKeepService → IfOk r (λ (whole : ClusterModel). KeepsService script.setup whole.history)
+  split_keeps_service (Ok whole) s law = law script s.logs whole (is_carried script sound few may there) s.follow s.rise s.settled
+  split_keeps_service (Err why) s law = tt

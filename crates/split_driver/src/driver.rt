@@ -5,6 +5,7 @@ ghost use Rattle.stamp_base.specs.Setups.{numbers_of};
 ghost use Rattle.session_script.specs.Script.{data_of};
 ghost use Rattle.command_semantics.specs.Answers.{Answers};
 ghost use Rattle.command_semantics.specs.Planned.{Planned};
+ghost use Rattle.service_rules.specs.Service.{KeepsService};
 ghost use Rattle.planned_cluster.specs.Fitting.{SessionIsThere};
 ghost use Rattle.thread_scripts.specs.Actors.{actors_of};
 ghost use Rattle.log_refinement.specs.Served.{Served};
@@ -17,7 +18,9 @@ use crate::ending::{finish, settle, wait_for_ever};
 use crate::jobs::{jobs_of, play_all};
 use crate::waits::all_waited;
 use cluster_core::Cluster;
-use log_refinement::{settled_logs_answer, settled_logs_are_planned, settled_logs_serve};
+use log_refinement::{
+    settled_logs_answer, settled_logs_are_planned, settled_logs_keep_service, settled_logs_serve,
+};
 use planned_cluster::see_session;
 use script_data::Line;
 use session_script::Script;
@@ -44,6 +47,7 @@ pub fn run_split<R: Threads + Wait + Sync, G: PartGate>(
     ensures waited { IfOk result (λ cluster. Waited cluster.history) }
     ensures served { IfOk result (λ cluster. Served (data_of script.now) cluster.history) }
     ensures planned { IfOk result (λ cluster. Planned (data_of script.now) cluster.history) }
+    ensures service { IfOk result (λ cluster. KeepsService (data_of script.now).setup cluster.history) }
     ensures setup { IfOk result (λ cluster. cluster.state.setup ≡ numbers_of script.now.setup) }
     ensures stopped { IfErr result (SplitStops (data_of script.now)) }
 {
@@ -86,6 +90,7 @@ fn answering(script: &Script, split: Result<Cluster, SplitStop>) -> Result<Clust
     ensures waited { IfOk result (λ cluster. Waited cluster.history) }
     ensures served { IfOk result (λ cluster. Served (data_of script.now) cluster.history) }
     ensures planned { IfOk result (λ cluster. Planned (data_of script.now) cluster.history) }
+    ensures service { IfOk result (λ cluster. KeepsService (data_of script.now).setup cluster.history) }
     ensures setup { IfOk result (λ cluster. cluster.state.setup ≡ numbers_of script.now.setup) }
     ensures stopped { IfErr result (SplitStops (data_of script.now)) }
 {
@@ -93,6 +98,7 @@ fn answering(script: &Script, split: Result<Cluster, SplitStop>) -> Result<Clust
     settled_logs_answer();
     settled_logs_serve();
     settled_logs_are_planned();
+    settled_logs_keep_service();
     split
 }
 

@@ -1,13 +1,14 @@
 -- An event that is made of the lent parts themselves.
+use Rattle.std.specs.FinMap as map
 use Rattle.std.proofs.Common.{◌≡◌, ℕ, zero, suc, ◌<◌, ◌≤◌, nat_lt, Bool, true, false, List, [], ◌∷◌, ◌++◌, length, replicate, slice_set, Option, Some, None, Result, Ok, Err, refl, sym, ap, ◌∙◌, subst, arith}
 use Rattle.std.specs.Prelude.{if◌then◌else◌, slice_get, slice_index_or, IfSome, IsSome, IsSomeAnd, IsErr}
-use Rattle.std.proofs.lemmas.List.{get_or-set_same, length-set}
-use Rattle.stamp_base.specs.declared.stores.Store.TheVariants as store
+use Rattle.std.proofs.lemmas.List.{get_or-set_same}
 use Rattle.port_io.specs.declared.weather.Fate.{Fate}
+use Rattle.port_io.specs.declared.weather.Fate.TheVariants.{Works, FailsApplied, FailsUnchanged}
 use Rattle.split_parts.specs.Agrees.{CallsFit, HasNode}
 use Rattle.stamp_base.specs.declared.stores.Store.{Store}
 use Rattle.history_book.specs.declared.item.Item.{Item}
-use Rattle.system_parts.specs.Rows.{Row, IsBare}
+use Rattle.system_parts.specs.Rows.{HasOnly, IsBare, Row}
 use Rattle.machine.specs.declared.event.Event.{Event}
 use Rattle.machine.specs.State.{Client, State, opening}
 use Rattle.machine.specs.Effect.{Effect, Stop, Refuses, Faults}
@@ -15,10 +16,11 @@ use Rattle.machine.specs.declared.event.Event.TheVariants as event
 use Rattle.machine.specs.Events.Write.{write_asks, write_refused}
 use Rattle.stamp_base.specs.SetupNumbers.{SetupNumbers}
 use Rattle.machine.specs.Events.Fetch.{fetch_asks, fetch_on}
+use Rattle.machine.specs.Events.Heal.{heal_asks, heal_at, heal_on, offer_of}
 use Rattle.machine.specs.Events.Put.{put_asks}
 use Rattle.machine.specs.Events.Step.{next_of, step_asks, step_on, work_of}
 use Rattle.system_parts.specs.Pairs.{Pairs}
-use Rattle.cluster_core.specs.Required.{IsWaitedFor, MayBegin, MayCommit, MayMakeStep, MayWrite}
+use Rattle.cluster_core.specs.Required.{IsWaitedFor, MayBegin, MayCommit, MayHeal, MayMakeStep, MayWrite}
 use Rattle.system_parts.specs.SessionSteps.{begin_refusal, handed_commit, work_refusal}
 use Rattle.history_book.specs.declared.cause.Cause.{Cause}
 use Rattle.system_parts.specs.Instance.{InstanceEntry}
@@ -31,7 +33,7 @@ use Rattle.machine.specs.Machine.{Step, step_by, asks_at_client, asks_at_post, a
 use Rattle.event_parts.specs.Made.{Makes, Leaves, fate_ahead}
 use Rattle.event_parts.specs.declared.stopped.Stopped.{Stopped}
 use Rattle.event_parts.specs.declared.stopped.Stopped.TheVariants.{Refused, StoreFault, NoMemory}
-use Rattle.split_parts.specs.Acts.{Acts, asked_of, noted, step_of, stopped_of}
+use Rattle.split_parts.specs.Acts.{Acts, asked_of, noted, stopped_of}
 use Rattle.split_parts.specs.Direct.{HasAll, HasPost, lent_effect, on_cells, on_node, on_session, MakesOfCells, MakesOfNode, MakesOfSession, MakesOfStores, MakesOfTable, on_lent, on_marks, on_rows}
 use Rattle.split_parts.specs.Making.{Ends, called_after}
 use Rattle.split_parts.specs.Lookups.{post_by}
@@ -56,7 +58,7 @@ pub record IsDirect {V : Type 0} (l : Parts) (e : Event) (fate : Fate) (d : Dire
   pub stop : (stepped (filled l) e fate).stop ≡ d.effect.stop
 
 -- from what the step is
-direct_by : {V : Type 0} (l : Parts) (e : Event) (fate : Fate) (d : Direct V) (w : State) → d.set d.old ≡ l → stepped (filled l) e fate ≡ record { state = w; items = d.effect.items; stop = d.effect.stop } → given_from l w ≡ d.set d.effect.parts → IsDirect l e fate d
+pub direct_by : {V : Type 0} (l : Parts) (e : Event) (fate : Fate) (d : Direct V) (w : State) → d.set d.old ≡ l → stepped (filled l) e fate ≡ record { state = w; items = d.effect.items; stop = d.effect.stop } → given_from l w ≡ d.set d.effect.parts → IsDirect l e fate d
 direct_by l e fate d w same step back = record {
   same = same;
   parts = ap (λ (y : Step). given_from l y.state) step ∙ back;
@@ -252,17 +254,17 @@ node_set l s v = record l { sessions = slice_set l.sessions s v.0; node = v.1 }
 abbrev pub node_direct : Parts → ℕ → Client → Node → Effect (Client × Option InstanceEntry) → Direct (Option Client × Option Node)
 node_direct l s c part effect = record { set = node_set l s; old = (Some c, Some part); effect = on_node part effect }
 
-posts_over : (xs : List (Option InstanceEntry)) (n : ℕ) (a b : Option InstanceEntry) → slice_set (slice_set xs n a) n b ≡ slice_set xs n b
+pub posts_over : (xs : List (Option InstanceEntry)) (n : ℕ) (a b : Option InstanceEntry) → slice_set (slice_set xs n a) n b ≡ slice_set xs n b
 posts_over [] n a b = refl
 posts_over (x ∷ xs) zero a b = refl
 posts_over (x ∷ xs) (suc n) a b = ap (λ (ys : List (Option InstanceEntry)). x ∷ ys) (posts_over xs n a b)
 
-post_in : (k n : ℕ) (a d : Option InstanceEntry) → n < k → slice_index_or (slice_set (replicate k None) n a) n d ≡ a
+pub post_in : (k n : ℕ) (a d : Option InstanceEntry) → n < k → slice_index_or (slice_set (replicate k None) n a) n d ≡ a
 post_in zero n a d less = absurd (omega (arith, less))
 post_in (suc k) zero a d less = refl
 post_in (suc k) (suc n) a d less = post_in k n a d (omega (arith, less))
 
-post_is : (part : Node) → part.node < part.setup.nodes → post_by (Some part) ≡ Some part.instance
+pub post_is : (part : Node) → part.node < part.setup.nodes → post_by (Some part) ≡ Some part.instance
 post_is part less = ap (λ (within : Bool). if within then Some part.instance else None) (lt_true part.node part.setup.nodes less)
 
 -- where this is the lent node
@@ -296,7 +298,7 @@ node_by l now e fate s n q f before items result part less own has is others mad
     (directs_there l e fate s n q c.0 part f less c.1 has.0 has.1 is) others
     (subst (λ (x : Option Client). MakesOfNode f x (Some part) (session_at now s) now.node before items result) c.1 made)
 
-node_lent : (part : Option Node) (n : ℕ) → IsSomeAnd part (λ p. (p.node ≡ n) × (p.node < p.setup.nodes)) → (p : Node) × (part ≡ Some p) × (p.node ≡ n) × (p.node < p.setup.nodes)
+pub node_lent : (part : Option Node) (n : ℕ) → IsSomeAnd part (λ p. (p.node ≡ n) × (p.node < p.setup.nodes)) → (p : Node) × (part ≡ Some p) × (p.node ≡ n) × (p.node < p.setup.nodes)
 node_lent None n has = absurd has
 node_lent (Some p) n has = (p, refl, has.0, has.1)
 
@@ -347,7 +349,7 @@ marks_made l now e fate n f before items result has table is others made =
     (directs_marks l e fate n at.0 marks.0 (λ i. f i marks.0.pairs) at.2 at.3 (is (with_marks l at.0 marks.0))) others
     (subst (λ (x : Option Marks). MakesOfTable f (Some at.0) x now.node now.table before items result) marks.1 (subst (λ (x : Option Node). MakesOfTable f x l.table now.node now.table before items result) at.1 made)))
 
-has_node : (part : Option Node) (n : ℕ) → IsSomeAnd part (λ p. (p.node ≡ n) × (p.node < p.setup.nodes)) → IsSomeAnd part (λ p. p.node ≡ n)
+pub has_node : (part : Option Node) (n : ℕ) → IsSomeAnd part (λ p. (p.node ≡ n) × (p.node < p.setup.nodes)) → IsSomeAnd part (λ p. p.node ≡ n)
 has_node None n has = absurd has
 has_node (Some p) n has = has.0
 
@@ -387,7 +389,7 @@ stores_made l now e fate s f before items result less own is others made =
     (subst (λ (x : Option Client). MakesOfStores f x l.cells l.table (session_at now s) now.cells now.table before items result) c.1 made)
 
 -- the fate of a store that is not asked is that it works
-ahead_is : (l : Parts) (asked : Option Store) (fate : Fate) → fate ≡ fate_of l asked → fate_ahead asked (λ store n. fate) ≡ fate
+pub ahead_is : (l : Parts) (asked : Option Store) (fate : Fate) → fate ≡ fate_of l asked → fate_ahead asked (λ store n. fate) ≡ fate
 ahead_is l None fate is = sym is
 ahead_is l (Some asked) fate is = refl
 
@@ -521,6 +523,26 @@ may_write l s key less may = may_by l s key (session_at l s) l.cells less refl r
 
 pub may_write_of : (l : Parts) (s key : ℕ) (own : Option Client) (cells : Option CellRows) → s < 16 → own ≡ session_at l s → cells ≡ l.cells → MayWrite (filled l) s key → IfSome own (λ c. IfSome cells (λ part. write_refused c key ≡ None → IfSome c.entry.start (λ start. IsBare part.rows key start)))
 may_write_of l s key own cells less at lent may = may_by l s key own cells less (sym at) (sym lent) may
+
+-- ---- the shadow that a read offers
+pub heal_asked : (l : Parts) (s : ℕ) (asked : Option Store) (c : Client) → s < 16 → session_at l s ≡ Some c → asked ≡ heal_asks c → asked ≡ asks (filled l) (event.Heal s)
+heal_asked l s asked c less at is = is ∙ sym (ap (λ (found : Option Client). asks_at_client found heal_asks) (client_there l s c less at))
+
+pub may_heal : (l : Parts) (s : ℕ) (own : Option Client) (cells : Option CellRows) → s < 16 → own ≡ session_at l s → cells ≡ l.cells → MayHeal (filled l) s → IfSome own (λ c. IfSome cells (λ part. IfSome (offer_of c) (λ offer. HasOnly part.rows offer.0 offer.1 offer.2)))
+may_heal l s None cells less at lent may = tt
+may_heal l s (Some c) None less at lent may = tt
+may_heal l s (Some c) (Some part) less at lent may =
+    subst (λ (rows : List Row). IfSome (offer_of c) (λ offer. HasOnly rows offer.0 offer.1 offer.2)) (ap (λ (p : Option CellRows). lent_rows (opening (setup_of l)).rows p) (sym lent)) (may c (client_there l s c less (sym at)))
+
+-- it asks the cells alone
+heal_same : (s : ℕ) (fate : Fate) (c : Client) (rows : List Row) (a b : Pairs) (offer : Option (ℕ × ℕ × ℕ)) → heal_at s fate c rows a offer ≡ heal_at s fate c rows b offer
+heal_same s fate c rows a b None = refl
+heal_same s Works c rows a b (Some offer) = refl
+heal_same s FailsApplied c rows a b (Some offer) = refl
+heal_same s FailsUnchanged c rows a b (Some offer) = refl
+
+pub heal_is : (l : Parts) (s : ℕ) (fate : Fate) → stepped (filled l) (event.Heal s) fate ≡ of_cells (filled l) s (λ x. heal_on s fate x (filled l).rows map.empty)
+heal_is l s fate = λ k. of_cells (filled l) s (λ x. heal_same s fate x (filled l).rows (filled l).pairs map.empty (offer_of x) k)
 
 -- ---- a fetch
 pub fetch_asked : (l : Parts) (s key : ℕ) (setup : SetupNumbers) (asked : Option Store) (c : Client) → s < 16 → session_at l s ≡ Some c → setup ≡ setup_of l → asked ≡ fetch_asks setup key c → asked ≡ asks (filled l) (event.Fetch s key)

@@ -1,5 +1,5 @@
 -- The engine that lent parts fill up makes their event, and gives them back as the step leaves them.
-use Rattle.std.proofs.Common.{◌≡◌, [], ◌++◌, length, Option, Some, None, Result, Ok, Err, refl, sym, ap, ◌∙◌, subst}
+use Rattle.std.proofs.Common.{◌≡◌, [], ◌++◌, length, Option, Some, None, Result, Ok, Err, sym, ap, ◌∙◌, subst}
 use Rattle.std.specs.Prelude.{IfSome, IsErr, OnErr}
 use Rattle.stamp_base.specs.SetupNumbers.{SetupNumbers}
 use Rattle.stamp_base.specs.declared.stores.Store.{Store}

@@ -5,5 +5,8 @@ mod PlanLemmas
 mod OneMore
 mod Filled
 mod Directly
+mod RecordEvents
+mod SweepEvents
+mod NotedEvents
 pub mod FoundParts
 pub mod LentSessions

@@ -3,6 +3,7 @@ use Rattle.std.specs.FinMap as map
 use Rattle.std.specs.Prelude.{◌≡◌, ◌<◌, ℕ, [], List, Option, None, Some, Result, IsSome, IsSomeAnd}
 use Rattle.port_io.specs.declared.weather.Fate.{Fate}
 use Rattle.history_book.specs.declared.item.Item.{Item}
+use Rattle.history_book.specs.declared.item.Item.TheVariants as item
 use Rattle.machine.specs.declared.event.Event.{Event}
 use Rattle.machine.specs.declared.event.Event.TheVariants as event
 use Rattle.machine.specs.Machine.{stepped}
@@ -14,7 +15,9 @@ use Rattle.machine.specs.Effect.{Effect}
 use Rattle.event_parts.specs.Made.{Makes}
 use Rattle.event_parts.specs.declared.stopped.Stopped.{Stopped}
 use Rattle.system_parts.specs.Pairs.{Pairs}
-use Rattle.split_parts.specs.Parts.{Parts, Node, Marks, CellRows, filled, given_from, given_pairs, given_rows, lent_pairs, lent_rows}
+use Rattle.system_parts.specs.Record.{MasterRecord}
+use Rattle.system_parts.specs.Sweep.{Sweeping}
+use Rattle.split_parts.specs.Parts.{Parts, Node, Marks, CellRows, Record, filled, given_from, given_pairs, given_rows, lent_pairs, lent_rows}
 
 -- the effect on a client, as one on a lent session
 abbrev pub on_session : Effect Client → Effect (Option Client)
@@ -57,20 +60,37 @@ abbrev pub MakesOfTable : (Option InstanceEntry → Pairs → Effect (Option Ins
 MakesOfTable f (Some part) (Some marks) now left before after result = Makes (on_marks part marks (f part.instance marks.pairs)) (Some part, Some marks) (now, left) before after result
 MakesOfTable f _ _ now left before after result = Unit {0}
 
--- on a client and both stores, as on a lent session and the stores that are lent
-abbrev pub on_lent : Option CellRows → Option Marks → Effect (Client × List Row × Pairs) → Effect (Option Client × Option CellRows × Option Marks)
+-- on a client or a sweep and both stores, as on the lent session or janitor and the stores that are lent
+abbrev pub on_lent : {P : Type 0} → Option CellRows → Option Marks → Effect (P × List Row × Pairs) → Effect (Option P × Option CellRows × Option Marks)
 on_lent cells table effect = record { parts = (Some effect.parts.0, given_rows effect.parts.1 cells, given_pairs effect.parts.2 table); items = effect.items; stop = effect.stop }
 
-abbrev pub on_both : Option CellRows → Option Marks → Effect (Client × List Row × Pairs) → Effect (Client × Option CellRows × Option Marks)
+abbrev pub on_both : {P : Type 0} → Option CellRows → Option Marks → Effect (P × List Row × Pairs) → Effect (P × Option CellRows × Option Marks)
 on_both cells table effect = record { parts = (effect.parts.0, given_rows effect.parts.1 cells, given_pairs effect.parts.2 table); items = effect.items; stop = effect.stop }
 
-abbrev pub on_table_too : Option Marks → Effect (Client × List Row × Pairs) → Effect (Client × List Row × Option Marks)
+abbrev pub on_table_too : {P : Type 0} → Option Marks → Effect (P × List Row × Pairs) → Effect (P × List Row × Option Marks)
 on_table_too table effect = record { parts = (effect.parts.0, effect.parts.1, given_pairs effect.parts.2 table); items = effect.items; stop = effect.stop }
 
 -- a store that is not lent is empty
-abbrev pub MakesOfStores : (Client → List Row → Pairs → Effect (Client × List Row × Pairs)) → Option Client → Option CellRows → Option Marks → Option Client → Option CellRows → Option Marks → List Item → List Item → Result Unit Stopped → Type 0
+abbrev pub MakesOfStores : {P : Type 0} → (P → List Row → Pairs → Effect (P × List Row × Pairs)) → Option P → Option CellRows → Option Marks → Option P → Option CellRows → Option Marks → List Item → List Item → Result Unit Stopped → Type 0
 MakesOfStores f (Some c) cells table now left marks before after result = Makes (on_lent cells table (f c (lent_rows [] cells) (lent_pairs map.empty table))) (Some c, cells, table) (now, left, marks) before after result
 MakesOfStores f None cells table now left marks before after result = Unit {0}
+
+-- on a post and the record, as on the lent node and the lent record
+abbrev pub on_kept : Node → Record → Effect (Option InstanceEntry × MasterRecord) → Effect (Option Node × Option Record)
+on_kept part kept effect = record { parts = (Some (record part { instance = effect.parts.0 }), Some (record kept { state = effect.parts.1 })); items = effect.items; stop = effect.stop }
+
+abbrev pub MakesOfRecord : (Option InstanceEntry → MasterRecord → Effect (Option InstanceEntry × MasterRecord)) → Option Node → Option Record → Option Node → Option Record → List Item → List Item → Result Unit Stopped → Type 0
+MakesOfRecord f (Some part) (Some kept) now left before after result = Makes (on_kept part kept (f part.instance kept.state)) (Some part, Some kept) (now, left) before after result
+MakesOfRecord f _ _ now left before after result = Unit {0}
+
+-- on the sweep, as on the lent janitor
+abbrev pub on_janitor : Effect (Option Sweeping) → Effect (Option (Option Sweeping))
+on_janitor effect = record { parts = Some effect.parts; items = effect.items; stop = effect.stop }
+
+-- by the instance of the lent node, which stays
+abbrev pub MakesOfJanitor : (Option InstanceEntry → Option Sweeping → Effect (Option Sweeping)) → Option Node → Option (Option Sweeping) → Option (Option Sweeping) → List Item → List Item → Result Unit Stopped → Type 0
+MakesOfJanitor f (Some part) (Some sweep) now before after result = Makes (on_janitor (f part.instance sweep)) (Some sweep) now before after result
+MakesOfJanitor f _ _ now before after result = Unit {0}
 
 -- ---- all lent parts
 -- the effect that an event has on the lent parts, under a fate
@@ -94,4 +114,16 @@ HasAll l (event.Accept node session reading) = HasSession l session × HasPost l
 HasAll l (event.Put node session) = HasPost l node × IsSome l.table
 HasAll l (event.Step session) = HasSession l session
 HasAll l (event.Fetch session key) = HasSession l session × IsSome l.cells
+HasAll l (event.Heal session) = HasSession l session × IsSome l.cells
+HasAll l (event.Take node reading) = HasPost l node × IsSome l.master
+HasAll l (event.Renew node reading) = HasPost l node × IsSome l.master
+HasAll l (event.Extend node) = HasPost l node × IsSome l.master
+HasAll l (event.SweepOpen node txn) = HasPost l node × IsSome l.janitor
+HasAll l event.SweepStep = IsSome l.janitor
 HasAll l e = ⊥
+
+-- what the event notes in the history, where it touches no part of the state
+abbrev pub item_noted : Event → Option Item
+item_noted (event.Tick to) = Some (item.Tick to)
+item_noted (event.Note actor note) = Some (item.Note actor note)
+item_noted e = None

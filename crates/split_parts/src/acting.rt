@@ -10,6 +10,7 @@ ghost use Rattle.split_parts.specs.Making.{Ends};
 ghost use Rattle.split_parts.specs.Parts.{LeasesBySetup, filled, seen, setup_of};
 
 use crate::direct::act_direct;
+use crate::noting::{act_noted, noted_item};
 use crate::{Event, Lent};
 use cluster_core::ClusterState;
 use event_parts::Stopped;
@@ -59,6 +60,9 @@ fn act_timed(
     ensures acted { IfOk result (λ acted. Acts (seen lent.old) (seen lent.new) event.now acted) }
     ensures refused { OnErr result (seen lent.new ≡ seen lent.old) }
 {
+    if let Some(item) = noted_item(event) {
+        return act_noted(alloc, lent, event, item);
+    }
     if lent.has_all(event) {
         return act_direct(alloc, lent, event);
     }

@@ -71,7 +71,7 @@ impl Lent<'_> {
         session_events::next_store(self.client(session)?)
     }
 
-    fn sweep_store(&self) -> Option<Store>
+    pub(crate) fn sweep_store(&self) -> Option<Store>
         ensures { result ≡ asked_of (seen self.now) (timed_by (seen self.now) Event.SweepStep) }
     {
         match &self.janitor {

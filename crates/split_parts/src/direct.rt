@@ -1,6 +1,6 @@
 // Events that are made of the lent parts themselves.
 ghost use Rattle.std.specs.FinMap as map;
-ghost use Rattle.std.specs.Prelude.{◌≡◌, ◌<◌, IfOk, IfSome, IsSome, IsTrue, OnErr, OnOk, None, slice_index_or, slice_set, List, ℕ, []};
+ghost use Rattle.std.specs.Prelude.{◌≡◌, ◌<◌, IfOk, IfSome, IsTrue, OnErr, OnOk, None, slice_index_or, slice_set, List, ℕ, []};
 ghost use Rattle.machine.specs.Events.Write.{write_refused, write_on};
 ghost use Rattle.machine.specs.Events.Abort.{abort_on};
 ghost use Rattle.machine.specs.Events.Vanish.{vanish_on};
@@ -19,17 +19,20 @@ ghost use Rattle.stamp_base.specs.Setups.{numbers_of};
 ghost use Rattle.machine.specs.Events.Decide.{decide_on};
 ghost use Rattle.machine.specs.Events.Answer.{answer_on};
 ghost use Rattle.machine.specs.Machine.{asks};
-ghost use Rattle.system_parts.specs.Rows.{IsBare};
+ghost use Rattle.machine.specs.Events.Heal.{heal_on, offer_of};
+ghost use Rattle.system_parts.specs.Rows.{HasOnly, IsBare};
 ghost use Rattle.cluster_core.specs.Required.{CanMake};
 ghost use Rattle.port_io.specs.declared.weather.Fate.{Fate};
 ghost use Rattle.split_parts.specs.Acts.{Acts, asked_of};
 ghost use Rattle.split_parts.specs.Agrees.{CallsFit, HasSession};
 ghost use Rattle.split_parts.specs.Direct.{HasAll, HasPost, lent_effect, MakesOfCells, MakesOfNode, MakesOfSession, MakesOfStores, MakesOfTable, on_both, on_rows, on_table_too, turned};
 ghost use Rattle.split_parts.specs.Making.{called_after};
-ghost use Rattle.split_parts.specs.Parts.{behind, cells_of, fate_of, filled, lent_pairs, lent_rows, node_of, seen, session_of, sessions_seen, setup_of, table_of};
+ghost use Rattle.split_parts.specs.Parts.{LeasesBySetup, behind, cells_of, fate_of, filled, lent_pairs, lent_rows, node_of, seen, session_of, sessions_seen, table_of};
 
 use crate::acting::ended;
 use crate::parts::{CellsPart, NodePart, SessionPart, TablePart};
+use crate::recording::{extend_among, renew_among, take_among};
+use crate::sweeping::{sweep_open_among, sweep_step_among};
 use crate::{Acted, Lent};
 use cell_store::Cells;
 use commit_table::Table;
@@ -129,6 +132,12 @@ impl<'a> Lent<'a> {
             Event::Put { node, .. } => self.has_post(*node) && self.table.is_some(),
             Event::Step { session } => self.client(*session).is_some(),
             Event::Fetch { session, .. } => self.client(*session).is_some() && self.cells.is_some(),
+            Event::Heal { session } => self.client(*session).is_some() && self.cells.is_some(),
+            Event::Take { node, .. } => self.has_post(*node) && self.master.is_some(),
+            Event::Renew { node, .. } => self.has_post(*node) && self.master.is_some(),
+            Event::Extend { node } => self.has_post(*node) && self.master.is_some(),
+            Event::SweepOpen { node, .. } => self.has_post(*node) && self.janitor.is_some(),
+            Event::SweepStep => self.janitor.is_some(),
             _ => false,
         }
     }
@@ -172,6 +181,28 @@ impl<'a> Lent<'a> {
         session_events::write_store(self.client(session)?, key)
     }
 
+    fn heal_store(&self, session: SessionNo) -> Option<Store>
+        requires { HasSession (seen self.now) session }
+        ensures { result ≡ asked_of (seen self.now) (Event.Heal session) }
+    {
+        session_events::heal_store(self.client(session)?)
+    }
+
+    fn take_store(&self, node: NodeNo) -> Option<Store>
+        requires { HasPost (seen self.now) node }
+        ensures { (reading : ℕ) → result ≡ asked_of (seen self.now) (Event.Take node reading) }
+    {
+        node_events::take_store(self.post()?)
+    }
+
+    fn renew_store(&self, node: NodeNo) -> Option<Store>
+        requires { HasPost (seen self.now) node }
+        ensures renew { (reading : ℕ) → result ≡ asked_of (seen self.now) (Event.Renew node reading) }
+        ensures extend { result ≡ asked_of (seen self.now) (Event.Extend node) }
+    {
+        node_events::record_store(self.post()?)
+    }
+
     /// The store that the event asks.
     fn asked(&self, event: &Event) -> Option<Store>
         requires { HasAll (seen self.now) event.now }
@@ -182,6 +213,11 @@ impl<'a> Lent<'a> {
             Event::Put { node, session } => self.put_store(*node, *session),
             Event::Step { session } => self.next_store(*session),
             Event::Fetch { session, key } => self.fetch_store(*session, *key),
+            Event::Heal { session } => self.heal_store(*session),
+            Event::Take { node, .. } => self.take_store(*node),
+            Event::Renew { node, .. } => self.renew_store(*node),
+            Event::Extend { node } => self.renew_store(*node),
+            Event::SweepStep => self.sweep_store(),
             _ => None,
         }
     }
@@ -517,6 +553,41 @@ fn fetch_to(
     }
 }
 
+/// The shadow is set, whatever the commit table has.
+fn heal_rows(
+    weather: &mut OneFate,
+    book: &mut Book,
+    client: &mut Client,
+    cells: &mut Cells,
+    session: SessionNo,
+) -> Result<(), Stopped>
+    requires { IfSome (offer_of client.old) (λ offer. HasOnly cells.old.rows offer.0 offer.1 offer.2) }
+    ensures { Makes (heal_on session weather.old.fate client.old cells.old.rows map.empty)
+        (client.old, cells.old.rows) (client.new, cells.new.rows) book.old.items book.new.items result }
+{
+    session_events::heal(weather, book, client, cells, session)
+}
+
+fn heal_to(
+    weather: &mut OneFate,
+    book: &mut Book,
+    own: &mut Option<&mut SessionPart>,
+    cells: &mut Option<&mut CellsPart>,
+    session: SessionNo,
+) -> Result<(), Stopped>
+    requires { IfSome (behind session_of own.old) (λ c. IfSome (behind cells_of cells.old) (λ part. IfSome (offer_of c) (λ offer. HasOnly part.rows offer.0 offer.1 offer.2))) }
+    ensures { MakesOfCells (λ c rows. heal_on session weather.old.fate c rows map.empty) (behind session_of own.old) (behind cells_of cells.old) (behind session_of own.new) (behind cells_of cells.new) book.old.items book.new.items result }
+{
+    match (own, cells) {
+        (Some(place), Some(rows)) => {
+            let part = &mut **place;
+            let rows = &mut **rows;
+            heal_rows(weather, book, &mut part.client, &mut rows.cells, session)
+        }
+        _ => Ok(()),
+    }
+}
+
 /// A write among the lent parts.
 fn write_among(
     lent: &mut Lent<'_>,
@@ -700,25 +771,40 @@ fn step_among(
     made
 }
 
+fn heal_among(
+    lent: &mut Lent<'_>,
+    weather: &mut OneFate,
+    book: &mut Book,
+    session: SessionNo,
+) -> Result<(), Stopped>
+    requires all { HasAll (seen lent.old) (Event.Heal session) }
+    requires can { CanMake (filled (seen lent.old)) (Event.Heal session) }
+    ensures { Makes (lent_effect (seen lent.old) (Event.Heal session) weather.old.fate) (seen lent.old) (seen lent.new) book.old.items book.new.items result }
+{
+    let mut own = lent.take_session(session.index());
+    let made = heal_to(weather, book, &mut own, &mut lent.cells, session);
+    lent.put_session(session.index(), own);
+    made
+}
+
 fn fetch_among(
     lent: &mut Lent<'_>,
     weather: &mut OneFate,
     book: &mut Book,
-    setup: &Setup,
     session: SessionNo,
     key: KeyNo,
 ) -> Result<(), Stopped>
-    requires all { HasAll (seen lent.old) (Event.Fetch session key) }
-    requires setup { numbers_of setup.now ≡ setup_of (seen lent.old) }
+    requires { HasAll (seen lent.old) (Event.Fetch session key) }
     ensures { Makes (lent_effect (seen lent.old) (Event.Fetch session key) weather.old.fate) (seen lent.old) (seen lent.new) book.old.items book.new.items result }
 {
+    let setup = lent.setup();
     let mut own = lent.take_session(session.index());
     let made = fetch_to(
         weather,
         book,
         &mut own,
         &mut lent.cells,
-        setup,
+        &setup,
         session,
         key,
     );
@@ -734,6 +820,7 @@ fn make_among(
     book: &mut Book,
     event: &Event,
 ) -> Result<(), Stopped>
+    requires leases { LeasesBySetup (seen lent.old) }
     requires all { HasAll (seen lent.old) event.now }
     requires can { CanMake (filled (seen lent.old)) event.now }
     requires fate { weather.old.fate ≡ fate_of (seen lent.old) (asked_of (seen lent.old) event.now) }
@@ -758,10 +845,13 @@ fn make_among(
         } => accept_among(alloc, lent, book, *session, *node, *reading),
         Event::Put { node, session } => put_among(lent, weather, book, *session, *node),
         Event::Step { session } => step_among(alloc, lent, weather, book, *session),
-        Event::Fetch { session, key } => {
-            let setup = lent.setup();
-            fetch_among(lent, weather, book, &setup, *session, *key)
-        }
+        Event::Fetch { session, key } => fetch_among(lent, weather, book, *session, *key),
+        Event::Heal { session } => heal_among(lent, weather, book, *session),
+        Event::Take { node, reading } => take_among(alloc, lent, weather, book, *node, *reading),
+        Event::Renew { node, reading } => renew_among(lent, weather, book, *node, *reading),
+        Event::Extend { node } => extend_among(lent, weather, book, *node),
+        Event::SweepOpen { node, txn } => sweep_open_among(lent, book, *node, *txn),
+        Event::SweepStep => sweep_step_among(alloc, lent, weather, book),
         _ => unreachable!(),
     }
 }
@@ -772,6 +862,7 @@ pub(crate) fn act_direct(
     lent: &mut Lent<'_>,
     event: &Event,
 ) -> Result<Acted, NoMemory>
+    requires leases { LeasesBySetup (seen lent.old) }
     requires all { HasAll (seen lent.old) event.now }
     requires calls { CallsFit (seen lent.old) (asks (filled (seen lent.old)) event.now) }
     requires can { CanMake (filled (seen lent.old)) event.now }

@@ -11,8 +11,11 @@ mod event;
 mod lending;
 mod lent;
 mod making;
+mod noting;
 mod parts;
+mod recording;
 mod swapping;
+mod sweeping;
 
 pub use acting::{Acted, act};
 pub use agreeing::agrees;

@@ -11,7 +11,7 @@ use Rattle.command_semantics.specs.Runs.{Played, Calls, played, opening_played, 
 use Rattle.command_semantics.specs.Orders.{TimedEvent, all_played, AllRead, ticks_made, OrdersArePlanned}
 use Rattle.split_stores.specs.declared.seat.Entry.{Entry}
 use Rattle.split_stores.specs.Merged.{timed_in, played_with, replayed_items, entries_played, merged_played, IsReplayed, IsSettledAt}
-use Rattle.split_stores.specs.Orders.{rise_by, timed_entries, rises_in, without_lines, SettledByPlans, SettledIsPlanned}
+use Rattle.split_stores.specs.Orders.{rise_by, timed_entries, rises_in, without_lines, SettledByPlans, IsOrdered, SettledIsOrdered, SettledIsPlanned}
 use Rattle.split_stores.proofs.ReplayLemmas.{reads}
 
 -- ---- lines make no difference
@@ -73,11 +73,19 @@ unfolding ticks_made timed_entries rises_in
 same_ticks script [] p = refl
 same_ticks script (e ∷ es) p = ap (with_tick (rise_by e.event)) (same_ticks script es (played_with script p e.event))
 
-pub settled_is_planned : OrdersArePlanned → SettledIsPlanned
-settled_is_planned law script logs whole settled in_range playable ticks =
+pub settled_is_ordered : SettledIsOrdered
+settled_is_ordered script logs whole settled =
     let es : List Entry = settled.merged in
     let p : Played = opening_played script in
-    let events : List TimedEvent = timed_entries script es p in
-    let planned : Planned script (all_played script events p).items = law script events in_range playable (all_read script es p) (same_ticks script es p ∙ ticks) in
     let at : IsSettledAt script es whole = settled_by_plans script logs whole settled in
-    subst (Planned script) (ap (λ (q : Played). q.items) (same_played script es p) ∙ sym at.items) planned
+    record {
+      events = timed_entries script es p;
+      read = all_read script es p;
+      ticks = same_ticks script es p;
+      items = at.items ∙ ap (λ (q : Played). q.items) (sym (same_played script es p));
+    }
+
+pub settled_is_planned : OrdersArePlanned → SettledIsPlanned
+settled_is_planned law script logs whole settled in_range playable ticks =
+    let order : IsOrdered script settled.merged whole = settled_is_ordered script logs whole settled in
+    subst (Planned script) (sym order.items) (law script order.events in_range playable order.read (order.ticks ∙ ticks))

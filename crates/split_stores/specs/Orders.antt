@@ -2,10 +2,10 @@
 use Rattle.std.specs.Prelude.{◌≡◌, ℕ, List, [], ◌∷◌, Option, None, Some}
 use Rattle.stamp_base.specs.SetupNumbers.{AreInRange}
 use Rattle.script_data.specs.Data.{ScriptData}
-use Rattle.command_semantics.specs.Runs.{Played}
+use Rattle.command_semantics.specs.Runs.{Played, opening_played}
 use Rattle.command_semantics.specs.Laws.{IsPlayable}
 use Rattle.command_semantics.specs.Planned.{with_tick, ticks_in, Planned}
-use Rattle.command_semantics.specs.Orders.{TimedEvent}
+use Rattle.command_semantics.specs.Orders.{TimedEvent, AllRead, all_played, ticks_made}
 use Rattle.cluster_core.specs.ClusterModel.{ClusterModel}
 use Rattle.split_parts.specs.declared.event.Event.{Event}
 use Rattle.split_parts.specs.declared.event.Event.TheVariants as event
@@ -32,6 +32,16 @@ without_lines script = record script { lines = [] }
 -- what is settled by a script's plan is settled by the script
 abbrev pub SettledByPlans : Type 0
 SettledByPlans = (script : ScriptData) (logs : List Entry) (whole : ClusterModel) (settled : Settled (without_lines script) logs whole) → IsSettledAt script settled.merged whole
+
+-- its history is what events come to that read the clocks, in an order in which these tick as the entries rise
+pub record IsOrdered (script : ScriptData) (merged : List Entry) (whole : ClusterModel) : Type 0 where
+  pub events : List TimedEvent
+  pub read : AllRead script events (opening_played script)
+  pub ticks : ticks_made events ≡ rises_in merged
+  pub items : whole.history ≡ (all_played script events (opening_played script)).items
+
+abbrev pub SettledIsOrdered : Type 0
+SettledIsOrdered = (script : ScriptData) (logs : List Entry) (whole : ClusterModel) (settled : Settled (without_lines script) logs whole) → IsOrdered script settled.merged whole
 
 -- and its history is as planned, where the clock ticks as the script's lines say
 abbrev pub SettledIsPlanned : Type 0

@@ -20,7 +20,7 @@ mod telling;
 mod timing;
 
 pub use gate::{OpenPartGate, PartGate};
-pub use laws::{settled_by_plans, settled_is_planned};
+pub use laws::{settled_by_plans, settled_is_ordered, settled_is_planned};
 pub use made::Made;
 pub use searching::{HeldRequest, SeenRequest};
 pub use seat::{ActorSeat, Entry};

@@ -1,12 +1,23 @@
-use Rattle.std.proofs.Common.{arith, ◌∙◌, ap, slice_set}
-use Rattle.std.proofs.lemmas.List.Edits.{map_over_more}
+use Rattle.std.proofs.Common.{◌≡◌, List, true, length, slice_set, ◌∙◌, ap, subst, sym}
+use Rattle.std.proofs.lemmas.Option.{slice_get_read}
+use Rattle.history_book.specs.declared.item.Actor.TheVariants.{Session}
 use Rattle.planned_cluster.specs.Standing.{clocks_at}
 use Rattle.run_board.specs.declared.seated.Seated.{Seated}
-use Rattle.run_board.specs.Seating.{passing_of}
+use Rattle.run_board.specs.Seating.{after_passing, seated_of, sits_at}
+use Rattle.run_board.proofs.ByIndex.{changed_at, changed_nowhere}
 use Rattle.run_board.proofs.seated.pass_one.Goals as goal
 
-pub loop-number-preserved : goal.loop-number-preserved
-loop-number-preserved c = record {
-  passed = ap (λ (s : Seated). slice_set c.loop-number.seated.items c.loop-number.number s) (c.pass_if.ensures) ∙ map_over_more (passing_of c.args.session (clocks_at c.args.planned.now.cluster c.args.planned.now.clock c.args.leads.now) c.args.planned.now.cluster.state) c.args.seated.now.items c.loop-number.seated.items c.loop-number.number c.index_mut.result.now (omega (arith, c.loop-number-test.true, c.loop-number.invariant.same, c.loop-number.seated.ok)) c.loop-number.invariant.passed c.index_mut.ensures.value;
-  same = c.loop-number.invariant.same;
-}
+pub returns-in-Some : goal.returns-in-Some
+returns-in-Some c =
+    let seated = c.args.seated.now.items in
+    let index = c.in-Some.index in
+    let one = c.index_mut.result.now in
+    let passes = after_passing (clocks_at c.args.planned.now.cluster c.args.planned.now.clock c.args.leads.now) c.args.planned.now.cluster.state in
+    let sits = subst (λ (all : List Seated). sits_at all index (Session c.args.session) ≡ true) c.as_slice.ensures.value c.in-Some.ensures.sits in
+    let is = slice_get_read seated (length c.as_slice.result.now) index one (ap (λ (all : List Seated). length all) c.as_slice.ensures.value) c.in-Some.ensures.inside c.index_mut.ensures.value in
+    ap (λ (s : Seated). slice_set seated index s) c.pass.ensures ∙ changed_at passes seated index (Session c.args.session) one c.requires.once sits is
+
+pub returns-in_default : goal.returns-in_default
+returns-in_default c =
+    let passes = after_passing (clocks_at c.args.planned.now.cluster c.args.planned.now.clock c.args.leads.now) c.args.planned.now.cluster.state in
+    changed_nowhere passes c.args.seated.now.items (Session c.args.session) (ap (λ (all : List Seated). seated_of all (Session c.args.session)) (sym c.as_slice.ensures.value) ∙ c.in_default.ensures.missing)

@@ -11,4 +11,5 @@ returns-in-Ok g c = subst (λ (script : ScriptData). RunsTo script c.in-Ok.made.
   serial = c.in-Ok.ensures.serial;
   answers = c.in-Ok.ensures.answered;
   planned = c.in-Ok.ensures.planned;
+  service = c.in-Ok.ensures.service;
 })

@@ -61,3 +61,39 @@ returns-in-Step c = rw c.in-Step.is c.step_among.ensures
 
 pub returns-in-Fetch : goal.returns-in-Fetch
 returns-in-Fetch c = rw c.in-Fetch.is c.fetch_among.ensures
+
+pub heal_among-requires-clause-can : goal.heal_among-requires-clause-can
+heal_among-requires-clause-can c = subst (λ (e : Event). CanMake (filled (seen c.args.lent.now)) e) c.in-Heal.is c.requires.can
+
+pub returns-in-Heal : goal.returns-in-Heal
+returns-in-Heal c = rw c.in-Heal.is c.heal_among.ensures
+
+pub take_among-requires-clause-can : goal.take_among-requires-clause-can
+take_among-requires-clause-can c = subst (λ (e : Event). CanMake (filled (seen c.args.lent.now)) e) c.in-Take.is c.requires.can
+
+pub returns-in-Take : goal.returns-in-Take
+returns-in-Take c = rw c.in-Take.is c.take_among.ensures
+
+pub renew_among-requires-clause-can : goal.renew_among-requires-clause-can
+renew_among-requires-clause-can c = subst (λ (e : Event). CanMake (filled (seen c.args.lent.now)) e) c.in-Renew.is c.requires.can
+
+pub returns-in-Renew : goal.returns-in-Renew
+returns-in-Renew c = rw c.in-Renew.is c.renew_among.ensures
+
+pub extend_among-requires-clause-can : goal.extend_among-requires-clause-can
+extend_among-requires-clause-can c = subst (λ (e : Event). CanMake (filled (seen c.args.lent.now)) e) c.in-Extend.is c.requires.can
+
+pub returns-in-Extend : goal.returns-in-Extend
+returns-in-Extend c = rw c.in-Extend.is c.extend_among.ensures
+
+pub returns-in-SweepOpen : goal.returns-in-SweepOpen
+returns-in-SweepOpen c = rw c.in-SweepOpen.is (c.sweep_open_among.ensures c.args.weather.now.fate)
+
+pub sweep_step_among-requires-clause-can : goal.sweep_step_among-requires-clause-can
+sweep_step_among-requires-clause-can c = subst (λ (e : Event). CanMake (filled (seen c.args.lent.now)) e) c.in-SweepStep.is c.requires.can
+
+pub sweep_step_among-requires-clause-fate : goal.sweep_step_among-requires-clause-fate
+sweep_step_among-requires-clause-fate c = subst (λ (e : Event). c.args.weather.now.fate ≡ fate_of (seen c.args.lent.now) (asked_of (seen c.args.lent.now) e)) c.in-SweepStep.is c.requires.fate
+
+pub returns-in-SweepStep : goal.returns-in-SweepStep
+returns-in-SweepStep c = rw c.in-SweepStep.is c.sweep_step_among.ensures

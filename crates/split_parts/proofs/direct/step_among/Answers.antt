@@ -1,4 +1,4 @@
-use Rattle.std.proofs.Common.{None, refl, sym, ap, ◌∙◌, arith}
+use Rattle.std.proofs.Common.{None, ap, ◌∙◌, arith}
 use Rattle.std.specs.Prelude.{slice_index_or}
 use Rattle.event_parts.specs.Made.{fate_ahead}
 use Rattle.machine.specs.Events.Step.{step_asks, step_on}

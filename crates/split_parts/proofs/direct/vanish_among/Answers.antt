@@ -2,7 +2,7 @@ use Rattle.std.proofs.Common.{None, refl, ap, ◌∙◌, arith}
 use Rattle.std.specs.Prelude.{slice_index_or}
 use Rattle.machine.specs.Events.Vanish.{vanish_on}
 use Rattle.machine.specs.declared.event.Event.TheVariants as event
-use Rattle.split_parts.specs.Parts.{Parts, behind, seen, session_of}
+use Rattle.split_parts.specs.Parts.{behind, seen, session_of}
 use Rattle.split_parts.proofs.Directly.{among_sessions, session_moved, session_made}
 use Rattle.split_parts.proofs.direct.vanish_among.Goals as goal
 

@@ -1,8 +1,9 @@
 use Rattle.script_data.specs.Data.{ScriptData}
 use Rattle.command_semantics.specs.Answers.{AnswersOnThreads}
 use Rattle.command_semantics.specs.Planned.{Planned}
+use Rattle.service_rules.specs.Service.{KeepsService}
 use Rattle.run_board.specs.Playing.{IsResult}
-use Rattle.run_board.proofs.Closing.{AreOf, result_at_end, answered_at_end, planned_at_end, of_parts}
+use Rattle.run_board.proofs.Closing.{AreOf, result_at_end, answered_at_end, planned_at_end, service_at_end, of_parts}
 use Rattle.run_board.proofs.play.Play.close.Goals as goal
 
 pub returns-clause-result : goal.returns-clause-result
@@ -27,3 +28,10 @@ returns-clause-planned g c =
     let cursors = c.self.inside.cursors in
     let history = c.into_parts.result.0.history in
     of_parts run cursors c.args.self (λ (script : ScriptData). Planned script history) c.self.view_is (planned_at_end run cursors history c.ended_runs_are_whole.ensures c.turns_are_planned.ensures c.self.invariant.kept c.into_parts.ensures.history) c.requires.ends
+
+pub returns-clause-service : goal.returns-clause-service
+returns-clause-service g c =
+    let run = c.self.inside.run in
+    let cursors = c.self.inside.cursors in
+    let history = c.into_parts.result.0.history in
+    of_parts run cursors c.args.self (λ (script : ScriptData). KeepsService script.setup history) c.self.view_is (λ _. service_at_end run cursors history c.turns_keep_service.ensures c.self.invariant.kept c.into_parts.ensures.history) c.requires.ends

@@ -1,16 +1,23 @@
-use Rattle.std.proofs.Common.{◌≡◌, subst, sym, ap, ◌∙◌}
+use Rattle.std.proofs.Common.{◌≡◌, List, subst, sym, ap, ◌∙◌}
 use Rattle.std.specs.Prelude.{IfSome}
 use Rattle.turn_rules.specs.declared.ahead.NextAction.TheVariants.{Passes}
 use Rattle.turn_rules.specs.Carried.{ahead_at, own_ahead}
 use Rattle.command_semantics.specs.Clocks.{HaveRoom}
 use Rattle.session_script.specs.Script.{data_of}
+use Rattle.run_board.specs.declared.seated.Seated.{Seated}
 use Rattle.run_board.specs.Run.{Ran, reached_by}
-use Rattle.run_board.specs.Seating.{seated_of}
+use Rattle.run_board.specs.Seating.{seated_of, SitOnce}
 use Rattle.run_board.specs.Steps.{HasEnded}
 use Rattle.run_board.proofs.Ended.{has_ended}
+use Rattle.run_board.proofs.SeatedOnce.{sit_once}
 use Rattle.run_board.proofs.Found.{ahead_found, ahead_missing}
 use Rattle.run_board.proofs.Here.{room_found}
 use Rattle.run_board.proofs.run.ScriptRun.ahead.Goals as goal
+
+pub seated_of-requires : goal.seated_of-requires
+seated_of-requires c =
+    let s = c.self.inside in
+    subst (λ (all : List Seated). SitOnce all) (sym c.as_slice.ensures.value) (sit_once (data_of s.script) s.turns.items s.names.names s.held.items s.seated.items c.self.invariant.1)
 
 pub ahead_at-requires : goal.ahead_at-requires
 ahead_at-requires c =

@@ -1,4 +1,4 @@
-use Rattle.std.proofs.Common.{◌≡◌, ℕ, Err, ◌+◌, ◌≤◌, Bool, List, [], ◌∷◌, ◌++◌, Option, Some, Result, drop, length, sym, ◌∙◌, ap, arith}
+use Rattle.std.proofs.Common.{◌≡◌, ℕ, Err, ◌+◌, ◌≤◌, Bool, List, [], ◌∷◌, ◌++◌, Option, Some, Result, drop, length, sym, ◌∙◌, ap, subst, arith}
 use Rattle.std.specs.Prelude.{map, option_map, is_ok, vec_len}
 use Rattle.std.specs.Vec.{vec_capacity}
 use Rattle.event_parts.specs.declared.stopped.Stopped.{Stopped}
@@ -18,11 +18,12 @@ use Rattle.turn_rules.specs.Lawful.{IsFree, IsInPlace, stage_of}
 use Rattle.run_board.specs.declared.run.ScriptRun.TheInside.{Inside}
 use Rattle.run_board.specs.declared.seated.Seated.{Seated}
 use Rattle.run_board.specs.Making.{is_told, lacking_after, cleared, serves}
-use Rattle.run_board.specs.Seating.{after_turn, after_passes, touched}
+use Rattle.run_board.specs.Seating.{after_turn, after_passes, touched, SitOnce}
 use Rattle.run_board.proofs.OneActor.{one_passes}
 use Rattle.run_board.specs.Run.{Ran, reached_by, with_turn, SitsAt, IsCarriedOut}
 use Rattle.run_board.proofs.Called.{can_turn, is_steady, has_gone, same_made, may_pass, makes_turn, leaves_out}
 use Rattle.run_board.proofs.Kept.{Kept, Call, IsMade, CanTurn, since, moved_by, kept_after, kept_still}
+use Rattle.run_board.proofs.SeatedOnce.{sit_once, moved_once}
 use Rattle.run_board.proofs.Stopping.{stood}
 use Rattle.run_board.proofs.TurnMade.{turn_made, turn_silent}
 use Rattle.run_board.proofs.TurnRoom.{room_moved, still_room, added_room, never_refused, lacked_by, is_serving, has_room}
@@ -152,8 +153,17 @@ returns-then-not-is_told-clause-made c =
     let quiet = told_so call _ _ _ is c.is_told.ensures c.if-not-is_told.true in
     leaves_out (ran s) c.args.self.now (ran_with s c.make_room.new.turns.items) call c.self.view_is gone quiet (λ k. ran_with s (c.make_room.ensures.turns k))
 
-pub pass_touched-requires : goal.pass_touched-requires
-pass_touched-requires c =
+pub go_on-requires : goal.go_on-requires
+go_on-requires c = let s = c.self.inside in sit_once (data_of s.script) s.turns.items s.names.names s.held.items s.seated.items c.self.invariant.1
+
+pub pass_touched-requires-clause-once : goal.pass_touched-requires-clause-once
+pass_touched-requires-clause-once c =
+    let s = c.self.inside in
+    let once = sit_once (data_of s.script) s.turns.items s.names.names s.held.items s.seated.items c.self.invariant.1 in
+    subst (λ (all : List Seated). SitOnce all) (sym c.go_on.ensures) (moved_once c.args.turn c.in-Some.halt c.was_asked-asked.result s.seated.items once)
+
+pub pass_touched-requires-clause-can_pass : goal.pass_touched-requires-clause-can_pass
+pass_touched-requires-clause-can_pass c =
     let s = c.self.inside in
     let h = stands s c.args.self.now c.args.turn c.args.event.now c.self.invariant c.self.view_is c.requires.event c.requires.free c.requires.in_place in
     let call = call_of c.args.turn c.args.event.now c.make-answer.result c.in-Some.halt c.history-before.result.now c.make-answer.new.self in

@@ -1,11 +1,18 @@
-use Rattle.std.proofs.Common.{◌≡◌, subst, sym, ap, ◌∙◌}
+use Rattle.std.proofs.Common.{◌≡◌, List, subst, sym, ap, ◌∙◌}
 use Rattle.turn_rules.specs.Carried.{carried}
 use Rattle.session_script.specs.Script.{data_of}
+use Rattle.run_board.specs.declared.seated.Seated.{Seated}
 use Rattle.run_board.specs.Run.{Ran}
-use Rattle.run_board.specs.Seating.{seated_of}
+use Rattle.run_board.specs.Seating.{seated_of, SitOnce}
 use Rattle.run_board.specs.Steps.{place_of}
+use Rattle.run_board.proofs.SeatedOnce.{sit_once}
 use Rattle.run_board.proofs.Found.{place_found, place_missing}
 use Rattle.run_board.proofs.run.ScriptRun.place.Goals as goal
+
+pub seated_of-requires : goal.seated_of-requires
+seated_of-requires c =
+    let s = c.self.inside in
+    subst (λ (all : List Seated). SitOnce all) (sym c.as_slice.ensures.value) (sit_once (data_of s.script) s.turns.items s.names.names s.held.items s.seated.items c.self.invariant.1)
 
 pub returns-in-Some : goal.returns-in-Some
 returns-in-Some c =

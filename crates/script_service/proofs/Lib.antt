@@ -1,0 +1,3 @@
+mod EventsKeep
+mod TurnsKeep
+mod OrdersKeep

@@ -1,0 +1,5 @@
+use Rattle.script_service.proofs.OrdersKeep.{orders_keep_service}
+use Rattle.script_service.proofs.service.orders_keep_service.Goals as goal
+
+pub returns : goal.returns
+returns c = orders_keep_service (record { first = c.service_at_first.ensures; events = c.events_keep_service.ensures; now = c.service_stands.ensures }) c.events_stay_told.ensures

@@ -1,0 +1,7 @@
+use Rattle.std.proofs.Common.{sym, arith}
+use Rattle.split_parts.specs.Parts.{seen}
+use Rattle.split_parts.proofs.Directly.{heal_asked}
+use Rattle.split_parts.proofs.lent.Lent.heal_store.Goals as goal
+
+pub returns : goal.returns
+returns c = heal_asked (seen c.args.self.now) c.args.session _ _ (grind arith) (sym c.in_ok-client.ensures) c.heal_store.ensures

@@ -1,0 +1,18 @@
+use Rattle.std.proofs.Common.{refl, subst, sym}
+use Rattle.std.specs.Prelude.{◌≡◌, IfSome}
+use Rattle.stamp_base.specs.SetupNumbers.{SetupNumbers}
+use Rattle.machine.specs.Events.Extend.{extend_on}
+use Rattle.machine.specs.Events.Take.{rules_of}
+use Rattle.machine.specs.declared.event.Event.TheVariants as event
+use Rattle.split_parts.specs.Parts.{seen}
+use Rattle.split_parts.proofs.RecordEvents.{kept_made, may_extend}
+use Rattle.split_parts.proofs.recording.extend_among.Goals as goal
+
+pub extend_to-requires-clause-covers : goal.extend_to-requires-clause-covers
+extend_to-requires-clause-covers c = may_extend (seen c.args.lent.now) c.args.node c.requires.all.0 c.requires.can
+
+pub extend_to-requires-clause-rules : goal.extend_to-requires-clause-rules
+extend_to-requires-clause-rules c = subst (λ (x : SetupNumbers). IfSome (seen c.args.lent.now).master (λ kept. kept.rules ≡ rules_of x)) (sym c.setup-setup.ensures.numbers) c.requires.leases
+
+pub returns : goal.returns
+returns c = kept_made (seen c.args.lent.now) _ (event.Extend c.args.node) c.args.weather.now.fate c.args.node 0 _ (λ setup i state. extend_on setup c.args.node c.args.weather.now.fate i state) c.args.book.now.items c.extend_to.new.book.items c.extend_to.result c.requires.all.0 c.requires.all.1 c.setup-setup.ensures.numbers (λ p. refl) refl c.extend_to.ensures

@@ -1,0 +1,5 @@
+use Rattle.stamp_base.specs.Setups.{numbers_of}
+use Rattle.split_parts.proofs.recording.extend_kept.Goals as goal
+
+pub returns-clause-made : goal.returns-clause-made
+returns-clause-made c = c.extend.ensures.made (numbers_of c.args.setup.now) c.requires.rules

@@ -1,0 +1,15 @@
+use Rattle.std.proofs.Common.{max, refl, subst, sym}
+use Rattle.std.specs.Prelude.{◌≡◌, IfSome}
+use Rattle.stamp_base.specs.SetupNumbers.{SetupNumbers}
+use Rattle.machine.specs.Events.Renew.{renew_on}
+use Rattle.machine.specs.Events.Take.{rules_of}
+use Rattle.machine.specs.declared.event.Event.TheVariants as event
+use Rattle.split_parts.specs.Parts.{seen}
+use Rattle.split_parts.proofs.RecordEvents.{kept_made}
+use Rattle.split_parts.proofs.recording.renew_among.Goals as goal
+
+pub renew_to-requires-clause-rules : goal.renew_to-requires-clause-rules
+renew_to-requires-clause-rules c = subst (λ (x : SetupNumbers). IfSome (seen c.args.lent.now).master (λ kept. kept.rules ≡ rules_of x)) (sym c.setup-setup.ensures.numbers) c.requires.leases
+
+pub returns : goal.returns
+returns c = kept_made (seen c.args.lent.now) _ (event.Renew c.args.node c.args.reading) c.args.weather.now.fate c.args.node (max 0 c.args.reading) _ (λ setup i state. renew_on setup c.args.node c.args.reading c.args.weather.now.fate i state) c.args.book.now.items c.renew_to.new.book.items c.renew_to.result c.requires.all.0 c.requires.all.1 c.setup-setup.ensures.numbers (λ p. refl) refl c.renew_to.ensures
