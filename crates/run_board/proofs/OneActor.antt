@@ -7,7 +7,6 @@ use Rattle.std.proofs.lemmas.Option.{same_Some, none-some}
 use Rattle.std.proofs.lemmas.List.Elements.{All-head, All-tail, All-nil, All-cons}
 use Rattle.history_book.specs.declared.item.Actor.{Actor}
 use Rattle.history_book.specs.declared.item.Actor.TheVariants.{Session}
-use Rattle.machine.specs.declared.event.Event.{Event}
 use Rattle.machine.specs.State.{State}
 use Rattle.script_data.specs.declared.line.Line.{Line}
 use Rattle.script_data.specs.Data.{ScriptData}
@@ -23,15 +22,13 @@ use Rattle.turn_rules.specs.declared.seat.Seat.{Seat}
 use Rattle.turn_rules.specs.declared.turn.Turn.{Turn}
 use Rattle.turn_rules.specs.declared.turn.Turn.TheVariants as turn
 use Rattle.turn_rules.specs.Seats.{passed, was_asked}
-use Rattle.turn_rules.specs.Carried.{Carried, event_of}
 use Rattle.run_board.specs.declared.seated.Seated.{Seated}
 use Rattle.run_board.specs.Seating.{line_of, gone_on_at, after_turn, after_passing, after_passes, passing_of, touched}
-use Rattle.run_board.specs.Making.{step_in}
 use Rattle.run_board.specs.Run.{Ran, reached_by, IsSeated}
 use Rattle.run_board.proofs.Kept.{Kept, Call, IsMade, CanTurn, HasGone, since, moved_by}
 use Rattle.run_board.proofs.SessionEvents.{touches_one}
 use Rattle.run_board.proofs.OtherViews.{others_see}
-use Rattle.run_board.proofs.PassedOnce.{HasPassed, AllHavePassed, all_have_passed}
+use Rattle.run_board.proofs.PassedOnce.{HasPassed, all_have_passed}
 
 -- ---- the turn leaves the seats of others
 stays_put : (t : Turn) (halt : Option Interruption) (asked : Bool) (s : Seated) (session : ℕ) → touched t ≡ Some session → same_actor s.seat.actor (Session session) ≡ false → after_turn t halt asked s ≡ s

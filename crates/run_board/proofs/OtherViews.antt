@@ -24,27 +24,25 @@ use Rattle.system_parts.specs.declared.instance.Request.{Request}
 use Rattle.system_parts.specs.declared.instance.Request.TheVariants as request
 use Rattle.system_parts.specs.declared.instance.Settled.{Settled as How}
 use Rattle.system_parts.specs.Instance.{InstanceEntry, held_of, with_request, stamps_at}
-use Rattle.system_parts.specs.InstanceSteps.{InstanceStep, instance_ask, instance_accept, instance_settle, instance_answer, no_request, out_of_stamps, decide_drawn, decide_by as decided}
+use Rattle.system_parts.specs.InstanceSteps.{InstanceStep, instance_ask, instance_accept, instance_settle, instance_answer, out_of_stamps, decide_drawn, decide_by as decided}
 use Rattle.system_parts.specs.InstanceLaws.{InstanceCall, Asks, Accepts, Settles, Answers, after_call, call_session}
 use Rattle.system_parts.proofs.InstanceRequests.{held_of-with_request_other, held_of-after_call_other}
 use Rattle.machine.specs.declared.event.Event.{Event}
 use Rattle.machine.specs.declared.event.Event.TheVariants as event
 use Rattle.machine.specs.State.{Client, State}
-use Rattle.machine.specs.Events.AskBegin.{asked_by, begin_asked, ask_begin_by, ask_begin_on}
-use Rattle.machine.specs.Events.AskCommit.{commit_asked, commit_of, ask_commit_by, ask_commit_on}
+use Rattle.machine.specs.Events.AskBegin.{asked_by, begin_asked, ask_begin_by}
+use Rattle.machine.specs.Events.AskCommit.{commit_asked, commit_of, ask_commit_by}
 use Rattle.machine.specs.Events.Accept.{accept_by, accept_request, accept_on}
 use Rattle.machine.specs.Events.Decide.{both_verdict, both_if_accepted, both_held, decide_both, decide_by, decide_request, decide_on}
 use Rattle.machine.specs.Events.Put.{to_place, put_by, put_commit, put_on}
 use Rattle.machine.specs.Events.Answer.{answer_by, answer_request, answer_on}
 use Rattle.system_parts.specs.SessionSteps.{begin_refusal, work_refusal}
 use Rattle.machine.specs.Clients.{is_reading}
-use Rattle.machine.specs.Effect.{Effect}
-use Rattle.machine.specs.Machine.{Step, with_reading, at_client, at_both, at_post, stepped}
+use Rattle.machine.specs.Machine.{Step, with_reading, stepped}
 use Rattle.machine.specs.Readers.{held_at, first_holder, holder_from, holder_of, doing_at, place_held, commit_held}
 use Rattle.machine.proofs.LookedUp.{of_post, of_client, of_both}
 use Rattle.machine.proofs.Lookups.{set_other}
 use Rattle.machine.proofs.PartsKept.{leaves_parts}
-use Rattle.command_semantics.specs.declared.point.View.{View}
 use Rattle.command_semantics.specs.Views.{view_of}
 use Rattle.run_board.proofs.SessionEvents.{IsEventOf}
 

@@ -1,6 +1,6 @@
 -- For this crate's own proofs.
 -- The events of a session's turns are of that session.
-use Rattle.std.proofs.Common.{◌≡◌, ℕ, Bool, true, false, cond, Option, Some, None, refl, sym, ap, subst}
+use Rattle.std.proofs.Common.{◌≡◌, ℕ, Bool, true, false, cond, Option, Some, None, refl, subst}
 use Rattle.std.proofs.lemmas.Option.{same_Some, none-some}
 use Rattle.history_book.specs.declared.item.Actor.{Actor}
 use Rattle.history_book.specs.declared.item.Actor.TheVariants.{Session}
@@ -11,21 +11,19 @@ use Rattle.machine.specs.declared.event.Event.{Event}
 use Rattle.machine.specs.declared.event.Event.TheVariants as event
 use Rattle.script_data.specs.declared.line.Verb.{Verb}
 use Rattle.script_data.specs.declared.line.Verb.TheVariants as verb
-use Rattle.script_data.specs.declared.line.Line.{Line}
 use Rattle.script_data.specs.Data.{ScriptData}
 use Rattle.command_semantics.specs.declared.point.Point.{Point}
 use Rattle.command_semantics.specs.declared.point.Point.TheVariants.{Opens, Drives, Extends, Finishes, Reads, Steps, Over}
 use Rattle.command_semantics.specs.declared.point.View.{View}
-use Rattle.command_semantics.specs.Next.{Clocks, is_served, finish_next, places, placing_next, idle_next, read_next, steps_next, session_opens}
+use Rattle.command_semantics.specs.Next.{Clocks, is_served, finish_next, places, placing_next, idle_next, read_next, steps_next}
 use Rattle.command_semantics.specs.Views.{view_of}
 use Rattle.turn_rules.specs.declared.ahead.NextAction.{NextAction}
 use Rattle.turn_rules.specs.declared.ahead.NextAction.TheVariants.{Waits, Passes}
-use Rattle.turn_rules.specs.declared.ahead.Why.TheVariants.{Reply, Name}
+use Rattle.turn_rules.specs.declared.ahead.Why.TheVariants.{Reply}
 use Rattle.turn_rules.specs.declared.turn.Turn.{Turn}
 use Rattle.turn_rules.specs.declared.turn.Turn.TheVariants as turn
 use Rattle.turn_rules.specs.Waiting.{made_next, drive_ahead, collect_ahead, own_opens, own_next}
 use Rattle.turn_rules.specs.Carried.{Carried, aimed_clocks, name_posted, made_by, event_of}
-use Rattle.turn_rules.specs.Seats.{ahead_of}
 use Rattle.turn_rules.proofs.OwnTurns.{OwnTurn, own_turn}
 use Rattle.run_board.specs.Seating.{touched}
 

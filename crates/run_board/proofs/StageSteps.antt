@@ -1,5 +1,5 @@
 -- Steps of a stage that follow each other.
-use Rattle.std.proofs.Common.{◌≡◌, ℕ, suc, ◌+◌, ◌<◌, ◌≤◌, true, false, List, [], ◌∷◌, ◌++◌, inl, inr, refl, sym, subst, arith}
+use Rattle.std.proofs.Common.{◌≡◌, ℕ, ◌+◌, ◌<◌, false, List, [], ◌∷◌, ◌++◌, inl, inr, refl, sym, subst, arith}
 use Rattle.std.proofs.lemmas.Bool.Decides.{eqb_tells}
 use Rattle.stamp_base.specs.declared.stage.Stage.{Stage}
 use Rattle.stamp_base.specs.declared.stage.Stage.TheVariants.{Request, Persist, Reply}

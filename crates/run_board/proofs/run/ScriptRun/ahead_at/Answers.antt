@@ -1,4 +1,4 @@
-use Rattle.std.proofs.Common.{◌≡◌, ℕ, List, Bool, Option, Some, ◌∙◌, sym, ap}
+use Rattle.std.proofs.Common.{ℕ, List, Bool, Option, Some, ◌∙◌, sym, ap}
 use Rattle.script_data.specs.declared.line.Line.{Line}
 use Rattle.command_semantics.specs.Clocks.{clocks}
 use Rattle.command_semantics.specs.Views.{view_of}

@@ -1,4 +1,4 @@
-use Rattle.std.proofs.Common.{◌≡◌, ◌∙◌, ap}
+use Rattle.std.proofs.Common.{◌∙◌, ap}
 use Rattle.cluster_core.specs.ClusterModel.{ClusterModel}
 use Rattle.turn_rules.specs.Carried.{carried_items}
 use Rattle.run_board.specs.Run.{Ran, reached_by}

@@ -1,4 +1,4 @@
-use Rattle.std.proofs.Common.{◌≡◌, List, ◌∙◌, ap}
+use Rattle.std.proofs.Common.{List, ◌∙◌, ap}
 use Rattle.turn_rules.specs.declared.seat.Holds.{Holds}
 use Rattle.turn_rules.specs.Carried.{is_held, holds_at}
 use Rattle.run_board.specs.Run.{Ran}

@@ -1,4 +1,4 @@
-use Rattle.std.proofs.Common.{◌≡◌, List, Result, length, drop, ◌∙◌, ap, subst, arith}
+use Rattle.std.proofs.Common.{List, Result, length, drop, ◌∙◌, ap, subst, arith}
 use Rattle.event_parts.specs.declared.stopped.Stopped.{Stopped}
 use Rattle.history_book.specs.declared.item.Item.{Item}
 use Rattle.run_board.specs.Making.{Makes}
