@@ -17,7 +17,7 @@ use Rattle.outer_reads.specs.Sources.{AreKnown, trace_of}
 use Rattle.outer_reads.proofs.ListLemmas.{get_push_cases}
 use Rattle.trace_edges.specs.Edges.{starts_of, pick, point_of, AreLaid, IsSure, OfRead, OfMissed, OfApart, IsWitnessed, MayLay, LeftOut, LaidOn}
 
-done_within : (trace : Trace) (t : ℕ) → Done trace t → t < length trace.transactions
+pub done_within : (trace : Trace) (t : ℕ) → Done trace t → t < length trace.transactions
 done_within trace t done = by (slice_get trace.transactions t) refl
   where
     by : (o : Option Transaction) → slice_get trace.transactions t ≡ o → t < length trace.transactions
@@ -25,30 +25,30 @@ done_within trace t done = by (slice_get trace.transactions t) refl
     by (Some x) is = slice_get_within trace.transactions t x is
 
 -- ---- which point a node is
-lower : (a b : ℕ) → a < b → nat_lt a b ≡ true
+pub lower : (a b : ℕ) → a < b → nat_lt a b ≡ true
 lower a b less = by (nat_lt a b) refl
   where
     by : (c : Bool) → nat_lt a b ≡ c → nat_lt a b ≡ true
     by true is = is
     by false is = grind (arith, is, less)
 
-not_lower : (a b : ℕ) → b ≤ a → nat_lt a b ≡ false
+pub not_lower : (a b : ℕ) → b ≤ a → nat_lt a b ≡ false
 not_lower a b most = by (nat_lt a b) refl
   where
     by : (c : Bool) → nat_lt a b ≡ c → nat_lt a b ≡ false
     by false is = is
     by true is = grind (arith, is, most)
 
-commit_point : (starts t : ℕ) → point_of starts (starts + t) ≡ Commit t
+pub commit_point : (starts t : ℕ) → point_of starts (starts + t) ≡ Commit t
 commit_point starts t = ap (λ (b : Bool). pick b starts (starts + t)) (not_lower (starts + t) starts (omega arith)) ∙ ap Commit (back starts t)
   where
     back : (s t : ℕ) → s + t - s ≡ t
     back s t = omega arith
 
-start_point : (starts t : ℕ) → t < starts → point_of starts t ≡ Start t
+pub start_point : (starts t : ℕ) → t < starts → point_of starts t ≡ Start t
 start_point starts t low = ap (λ (b : Bool). pick b starts t) (lower t starts low)
 
-sole_point : (t : ℕ) → point_of 0 t ≡ Commit t
+pub sole_point : (t : ℕ) → point_of 0 t ≡ Commit t
 sole_point t = ap (λ (b : Bool). pick b 0 t) (not_lower t 0 (omega arith)) ∙ ap Commit (whole t)
   where
     whole : (t : ℕ) → t - 0 ≡ t
@@ -61,10 +61,10 @@ module _ (asked : Asked) (trace : Trace) (t : ℕ) (done : Done trace t) where
   to_start Serializable x below = subst (λ (y : Point). Below Serializable asked trace x y) (sym (sole_point t)) (Then below (Own done))
 
 module _ (level : Level) (asked : Asked) (trace : Trace) (starts : ℕ) (is : starts ≡ starts_of level (length trace.transactions)) where
-  at_start : (t : ℕ) (x : Point) → Done trace t → Below level asked trace x (Start t) → Below level asked trace x (point_of starts t)
+  pub at_start : (t : ℕ) (x : Point) → Done trace t → Below level asked trace x (Start t) → Below level asked trace x (point_of starts t)
   at_start t x done below = subst (λ (s : ℕ). Below level asked trace x (point_of s t)) (sym is) (to_start asked trace t done level x below)
 
-  from_commit : (t y : ℕ) → Below level asked trace (Commit t) (point_of starts y) → Below level asked trace (point_of starts (starts + t)) (point_of starts y)
+  pub from_commit : (t y : ℕ) → Below level asked trace (Commit t) (point_of starts y) → Below level asked trace (point_of starts (starts + t)) (point_of starts y)
   from_commit t y below = subst (λ (x : Point). Below level asked trace x (point_of starts y)) (sym (commit_point starts t)) below
 
   pub read_forced : (t k : ℕ) (found : Version) → OuterRead trace t k (Some found) → Below level asked trace (point_of starts (starts + found.from)) (point_of starts t)
