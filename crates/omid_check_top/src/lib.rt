@@ -7,9 +7,11 @@ mod limit;
 mod made;
 mod status;
 mod steps;
+#[cfg(test)]
+mod tests;
 mod words;
 
 pub use check::{last_status, omid_check};
 pub use limit::TRACE_LIMIT;
 pub use status::NO_MEMORY;
-pub use words::{Command, command_of, words_behind};
+pub use words::{Command, Question, command_of, words_behind};
