@@ -1,24 +1,27 @@
 //! The judge of traces without stamps.
 #![tactic(auto)]
 
-ghost use Rattle.std.specs.Prelude.{◌≡◌, true, List, IfOk, IfSome, length};
+ghost use Rattle.std.specs.Prelude.{◌≡◌, ◌≤◌, true, List, IfOk, IfSome, length};
 ghost use Rattle.std.specs.List.Sorted.{IsPermutation};
 ghost use Rattle.trace_rules.specs.declared.trace.Operation.{Operation};
 ghost use Rattle.trace_rules.specs.Stamping.{Stampable};
-ghost use Rattle.trace_rules.specs.Wants.{no_wants};
+ghost use Rattle.trace_rules.specs.Wants.{asked_of, no_wants};
+ghost use Rattle.rising_numbers.specs.Rises.{AreWithin};
 ghost use Rattle.outer_reads.specs.Sources.{AreKnown, trace_of};
 ghost use Rattle.trace_edges.specs.Edges as edges_of;
+ghost use Rattle.asked_orders.specs.Joins.{AreJoined, moments_for};
 ghost use Rattle.trace_judge.specs.Verdicts.{IsForced, IsVerdict, NoStamps};
 
 mod hints;
 
+use asked_orders::{Nodes, Plan, keep_asked, lay_asked, plan_of};
 use hints::{Hints, hints_of, number_at};
 use outer_reads::{Reading, Sources, Writing, sources_of};
 use rising_numbers::{Edge, Order, numbered};
 use stamp_check::{are_serial, are_stamps};
 use std::alloc::{AllocError, Global};
-use trace_edges::{forced_edges, lay_tried};
-use trace_rules::{Level, Operation, Transaction};
+use trace_edges::{Hint, forced_edges, lay_tried};
+use trace_rules::{Level, Operation, Times, Transaction, Wanted};
 
 /// What is found of a trace.
 #[derive(Drop)]
@@ -52,13 +55,36 @@ pub fn judge(
     transactions: &[Transaction],
     operations: &[Operation],
 ) -> Result<Verdict, AllocError>
-    ensures { IfOk result (λ verdict. IsVerdict level (trace_of transactions.now operations.now) verdict) }
+    ensures { IfOk result (λ verdict. IsVerdict level no_wants (trace_of transactions.now operations.now) verdict) }
+{
+    judge_wanted(alloc, level, Wanted::Nothing, transactions, &[], operations)
+}
+
+/// Judges a trace as `judge` does, where the stamps are to keep an order besides: the moments that are known of each
+/// transaction are given by its place.
+pub fn judge_wanted(
+    alloc: Global,
+    level: Level,
+    wanted: Wanted,
+    transactions: &[Transaction],
+    times: &[Times],
+    operations: &[Operation],
+) -> Result<Verdict, AllocError>
+    ensures { IfOk result (λ verdict. IsVerdict level (asked_of wanted level times.now (trace_of transactions.now operations.now)) (trace_of transactions.now operations.now) verdict) }
 {
     match sources_of(alloc, transactions, operations)? {
         Sources::WrongRead(place) => Ok(Verdict::WrongRead(place)),
         Sources::Known(readings, writings) => {
             let mut order = writings;
-            judge_known(alloc, level, transactions, &readings, &mut order)
+            judge_known(
+                alloc,
+                level,
+                wanted,
+                transactions,
+                times,
+                &readings,
+                &mut order,
+            )
         }
     }
 }
@@ -67,35 +93,68 @@ pub fn judge(
 fn judge_known(
     alloc: Global,
     level: Level,
+    wanted: Wanted,
     transactions: &[Transaction],
+    times: &[Times],
     readings: &[Reading],
     order: &mut Vec<Writing>,
 ) -> Result<Verdict, AllocError>
     ensures { IfOk result (λ verdict. (operations : List Operation) → AreKnown (trace_of transactions.now operations) readings.now order.old.items →
-        IsVerdict level (trace_of transactions.now operations) verdict) }
+        IsVerdict level (asked_of wanted level times.now (trace_of transactions.now operations)) (trace_of transactions.now operations) verdict) }
 {
+    let plan = plan_of(alloc, wanted, level, transactions, times)?;
     sort_by(order, &[]);
     for round in 0..ROUNDS {
-        if let Some(cycle) = sort_round(alloc, level, transactions, readings, order)? {
+        if let Some(cycle) = sort_round(
+            alloc,
+            level,
+            wanted,
+            transactions,
+            times,
+            &plan,
+            readings,
+            order,
+        )? {
             return Ok(Verdict::Refused(cycle));
         }
     }
-    try_order(alloc, level, transactions, readings, order)
+    try_order(
+        alloc,
+        level,
+        wanted,
+        transactions,
+        times,
+        &plan,
+        readings,
+        order,
+    )
 }
 
 /// Sorts the versions by what is known of their writers, or finds a cycle of edges that hold in all stamps.
 fn sort_round(
     alloc: Global,
     level: Level,
+    wanted: Wanted,
     transactions: &[Transaction],
+    times: &[Times],
+    plan: &Plan,
     readings: &[Reading],
     order: &mut Vec<Writing>,
 ) -> Result<Option<Vec<Edge>>, AllocError>
     ensures permutation { IfOk result (λ cycle. IsPermutation order.old.items order.new.items) }
     ensures refused { IfOk result (λ cycle. IfSome cycle (λ edges. (operations : List Operation) → AreKnown (trace_of transactions.now operations) readings.now order.old.items →
-        NoStamps level (trace_of transactions.now operations))) }
+        NoStamps level (asked_of wanted level times.now (trace_of transactions.now operations)) (trace_of transactions.now operations))) }
 {
-    match forced_order(alloc, level, transactions, readings, order)? {
+    match forced_order(
+        alloc,
+        level,
+        wanted,
+        transactions,
+        times,
+        plan,
+        readings,
+        order,
+    )? {
         Forced::Cycle(cycle) => Ok(Some(cycle)),
         Forced::Rising(numbers) => {
             sort_by(order, &numbers);
@@ -108,26 +167,31 @@ fn sort_round(
 fn forced_order(
     alloc: Global,
     level: Level,
+    wanted: Wanted,
     transactions: &[Transaction],
+    times: &[Times],
+    plan: &Plan,
     readings: &[Reading],
     order: &[Writing],
 ) -> Result<Forced, AllocError>
     ensures { IfOk result (λ found. (operations : List Operation) → AreKnown (trace_of transactions.now operations) readings.now order.now →
-        IsForced level (trace_of transactions.now operations) found) }
+        IsForced level (asked_of wanted level times.now (trace_of transactions.now operations)) (trace_of transactions.now operations) found) }
 {
-    let starts = starts_of(level, transactions.len());
-    let nodes = starts.saturating_add(transactions.len());
+    let nodes = nodes_of(level, transactions.len(), plan.moments.len());
     let hints = hints_of(alloc, readings, order)?;
-    let edges = forced_edges(
+    let edges = sure_edges(
         alloc,
+        level,
+        wanted,
         transactions,
+        times,
+        plan,
         readings,
         order,
         &hints.heirs,
-        starts,
         nodes,
     )?;
-    match numbered(alloc, nodes, &edges)? {
+    match numbered(alloc, nodes.all, &edges)? {
         Order::Rising(numbers) => Ok(Forced::Rising(numbers)),
         Order::Cycle(places) => Ok(Forced::Cycle(edges_at(alloc, &edges, &places)?)),
     }
@@ -137,35 +201,51 @@ fn forced_order(
 fn try_order(
     alloc: Global,
     level: Level,
+    wanted: Wanted,
     transactions: &[Transaction],
+    times: &[Times],
+    plan: &Plan,
     readings: &[Reading],
     order: &[Writing],
 ) -> Result<Verdict, AllocError>
     ensures { IfOk result (λ verdict. (operations : List Operation) → AreKnown (trace_of transactions.now operations) readings.now order.now →
-        IsVerdict level (trace_of transactions.now operations) verdict) }
+        IsVerdict level (asked_of wanted level times.now (trace_of transactions.now operations)) (trace_of transactions.now operations) verdict) }
 {
-    let starts = starts_of(level, transactions.len());
-    let nodes = starts.saturating_add(transactions.len());
+    let nodes = nodes_of(level, transactions.len(), plan.moments.len());
     let hints = hints_of(alloc, readings, order)?;
-    let mut edges = forced_edges(
+    let mut edges = sure_edges(
         alloc,
+        level,
+        wanted,
         transactions,
+        times,
+        plan,
         readings,
         order,
         &hints.heirs,
-        starts,
         nodes,
     )?;
-    lay_tried(&mut edges, readings, order, &hints.next, starts, nodes)?;
-    match numbered(alloc, nodes, &edges)? {
+    lay_tried(
+        &mut edges,
+        readings,
+        order,
+        &hints.next,
+        nodes.starts,
+        nodes.all,
+    )?;
+    match numbered(alloc, nodes.all, &edges)? {
         Order::Cycle(_) => Ok(Verdict::Undecided),
         Order::Rising(numbers) => {
             if are_right(
                 level,
+                wanted,
                 transactions,
+                times,
+                plan,
                 readings,
                 &hints.places,
                 order,
+                nodes,
                 &numbers,
             ) {
                 Ok(Verdict::Holds(numbers))
@@ -176,21 +256,82 @@ fn try_order(
     }
 }
 
-/// Whether the numbers make stamps at the level.
+/// The edges that hold in all stamps that keep what is asked for.
+fn sure_edges(
+    alloc: Global,
+    level: Level,
+    wanted: Wanted,
+    transactions: &[Transaction],
+    times: &[Times],
+    plan: &Plan,
+    readings: &[Reading],
+    order: &[Writing],
+    heirs: &[Hint],
+    nodes: Nodes,
+) -> Result<Vec<Edge>, AllocError>
+    requires { nodes.points ≤ nodes.all }
+    ensures within { IfOk result (λ edges. AreWithin nodes.all edges.items) }
+    ensures joined { IfOk result (λ edges. (operations : List Operation) → nodes.starts ≡ edges_of.starts_of level (length transactions.now) → AreKnown (trace_of transactions.now operations) readings.now order.now →
+        AreJoined level (asked_of wanted level times.now (trace_of transactions.now operations)) (moments_for wanted level times.now) (trace_of transactions.now operations) nodes.starts nodes.points plan.now.moments.items edges.items) }
+{
+    let mut edges = forced_edges(
+        alloc,
+        transactions,
+        readings,
+        order,
+        heirs,
+        nodes.starts,
+        nodes.points,
+    )?;
+    lay_asked(
+        &mut edges,
+        wanted,
+        level,
+        transactions,
+        times,
+        plan,
+        nodes,
+    )?;
+    Ok(edges)
+}
+
+/// Whether the numbers make stamps at the level that keep what is asked for.
 fn are_right(
     level: Level,
+    wanted: Wanted,
     transactions: &[Transaction],
+    times: &[Times],
+    plan: &Plan,
     readings: &[Reading],
     places: &[usize],
     order: &[Writing],
+    nodes: Nodes,
     numbers: &[usize],
 ) -> bool
+    requires { nodes.starts ≡ edges_of.starts_of level (length transactions.now) }
     ensures { result ≡ true → (operations : List Operation) → AreKnown (trace_of transactions.now operations) readings.now order.now →
-        Stampable level no_wants (trace_of transactions.now operations) }
+        Stampable level (asked_of wanted level times.now (trace_of transactions.now operations)) (trace_of transactions.now operations) }
 {
+    if !keep_asked(wanted, level, transactions, times, plan, nodes, numbers) {
+        return false;
+    }
     match level {
         Level::Snapshot => are_stamps(transactions, readings, places, order, numbers),
         Level::Serializable => are_serial(readings, places, order, numbers),
+    }
+}
+
+/// The numbers of nodes, for so many transactions and moments.
+fn nodes_of(level: Level, transactions: usize, moments: usize) -> Nodes
+    ensures starts { result.starts ≡ edges_of.starts_of level transactions }
+    ensures all { result.points ≤ result.all }
+{
+    let starts = starts_of(level, transactions);
+    let points = starts.saturating_add(transactions);
+    Nodes {
+        starts,
+        points,
+        all: points.saturating_add(moments),
     }
 }
 
