@@ -18,7 +18,7 @@ use Rattle.outer_reads.specs.Sources.{AreKnown, trace_of}
 use Rattle.outer_reads.proofs.ListLemmas.{get_push_cases}
 use Rattle.trace_edges.specs.Edges.{starts_of, pick, point_of, AreLaid, IsSure, OfRead, OfMissed, OfApart, IsWitnessed, MayLay, LeftOut, LaidOn}
 
-done_within : (trace : Trace) (t : ℕ) → Done trace t → t < length trace.transactions
+pub done_within : (trace : Trace) (t : ℕ) → Done trace t → t < length trace.transactions
 done_within trace t done = by (slice_get trace.transactions t) refl
   where
     by : (o : Option Transaction) → slice_get trace.transactions t ≡ o → t < length trace.transactions
@@ -40,16 +40,16 @@ not_lower a b most = by (nat_lt a b) refl
     by false is = is
     by true is = grind (arith, is, most)
 
-commit_point : (starts t : ℕ) → point_of starts (starts + t) ≡ Commit t
+pub commit_point : (starts t : ℕ) → point_of starts (starts + t) ≡ Commit t
 commit_point starts t = ap (λ (b : Bool). pick b starts (starts + t)) (not_lower (starts + t) starts (omega arith)) ∙ ap Commit (back starts t)
   where
     back : (s t : ℕ) → s + t - s ≡ t
     back s t = omega arith
 
-start_point : (starts t : ℕ) → t < starts → point_of starts t ≡ Start t
+pub start_point : (starts t : ℕ) → t < starts → point_of starts t ≡ Start t
 start_point starts t low = ap (λ (b : Bool). pick b starts t) (lower t starts low)
 
-sole_point : (t : ℕ) → point_of 0 t ≡ Commit t
+pub sole_point : (t : ℕ) → point_of 0 t ≡ Commit t
 sole_point t = ap (λ (b : Bool). pick b 0 t) (not_lower t 0 (omega arith)) ∙ ap Commit (whole t)
   where
     whole : (t : ℕ) → t - 0 ≡ t
