@@ -1,13 +1,13 @@
 -- What is right to say of a trace, from what was found.
 use Rattle.std.proofs.Common.{◌≡◌, ℕ, List, ◌++◌, inl, inr, length}
-use Rattle.std.specs.Prelude.{Result, Ok, Err}
+use Rattle.std.specs.Prelude.{IfSome, Option, Result, Ok, Err}
 use Rattle.trace_rules.specs.declared.wanted.Level.{Level}
 use Rattle.trace_rules.specs.declared.wanted.Times.{Times}
 use Rattle.trace_rules.specs.declared.wanted.Wanted.TheVariants.{Nothing}
 use Rattle.trace_rules.specs.Stamping.{Stampable}
 use Rattle.trace_rules.specs.Trace.{Trace}
 use Rattle.trace_rules.specs.Wants.{no_wants}
-use Rattle.trace_judge.specs.Verdicts.{NoStamps}
+use Rattle.trace_judge.specs.Verdicts.{IsTried, NoStamps}
 use Rattle.trace_report.specs.declared.step.Step.{Step}
 use Rattle.trace_report.specs.Names.{anomaly_name, name_of}
 use Rattle.trace_report.specs.Cycle.{cycle_text}
@@ -35,8 +35,8 @@ is_shown level s code text none seven told = inr (inl (record { refused = none; 
 pub is_wrong : (level : Level) (s : Subject) (place code : ℕ) (text : List ℕ) → NoStamps level s.trace → code ≡ 7 → text ≡ wrong_text level s place → IsFound level s code text
 is_wrong level s place code text none seven told = inr (inr (inl (record { place = place; refused = none; status = seven; told = told })))
 
-pub is_open : (level : Level) (s : Subject) (code : ℕ) (text : List ℕ) → code ≡ 8 → text ≡ open_text → IsFound level s code text
-is_open level s code text eight told = inr (inr (inr (record { status = eight; told = told })))
+pub is_open : (level : Level) (s : Subject) (key : Option ℕ) (code : ℕ) (text : List ℕ) → IfSome key (λ k. IsTried s.trace k) → code ≡ 8 → text ≡ open_text s.names key → IsFound level s code text
+is_open level s key code text tried eight told = inr (inr (inr (record { key = key; tried = tried; status = eight; told = told })))
 
 -- ---- of what was recorded
 pub of_index : (level : Level) (recorded : Recorded) (attempts : List Attempt) (trace : Trace) (times : List Times) (code : ℕ) (text : List ℕ)

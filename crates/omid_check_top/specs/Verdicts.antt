@@ -1,5 +1,5 @@
 -- What is right to say of a trace, by the bytes that it is.
-use Rattle.std.specs.Prelude.{◌≡◌, ℕ, ◌<◌, List, ◌++◌, ◌⊎◌, Option, None, Some, Ok, Err, codes, length, slice_get}
+use Rattle.std.specs.Prelude.{◌≡◌, ℕ, ◌<◌, List, ◌++◌, ◌⊎◌, Option, None, Some, IfSome, Ok, Err, codes, length, slice_get}
 use Rattle.trace_rules.specs.declared.trace.Operation.{Operation}
 use Rattle.trace_rules.specs.declared.trace.Operation.TheVariants.{Read, Write}
 use Rattle.trace_rules.specs.declared.wanted.Level.{Level}
@@ -8,6 +8,7 @@ use Rattle.trace_rules.specs.declared.wanted.Wanted.TheVariants.{Nothing}
 use Rattle.trace_rules.specs.Trace.{Trace}
 use Rattle.trace_rules.specs.Stamping.{Stampable}
 use Rattle.trace_rules.specs.Wants.{no_wants}
+use Rattle.trace_judge.specs.Verdicts.{IsTried}
 use Rattle.trace_reading.specs.declared.want.Want.{Want}
 use Rattle.trace_reading.specs.FaultText.{fault_text}
 use Rattle.trace_reading.specs.Recording.{Recorded}
@@ -20,7 +21,7 @@ use Rattle.trace_report.specs.declared.step.Step.{Step}
 use Rattle.trace_report.specs.Names.{anomaly_name, name_of}
 use Rattle.trace_report.specs.Wrongs.{wrong_at, wrong_name}
 use Rattle.trace_report.specs.Cycle.{cycle_text}
-use Rattle.trace_report.specs.Verdict.{holds_text, refused_text, unclear_text, wrong_read_text}
+use Rattle.trace_report.specs.Verdict.{holds_text, refused_text, unclear_text, undecided_text, wrong_read_text}
 use Rattle.omid_check_top.specs.declared.limit.TheConstants.{TRACE_LIMIT}
 
 -- ---- a verdict with its status and text
@@ -71,16 +72,20 @@ pub record IsWrongRead (level : Level) (s : Subject) (code : ℕ) (text : List �
   pub status : code ≡ 7
   pub told : text ≡ wrong_text level s place
 
--- the order of a key's writers is not forced, and that which was tried led nowhere: nothing is said of the trace
-abbrev pub open_text : List ℕ
-open_text = codes "not decided: nothing forces the order of some writers of a key\n"
+-- the order of some writers is not forced, and that which was tried led nowhere: of this key, where one is named
+abbrev pub open_text : List (List ℕ) → Option ℕ → List ℕ
+open_text names None = codes "not decided: nothing forces the order of some writers of a key\n"
+open_text names (Some key) = undecided_text names key
 
-pub record IsOpen (code : ℕ) (text : List ℕ) : Type 0 where
+-- nothing is said of the trace but that, where a key is named, several transactions wrote it
+pub record IsOpen (s : Subject) (code : ℕ) (text : List ℕ) : Type 0 where
+  pub key : Option ℕ
+  pub tried : IfSome key (λ k. IsTried s.trace k)
   pub status : code ≡ 8
-  pub told : text ≡ open_text
+  pub told : text ≡ open_text s.names key
 
 abbrev pub IsFound : Level → Subject → ℕ → List ℕ → Type 0
-IsFound level s code text = IsHolding level s code text ⊎ IsRefusal level s code text ⊎ IsWrongRead level s code text ⊎ IsOpen code text
+IsFound level s code text = IsHolding level s code text ⊎ IsRefusal level s code text ⊎ IsWrongRead level s code text ⊎ IsOpen s code text
 
 -- the statuses of a verdict, and those of all that is said of a trace
 abbrev pub IsEnd : ℕ → Type 0

@@ -13,7 +13,9 @@ use std::alloc::Global;
 use trace_index::Indexed;
 use trace_judge::{Verdict, judge};
 use trace_reading::{Recording, push_words};
-use trace_report::{name_of, push_cycle, push_holds, push_refused, push_wrong_read, wrong_at};
+use trace_report::{
+    name_of, push_cycle, push_holds, push_refused, push_undecided, push_wrong_read, wrong_at,
+};
 use trace_rules::{Level, Operation, Wanted};
 
 /// What is said of the trace.
@@ -36,7 +38,7 @@ pub fn judged(
         Verdict::Holds(_) => holds(alloc, level, indexed.trace.transactions.len()),
         Verdict::WrongRead(place) => wrong_read(alloc, level, recording, indexed, place),
         Verdict::Refused(cycle) => refused(alloc, level, recording, indexed, &cycle),
-        Verdict::Undecided => undecided(alloc),
+        Verdict::Undecided(key) => undecided(alloc, recording, key),
     }
 }
 
@@ -110,16 +112,19 @@ fn refused(
     })
 }
 
-/// That nothing decides.
-fn undecided(alloc: Global) -> Result<Made, NoMemory>
+/// That nothing decides, and of which key.
+fn undecided(alloc: Global, recording: &Recording, key: Option<u64>) -> Result<Made, NoMemory>
     ensures code { IfOk result (λ made. made.code ≡ 8) }
-    ensures told { IfOk result (λ made. made.text.items ≡ open_text) }
+    ensures told { IfOk result (λ made. made.text.items ≡ open_text recording.now.names key) }
 {
     let mut text = Vec::new(alloc);
-    push_words(
-        &mut text,
-        "not decided: nothing forces the order of some writers of a key\n",
-    )?;
+    match key {
+        Some(key) => push_undecided(&mut text, recording, key)?,
+        None => push_words(
+            &mut text,
+            "not decided: nothing forces the order of some writers of a key\n",
+        )?,
+    }
     Ok(Made {
         text,
         code: status::UNDECIDED,

@@ -29,8 +29,15 @@ fn step_of(level: Level, trace: &Trace, edge: Edge) -> Option<Step> {
     if from == to {
         return None;
     }
-    let may_be_read = level == Level::Serializable || count <= edge.from;
-    Some(step_between(&trace.operations, may_be_read, from, to))
+    let in_series = level == Level::Serializable;
+    let committed = count <= edge.from;
+    Some(step_between(
+        &trace.operations,
+        in_series || committed,
+        in_series || !committed,
+        from,
+        to,
+    ))
 }
 
 /// The transaction that has the point.
@@ -38,27 +45,50 @@ fn txn_of(point: usize, count: usize) -> usize {
     if point < count { point } else { point - count }
 }
 
-/// Why one transaction comes before the other: that one read what this one wrote, or this one missed what that one wrote.
-fn step_between(operations: &[Operation], may_be_read: bool, from: usize, to: usize) -> Step {
-    let read = if may_be_read {
-        key_read(operations, from, to)
-    } else {
-        None
-    };
-    match read {
-        Some(key) => Step {
+/// Why one transaction comes before the other: that one read what this one wrote, or this one missed what that one wrote, where the
+/// edge may be of a read, or of a miss; or that both wrote a key, and the versions of this key are so ordered.
+fn step_between(
+    operations: &[Operation],
+    may_read: bool,
+    may_miss: bool,
+    from: usize,
+    to: usize,
+) -> Step {
+    if may_read && let Some(key) = key_read(operations, from, to) {
+        return Step {
             from,
             to,
             way: Way::Read,
             key,
-        },
-        None => Step {
+        };
+    }
+    if may_miss && let Some(key) = key_missed(operations, from, to) {
+        return Step {
             from,
             to,
             way: Way::Missed,
-            key: key_missed(operations, from, to),
-        },
+            key,
+        };
     }
+    Step {
+        from,
+        to,
+        way: Way::Next,
+        key: key_written(operations, from, to),
+    }
+}
+
+/// A key that both wrote.
+fn key_written(operations: &[Operation], first: usize, second: usize) -> u64 {
+    for operation in operations {
+        if let Operation::Write { txn, key, .. } = operation
+            && *txn == first
+            && writes(operations, second, *key)
+        {
+            return *key;
+        }
+    }
+    0
 }
 
 /// The key at which the reader found what the writer wrote.
@@ -83,13 +113,13 @@ fn read_from(operation: Operation, writer: usize, reader: usize) -> Option<u64> 
 }
 
 /// A key that the reader read of others than the writer, and the writer wrote.
-fn key_missed(operations: &[Operation], reader: usize, writer: usize) -> u64 {
+fn key_missed(operations: &[Operation], reader: usize, writer: usize) -> Option<u64> {
     for operation in operations {
         if let Some(key) = missed_at(operations, *operation, reader, writer) {
-            return key;
+            return Some(key);
         }
     }
-    0
+    None
 }
 
 fn missed_at(

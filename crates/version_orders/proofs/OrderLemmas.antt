@@ -6,7 +6,7 @@ use Rattle.trace_rules.specs.declared.trace.Version.{Version}
 use Rattle.trace_rules.specs.declared.wanted.Level.{Level}
 use Rattle.trace_rules.specs.declared.wanted.Level.TheVariants.{Snapshot, Serializable}
 use Rattle.trace_rules.specs.Trace.{Trace, Done, Writer, OuterRead}
-use Rattle.trace_rules.specs.Stamping.{Stamping, Conflict, Newest, IsolatedBy, Point, Start, Commit, stamp_of}
+use Rattle.trace_rules.specs.Stamping.{Stamping, Conflict, Newest, IsolatedBy, Point, stamp_of}
 use Rattle.trace_rules.specs.Wants.{no_wants}
 use Rattle.trace_rules.proofs.Forced.{edges}
 use Rattle.rising_numbers.specs.declared.Edge.{Edge}
@@ -14,9 +14,10 @@ use Rattle.outer_reads.specs.declared.writings.Writing.{Writing}
 use Rattle.outer_reads.specs.declared.readings.Reading.{Reading}
 use Rattle.outer_reads.specs.Sources.{AreKnown, trace_of}
 use Rattle.outer_reads.proofs.ListLemmas.{get_push_cases}
-use Rattle.trace_edges.specs.Edges.{AreLaid, point_of, starts_of}
+use Rattle.trace_edges.specs.Edges.{AreLaid, point_of, starts_of, MayLay, LeftOut, LaidOn}
 use Rattle.trace_edges.proofs.EdgeLemmas.{done_within, commit_point, start_point, sole_point}
-use Rattle.version_orders.specs.Orders.{stamp_at, RiseAlong, AlwaysRise, AreSure, Follows, OfPath, OfMissed, OfSeen, OfNone}
+use Rattle.version_orders.specs.declared.candidates.Nodes.{Nodes}
+use Rattle.version_orders.specs.Orders.{stamp_at, RiseAlong, AreSure, AreWriters, IsOther, IsUnread, Follows, OfPath, OfMissed, OfSeen, OfNone}
 
 compare : (a b : ℕ) → (a < b) ⊎ ((a ≡ b) ⊎ (b < a))
 compare a b = grind arith
@@ -160,18 +161,42 @@ module _ (transactions : List Transaction) (readings : List Reading) (order : Li
   writer_of : (operations : List Operation) (j : ℕ) (b : Writing) (k : ℕ) → AreKnown (trace_of transactions operations) readings order → slice_get order j ≡ Some b → b.key ≡ k → Writer (trace_of transactions operations) b.txn k b.value
   writer_of operations j b k known at key = subst (λ (n : ℕ). Writer (trace_of transactions operations) b.txn n b.value) key (known.wrote.wrote j b at)
 
-  follows_rises : (edges : List Edge) (edge : Edge) (level : Level) (operations : List Operation) (st : Stamping) → starts ≡ starts_of level (length transactions) → AreKnown (trace_of transactions operations) readings order → IsolatedBy level st (trace_of transactions operations) →
-      RiseAlong (stamp_at st starts) edges → Follows readings order starts edges edge → stamp_at st starts edge.from < stamp_at st starts edge.to
-  follows_rises es edge level operations st count known is rise (OfPath i j a b at_a at_b key other lead from to) =
-      rw (from, to) (path_rises level (trace_of transactions operations) st is starts count a.txn b.txn b.key a.value b.value other (writer_of operations i a b.key known at_a key) (writer_of operations j b b.key known at_b refl) (lead (stamp_at st starts) rise))
-  follows_rises es edge level operations st count known is rise (OfMissed i j r b found at_r at_b answer key other apart lead from to) =
-      rw (from, to) (missed_rises level (trace_of transactions operations) st is starts count r.txn b.txn r.key b.value found other apart (outer_of operations i r (Some found) known at_r answer) (writer_of operations j b r.key known at_b key) (lead (stamp_at st starts) rise))
-  follows_rises es edge level operations st count known is rise (OfSeen i j r b found at_r at_b answer key other apart lead from to) =
-      rw (from, to) (seen_rises level (trace_of transactions operations) st is starts count r.txn b.txn r.key b.value found other apart (outer_of operations i r (Some found) known at_r answer) (writer_of operations j b r.key known at_b key) (lead (stamp_at st starts) rise))
-  follows_rises es edge level operations st count known is rise (OfNone i j r b at_r at_b answer key other from to) =
-      rw (from, to) (none_rises level (trace_of transactions operations) st is starts count r.txn b.txn r.key b.value other (outer_of operations i r None known at_r answer) (writer_of operations j b r.key known at_b key))
+  -- ---- the edges that follow
+  path_follows : (operations : List Operation) (level : Level) (st : Stamping) (t u : Nodes) → starts ≡ starts_of level (length transactions) → AreKnown (trace_of transactions operations) readings order → IsolatedBy level st (trace_of transactions operations) →
+      AreWriters order starts t u → stamp_at st starts t.start < stamp_at st starts u.commit → stamp_at st starts t.commit < stamp_at st starts u.start
+  path_follows operations level st t u count known is w low =
+      let path : stamp_at st starts w.a.txn < stamp_at st starts (starts + w.b.txn) = subst (λ (x : ℕ). stamp_at st starts x < stamp_at st starts (starts + w.b.txn)) w.first.start (subst (λ (y : ℕ). stamp_at st starts t.start < stamp_at st starts y) w.second.commit low) in
+      subst (λ (x : ℕ). stamp_at st starts x < stamp_at st starts u.start) (sym w.first.commit) (subst (λ (y : ℕ). stamp_at st starts (starts + w.a.txn) < stamp_at st starts y) (sym w.second.start)
+      (path_rises level (trace_of transactions operations) st is starts count w.a.txn w.b.txn w.b.key w.a.value w.b.value w.apart (writer_of operations w.i w.a w.b.key known w.at_a w.key) (writer_of operations w.j w.b w.b.key known w.at_b refl) path))
 
-  pub one_more : (old new : List Edge) (edge : Edge) → new ≡ old ++ edge ∷ [] → edge.from < nodes → edge.to < nodes → Follows readings order starts old edge →
+  missed_follows : (operations : List Operation) (level : Level) (st : Stamping) (reader : ℕ) (f u : Nodes) → starts ≡ starts_of level (length transactions) → AreKnown (trace_of transactions operations) readings order → IsolatedBy level st (trace_of transactions operations) →
+      IsOther readings order starts reader f u → stamp_at st starts f.commit < stamp_at st starts u.start → stamp_at st starts reader < stamp_at st starts u.commit
+  missed_follows operations level st reader f u count known is o low =
+      let path : stamp_at st starts (starts + o.found.from) < stamp_at st starts o.b.txn = subst (λ (x : ℕ). stamp_at st starts x < stamp_at st starts o.b.txn) o.source.commit (subst (λ (y : ℕ). stamp_at st starts f.commit < stamp_at st starts y) o.writer.start low) in
+      subst (λ (x : ℕ). stamp_at st starts x < stamp_at st starts u.commit) (sym o.reading) (subst (λ (y : ℕ). stamp_at st starts o.r.txn < stamp_at st starts y) (sym o.writer.commit)
+      (missed_rises level (trace_of transactions operations) st is starts count o.r.txn o.b.txn o.r.key o.b.value o.found o.apart o.other (outer_of operations o.i o.r (Some o.found) known o.at_r o.answer) (writer_of operations o.j o.b o.r.key known o.at_b o.key) path))
+
+  seen_follows : (operations : List Operation) (level : Level) (st : Stamping) (reader : ℕ) (f u : Nodes) → starts ≡ starts_of level (length transactions) → AreKnown (trace_of transactions operations) readings order → IsolatedBy level st (trace_of transactions operations) →
+      IsOther readings order starts reader f u → stamp_at st starts u.commit < stamp_at st starts reader → stamp_at st starts u.commit < stamp_at st starts f.start
+  seen_follows operations level st reader f u count known is o low =
+      let path : stamp_at st starts (starts + o.b.txn) < stamp_at st starts o.r.txn = subst (λ (x : ℕ). stamp_at st starts x < stamp_at st starts o.r.txn) o.writer.commit (subst (λ (y : ℕ). stamp_at st starts u.commit < stamp_at st starts y) o.reading low) in
+      subst (λ (x : ℕ). stamp_at st starts x < stamp_at st starts f.start) (sym o.writer.commit) (subst (λ (y : ℕ). stamp_at st starts (starts + o.b.txn) < stamp_at st starts y) (sym o.source.start)
+      (seen_rises level (trace_of transactions operations) st is starts count o.r.txn o.b.txn o.r.key o.b.value o.found o.apart o.other (outer_of operations o.i o.r (Some o.found) known o.at_r o.answer) (writer_of operations o.j o.b o.r.key known o.at_b o.key) path))
+
+  none_follows : (operations : List Operation) (level : Level) (st : Stamping) (reader : ℕ) (u : Nodes) → starts ≡ starts_of level (length transactions) → AreKnown (trace_of transactions operations) readings order → IsolatedBy level st (trace_of transactions operations) →
+      IsUnread readings order starts reader u → stamp_at st starts reader < stamp_at st starts u.commit
+  none_follows operations level st reader u count known is o =
+      subst (λ (x : ℕ). stamp_at st starts x < stamp_at st starts u.commit) (sym o.reading) (subst (λ (y : ℕ). stamp_at st starts o.r.txn < stamp_at st starts y) (sym o.writer.commit)
+      (none_rises level (trace_of transactions operations) st is starts count o.r.txn o.b.txn o.r.key o.b.value o.apart (outer_of operations o.i o.r None known o.at_r o.answer) (writer_of operations o.j o.b o.r.key known o.at_b o.key)))
+
+  follows_rises : (es : List Edge) (edge : Edge) (level : Level) (operations : List Operation) (st : Stamping) → starts ≡ starts_of level (length transactions) → AreKnown (trace_of transactions operations) readings order → IsolatedBy level st (trace_of transactions operations) →
+      RiseAlong (stamp_at st starts) es → Follows readings order starts es edge → stamp_at st starts edge.from < stamp_at st starts edge.to
+  follows_rises es _ level operations st count known is rise (OfPath t u are lead) = path_follows operations level st t u count known is are (lead.below (stamp_at st starts) rise)
+  follows_rises es _ level operations st count known is rise (OfMissed reader f u are lead) = missed_follows operations level st reader f u count known is are (lead.below (stamp_at st starts) rise)
+  follows_rises es _ level operations st count known is rise (OfSeen reader f u are lead) = seen_follows operations level st reader f u count known is are (lead.below (stamp_at st starts) rise)
+  follows_rises es _ level operations st count known is rise (OfNone reader u are) = none_follows operations level st reader u count known is are
+
+  one_more : (old new : List Edge) (edge : Edge) → new ≡ old ++ edge ∷ [] → edge.from < nodes → edge.to < nodes → Follows readings order starts old edge →
       AreSure transactions readings order starts nodes old → AreSure transactions readings order starts nodes new
   one_more old new edge same from to follows sure = subst (λ (es : List Edge). AreSure transactions readings order starts nodes es) (sym same) (record {
     within = record {
@@ -183,3 +208,8 @@ module _ (transactions : List Transaction) (readings : List Reading) (order : Li
       | inr last ↦ subst (λ (x : Edge). stamp_at st starts x.from < stamp_at st starts x.to) last (follows_rises old edge level operations st count known is (sure.rise level operations count known st is) follows)
     ];
   })
+
+  -- an edge that follows may be laid
+  pub may_follow : (old new : List Edge) (edge : Edge) → MayLay nodes edge old new → Follows readings order starts old edge → AreSure transactions readings order starts nodes old → AreSure transactions readings order starts nodes new
+  may_follow old new edge (LeftOut same) follows sure = subst (λ (es : List Edge). AreSure transactions readings order starts nodes es) (sym same) sure
+  may_follow old new edge (LaidOn same from to) follows sure = one_more old new edge same from to follows sure
