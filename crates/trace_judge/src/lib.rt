@@ -127,7 +127,6 @@ fn sure_edges(
 
 /// Sorts the versions by the numbers that the edges allow, and adds the edges that follow; or finds a cycle of edges, all of which
 /// hold in all stamps. Where no edge was added since the last time, nothing is done.
-#[tactic(auto, using(crate::proofs::JudgeLemmas::sure_still))]
 fn sort_round(
     alloc: Global,
     transactions: &[Transaction],
