@@ -1,6 +1,6 @@
 -- What is right to say of a trace, from what was found.
 use Rattle.std.proofs.Common.{◌≡◌, ℕ, List, ◌++◌, inl, inr, length}
-use Rattle.std.specs.Prelude.{IfSome, Option, Result, Ok, Err}
+use Rattle.std.specs.Prelude.{IfSome, Option, Ok, Err}
 use Rattle.trace_rules.specs.declared.wanted.Level.{Level}
 use Rattle.trace_rules.specs.declared.wanted.Times.{Times}
 use Rattle.trace_rules.specs.declared.wanted.Wanted.TheVariants.{Nothing}
@@ -20,7 +20,7 @@ use Rattle.trace_index.specs.declared.fault.Unclear.{Unclear}
 use Rattle.trace_index.specs.Attempts.{attempts_of}
 use Rattle.trace_index.specs.Index.{IsIndexOf, operations_in}
 use Rattle.trace_report.specs.Verdict.{holds_text, refused_text, unclear_text}
-use Rattle.omid_check_top.specs.Verdicts.{IsFound, IsIndexed, IsJudged, IsOfRecording, IsOpen, IsRight, IsShown, IsUnclear, IsWrongRead, Subject, open_text, subject_of, wrong_text}
+use Rattle.omid_check_top.specs.Verdicts.{IsFound, IsOfRecording, IsRight, IsShown, Subject, open_text, subject_of, wrong_text}
 
 -- ---- of what the judge found
 pub is_holding : (level : Level) (s : Subject) (code : ℕ) (text : List ℕ) → Stampable level no_wants s.trace → code ≡ 0 → text ≡ holds_text level Nothing (length s.trace.transactions) → IsFound level s code text

@@ -5,7 +5,6 @@ use Rattle.std.specs.List.{Contains}
 use Rattle.std.specs.List.Sorted.{IsPermutation}
 use Rattle.std.proofs.lemmas.List.Sorted.{Contains-permutation, IsPermutation-sym}
 use Rattle.std.proofs.lemmas.Option.{slice_get_within, slice_get-get_or, get_or_from_slice_get}
-use Rattle.trace_rules.specs.declared.trace.Operation.{Operation}
 use Rattle.trace_rules.specs.declared.trace.Transaction.{Transaction}
 use Rattle.trace_rules.specs.declared.wanted.Level.{Level}
 use Rattle.trace_rules.specs.Trace.{Trace, Writer}
