@@ -7,6 +7,10 @@ mod limit;
 mod made;
 mod status;
 mod steps;
+#[cfg(test)]
+mod tests;
+#[cfg(test)]
+mod traces;
 mod words;
 
 pub use check::{last_status, omid_check};

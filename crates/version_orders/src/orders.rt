@@ -17,8 +17,10 @@ use std::collections::HashMap;
 /// At how many versions of a reading's key a round looks.
 const LOOKS: usize = 6;
 
-/// How many times all edges a round may look at, in search of paths.
+/// How many times all edges a round may look at, in search of paths, and how many more.
 const SHARE: usize = 4;
+
+const SPARE: usize = 65_536;
 
 /// The edges that were added, by their ends.
 #[derive(Drop)]
@@ -71,7 +73,7 @@ pub fn add_orders(
 ) -> Result<(), AllocError>
     ensures { OnOk result ((transactions : List Transaction) → AreSure transactions readings.now order.now starts nodes edges.old.items → AreSure transactions readings.now order.now starts nodes edges.new.items) }
 {
-    let left = edges.len().saturating_mul(SHARE);
+    let left = edges.len().saturating_mul(SHARE).saturating_add(SPARE);
     let mut paths = Paths::new(alloc, nodes, edges, left)?;
     for place in 1..order.len() {
         order_versions(
