@@ -3,6 +3,7 @@ ghost use Rattle.std.specs.Prelude.{◌≡◌, IfOk, length, option_map};
 ghost use Rattle.trace_report.specs.Verdict.{holds_text};
 ghost use Rattle.omid_check_top.specs.Verdicts.{IsFound, IsIsolated, IsShown, IsVerdict, open_text, reader_of, subject_of, wrong_text};
 
+use crate::committed::committed;
 use crate::made::Made;
 use crate::status;
 use crate::steps::steps_of;
@@ -13,7 +14,9 @@ use std::alloc::Global;
 use trace_index::Indexed;
 use trace_judge::{Verdict, judge_wanted};
 use trace_reading::{Recording, push_words};
-use trace_report::{name_of, push_cycle, push_holds, push_refused, push_wrong_read, wrong_at};
+use trace_report::{
+    name_of, push_cycle, push_holds, push_refused, push_undecided, push_wrong_read, wrong_at,
+};
 use trace_rules::{Level, Operation, Wanted};
 
 /// What is said of the trace.
@@ -28,6 +31,7 @@ pub fn judged(
 {
     match question {
         Question::Isolated { level, wanted } => isolated(alloc, level, wanted, recording, indexed),
+        Question::Committed => committed(alloc, recording, indexed),
     }
 }
 
@@ -54,7 +58,7 @@ fn isolated(
         Verdict::Holds(_) => holds(alloc, level, wanted, indexed.trace.transactions.len()),
         Verdict::WrongRead(place) => wrong_read(alloc, level, wanted, recording, indexed, place),
         Verdict::Refused(cycle) => refused(alloc, level, wanted, recording, indexed, &cycle),
-        Verdict::Undecided => undecided(alloc),
+        Verdict::Undecided(key) => undecided(alloc, recording, key),
     }
 }
 
@@ -103,7 +107,7 @@ fn wrong_read(
     })
 }
 
-fn reader_of(operation: Option<&Operation>) -> (usize, u64)
+pub fn reader_of(operation: Option<&Operation>) -> (usize, u64)
     ensures { (result.0, result.1) ≡ reader_of (option_map (λ o. o.now) operation.entry) }
 {
     match operation {
@@ -135,16 +139,19 @@ fn refused(
     })
 }
 
-/// That nothing decides.
-fn undecided(alloc: Global) -> Result<Made, NoMemory>
+/// That nothing decides, and of which key.
+fn undecided(alloc: Global, recording: &Recording, key: Option<u64>) -> Result<Made, NoMemory>
     ensures code { IfOk result (λ made. made.code ≡ 8) }
-    ensures told { IfOk result (λ made. made.text.items ≡ open_text) }
+    ensures told { IfOk result (λ made. made.text.items ≡ open_text recording.now.names key) }
 {
     let mut text = Vec::new(alloc);
-    push_words(
-        &mut text,
-        "not decided: nothing forces the order of some writers of a key\n",
-    )?;
+    match key {
+        Some(key) => push_undecided(&mut text, recording, key)?,
+        None => push_words(
+            &mut text,
+            "not decided: nothing forces the order of some writers of a key\n",
+        )?,
+    }
     Ok(Made {
         text,
         code: status::UNDECIDED,

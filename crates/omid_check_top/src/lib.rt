@@ -2,6 +2,7 @@
 #![tactic(auto)]
 
 mod check;
+mod committed;
 mod judged;
 mod limit;
 mod made;
@@ -9,6 +10,10 @@ mod status;
 mod steps;
 #[cfg(test)]
 mod tests;
+#[cfg(test)]
+mod traces;
+#[cfg(test)]
+mod word_tests;
 mod words;
 
 pub use check::{last_status, omid_check};

@@ -86,11 +86,13 @@ fn step_of(
             key: 0,
         });
     }
-    let may_be_read = level == Level::Serializable || count <= left;
+    let in_series = level == Level::Serializable;
+    let committed = count <= left;
     Some(step_between(
         &trace.operations,
         wanted,
-        may_be_read,
+        in_series || committed,
+        in_series || !committed,
         from,
         to,
     ))
@@ -101,50 +103,60 @@ fn txn_of(point: usize, count: usize) -> usize {
     if point < count { point } else { point - count }
 }
 
-/// Why one transaction comes before the other: that one read what this one wrote, or this one missed what that one wrote; or
+/// Why one transaction comes before the other: that one read what this one wrote, or this one missed what that one wrote, where the
+/// edge may be of a read, or of a miss; or that both wrote a key, and the versions of this key are so ordered; or that
 /// they are of one session.
 fn step_between(
     operations: &[Operation],
     wanted: Wanted,
-    may_be_read: bool,
+    may_read: bool,
+    may_miss: bool,
     from: usize,
     to: usize,
 ) -> Step {
-    let read = if may_be_read {
-        key_read(operations, from, to)
-    } else {
-        None
-    };
-    match read {
-        Some(key) => Step {
+    if may_read && let Some(key) = key_read(operations, from, to) {
+        return Step {
             from,
             to,
             way: Way::Read,
             key,
-        },
-        None => missed_step(wanted, from, to, key_missed(operations, from, to)),
+        };
     }
-}
-
-fn missed_step(wanted: Wanted, from: usize, to: usize, missed: Option<u64>) -> Step {
-    match missed {
-        Some(key) => Step {
+    if may_miss && let Some(key) = key_missed(operations, from, to) {
+        return Step {
             from,
             to,
             way: Way::Missed,
             key,
-        },
-        None => Step {
+        };
+    }
+    match key_written(operations, from, to) {
+        None if wanted == Wanted::Sessions => Step {
             from,
             to,
-            way: if wanted == Wanted::Sessions {
-                Way::Session
-            } else {
-                Way::Missed
-            },
+            way: Way::Session,
             key: 0,
         },
+        key => Step {
+            from,
+            to,
+            way: Way::Next,
+            key: key.unwrap_or(0),
+        },
     }
+}
+
+/// A key that both wrote.
+fn key_written(operations: &[Operation], first: usize, second: usize) -> Option<u64> {
+    for operation in operations {
+        if let Operation::Write { txn, key, .. } = operation
+            && *txn == first
+            && writes(operations, second, *key)
+        {
+            return Some(*key);
+        }
+    }
+    None
 }
 
 /// The key at which the reader found what the writer wrote.
