@@ -8,6 +8,7 @@ use Rattle.trace_rules.specs.Stamping.{Stampable}
 use Rattle.trace_rules.specs.Trace.{Trace}
 use Rattle.trace_rules.specs.Wants.{asked_of}
 use Rattle.trace_judge.specs.Verdicts.{NoStamps}
+use Rattle.committed_reads.specs.Committed.{CommittedReads}
 use Rattle.trace_report.specs.declared.step.Step.{Step}
 use Rattle.trace_report.specs.Names.{anomaly_name, name_of}
 use Rattle.trace_report.specs.Cycle.{cycle_text}
@@ -21,7 +22,7 @@ use Rattle.trace_index.specs.Attempts.{attempts_of}
 use Rattle.trace_index.specs.Index.{IsIndexOf, operations_in}
 use Rattle.trace_report.specs.Verdict.{holds_text, refused_text, unclear_text}
 use Rattle.omid_check_top.specs.declared.words.Question.{Question}
-use Rattle.omid_check_top.specs.Verdicts.{IsFound, IsIndexed, IsIsolated, IsJudged, IsOfRecording, IsOpen, IsRight, IsShown, IsUnclear, IsWrongRead, Subject, open_text, subject_of, wrong_text}
+use Rattle.omid_check_top.specs.Verdicts.{IsCommitted, IsCommittedShown, IsFound, IsIndexed, IsIsolated, IsJudged, IsOfRecording, IsOpen, IsRight, IsShown, IsUnclear, IsWrongRead, Subject, committed_text, not_committed_text, open_text, subject_of, wrong_committed_text, wrong_text}
 
 -- ---- of what the judge found
 pub is_holding : (level : Level) (wanted : Wanted) (s : Subject) (code : ℕ) (text : List ℕ) → Stampable level (asked_of wanted level s.times s.trace) s.trace → code ≡ 0 → text ≡ holds_text level wanted (length s.trace.transactions) → IsIsolated level wanted s code text
@@ -38,6 +39,19 @@ is_wrong level wanted s place code text none seven told = inr (inr (inl (record 
 
 pub is_open : (level : Level) (wanted : Wanted) (s : Subject) (code : ℕ) (text : List ℕ) → code ≡ 8 → text ≡ open_text → IsIsolated level wanted s code text
 is_open level wanted s code text eight told = inr (inr (inr (record { status = eight; told = told })))
+
+-- ---- of committed reads
+pub is_committed : (s : Subject) (code : ℕ) (text : List ℕ) → CommittedReads s.trace → code ≡ 0 → text ≡ committed_text (length s.trace.transactions) → IsCommitted s code text
+is_committed s code text holds zero told = inl (record { holds = holds; status = zero; told = told })
+
+pub shows_committed : (s : Subject) (steps : List Step) (text : List ℕ) → text ≡ not_committed_text (anomaly_name (name_of steps)) ++ cycle_text s.names s.attempts steps → IsCommittedShown s text
+shows_committed s steps text told = record { steps = steps; told = told }
+
+pub is_committed_shown : (s : Subject) (code : ℕ) (text : List ℕ) → (CommittedReads s.trace → ⊥) → code ≡ 7 → IsCommittedShown s text → IsCommitted s code text
+is_committed_shown s code text none seven told = inr (inl (record { refused = none; status = seven; told = told }))
+
+pub is_wrong_committed : (s : Subject) (place code : ℕ) (text : List ℕ) → (CommittedReads s.trace → ⊥) → code ≡ 7 → text ≡ wrong_committed_text s place → IsCommitted s code text
+is_wrong_committed s place code text none seven told = inr (inr (record { place = place; refused = none; status = seven; told = told }))
 
 -- ---- of what was recorded
 pub of_index : (question : Question) (recorded : Recorded) (attempts : List Attempt) (trace : Trace) (times : List Times) (code : ℕ) (text : List ℕ)

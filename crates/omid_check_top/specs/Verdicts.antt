@@ -1,5 +1,5 @@
 -- What is right to say of a trace, by the bytes that it is.
-use Rattle.std.specs.Prelude.{◌≡◌, ℕ, ◌<◌, List, ◌++◌, ◌⊎◌, Option, None, Some, Ok, Err, codes, length, slice_get}
+use Rattle.std.specs.Prelude.{◌≡◌, ℕ, ◌<◌, List, ◌++◌, ◌⊎◌, Option, None, Some, Ok, Err, codes, decimal, length, slice_get}
 use Rattle.trace_rules.specs.declared.trace.Operation.{Operation}
 use Rattle.trace_rules.specs.declared.trace.Operation.TheVariants.{Read, Write}
 use Rattle.trace_rules.specs.declared.wanted.Level.{Level}
@@ -8,6 +8,7 @@ use Rattle.trace_rules.specs.declared.wanted.Wanted.{Wanted}
 use Rattle.trace_rules.specs.Trace.{Trace}
 use Rattle.trace_rules.specs.Stamping.{Stampable}
 use Rattle.trace_rules.specs.Wants.{asked_of}
+use Rattle.committed_reads.specs.Committed.{CommittedReads}
 use Rattle.trace_reading.specs.declared.want.Want.{Want}
 use Rattle.trace_reading.specs.FaultText.{fault_text}
 use Rattle.trace_reading.specs.Recording.{Recorded}
@@ -22,7 +23,7 @@ use Rattle.trace_report.specs.Wrongs.{wrong_at, wrong_name}
 use Rattle.trace_report.specs.Cycle.{cycle_text}
 use Rattle.trace_report.specs.Verdict.{holds_text, refused_text, unclear_text, wrong_read_text}
 use Rattle.omid_check_top.specs.declared.words.Question.{Question}
-use Rattle.omid_check_top.specs.declared.words.Question.TheVariants.{Isolated}
+use Rattle.omid_check_top.specs.declared.words.Question.TheVariants.{Committed, Isolated}
 use Rattle.omid_check_top.specs.declared.limit.TheConstants.{TRACE_LIMIT}
 
 -- ---- a verdict with its status and text
@@ -84,8 +85,47 @@ pub record IsOpen (code : ℕ) (text : List ℕ) : Type 0 where
 abbrev pub IsIsolated : Level → Wanted → Subject → ℕ → List ℕ → Type 0
 IsIsolated level wanted s code text = IsHolding level wanted s code text ⊎ IsRefusal level wanted s code text ⊎ IsWrongRead level wanted s code text ⊎ IsOpen code text
 
+-- ---- of committed reads
+abbrev pub committed_text : ℕ → List ℕ
+committed_text transactions = codes "committed reads transactions=" ++ decimal transactions ++ codes "\n"
+
+abbrev pub not_committed_text : List ℕ → List ℕ
+not_committed_text name = codes "not committed reads: " ++ name ++ codes "\n"
+
+abbrev pub wrong_committed_text : Subject → ℕ → List ℕ
+wrong_committed_text s place =
+    let reader = reader_of (slice_get s.trace.operations place) in
+    not_committed_text (wrong_name (wrong_at s.trace place)) ++ wrong_read_text s.names s.attempts reader.0 reader.1
+
+pub record IsCommittedShown (s : Subject) (text : List ℕ) : Type 0 where
+  pub steps : List Step
+  pub told : text ≡ not_committed_text (anomaly_name (name_of steps)) ++ cycle_text s.names s.attempts steps
+
+pub record AreReadsCommitted (s : Subject) (code : ℕ) (text : List ℕ) : Type 0 where
+  pub holds : CommittedReads s.trace
+  pub status : code ≡ 0
+  pub told : text ≡ committed_text (length s.trace.transactions)
+
+-- reads go round
+pub record AreReadsCyclic (s : Subject) (code : ℕ) (text : List ℕ) : Type 0 where
+  pub refused : CommittedReads s.trace → ⊥
+  pub status : code ≡ 7
+  pub told : IsCommittedShown s text
+
+-- the read at this place is of no committed transaction's last write, or not of the own one
+pub record IsReadWrong (s : Subject) (code : ℕ) (text : List ℕ) : Type 0 where
+  pub place : ℕ
+  pub refused : CommittedReads s.trace → ⊥
+  pub status : code ≡ 7
+  pub told : text ≡ wrong_committed_text s place
+
+abbrev pub IsCommitted : Subject → ℕ → List ℕ → Type 0
+IsCommitted s code text = AreReadsCommitted s code text ⊎ AreReadsCyclic s code text ⊎ IsReadWrong s code text
+
+-- ---- what is found
 abbrev pub IsFound : Question → Subject → ℕ → List ℕ → Type 0
 IsFound (Isolated level wanted) s code text = IsIsolated level wanted s code text
+IsFound Committed s code text = IsCommitted s code text
 
 -- the statuses of a verdict, and those of all that is said of a trace
 abbrev pub IsEnd : ℕ → Type 0

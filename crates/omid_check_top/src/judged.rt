@@ -3,6 +3,7 @@ ghost use Rattle.std.specs.Prelude.{◌≡◌, IfOk, length, option_map};
 ghost use Rattle.trace_report.specs.Verdict.{holds_text};
 ghost use Rattle.omid_check_top.specs.Verdicts.{IsFound, IsIsolated, IsShown, IsVerdict, open_text, reader_of, subject_of, wrong_text};
 
+use crate::committed::committed;
 use crate::made::Made;
 use crate::status;
 use crate::steps::steps_of;
@@ -28,6 +29,7 @@ pub fn judged(
 {
     match question {
         Question::Isolated { level, wanted } => isolated(alloc, level, wanted, recording, indexed),
+        Question::Committed => committed(alloc, recording, indexed),
     }
 }
 
@@ -103,7 +105,7 @@ fn wrong_read(
     })
 }
 
-fn reader_of(operation: Option<&Operation>) -> (usize, u64)
+pub fn reader_of(operation: Option<&Operation>) -> (usize, u64)
     ensures { (result.0, result.1) ≡ reader_of (option_map (λ o. o.now) operation.entry) }
 {
     match operation {

@@ -2,6 +2,7 @@
 #![tactic(auto)]
 
 mod check;
+mod committed;
 mod judged;
 mod limit;
 mod made;

@@ -37,7 +37,7 @@ const BESIDE: &str = r#"{"type": "invoke", "process": 0, "time": 1, "value": [["
 "#;
 
 const USAGE: &str =
-    "usage: omid_check snapshot | serializable [session | real-time], or help\n";
+    "usage: omid_check snapshot | serializable [session | real-time], committed, or help\n";
 
 fn bytes_of(alloc: Global, text: &str) -> Result<Vec<u8>, AllocError> {
     let mut bytes = Vec::new(alloc);
@@ -131,6 +131,51 @@ fn time_is_kept(rt: HostRuntime) -> Result<(), Fail> {
         ("serializable real-time", BESIDE, status::DONE, "serializable in real time transactions=2\n"),
     ] {
         let (code, held) = called(rt.alloc(), words, trace)?;
+        assert_eq!(rt; code, status);
+        assert_eq!(rt; str::from_utf8(held.as_slice()), Ok(told));
+    }
+    Ok(())
+}
+
+/// Each of two transactions read what the other one wrote.
+const ROUND: &str = r#"{"type": "ok", "process": 0, "value": [["w", "x", 1], ["r", "y", 2]]}
+{"type": "ok", "process": 1, "value": [["w", "y", 2], ["r", "x", 1]]}
+"#;
+
+/// The writer of what was read did not commit.
+const DIRTY: &str = r#"{"type": "fail", "process": 0, "value": [["w", "x", 1]]}
+{"type": "ok", "process": 1, "value": [["r", "x", 1]]}
+"#;
+
+/// The writer of what was read wrote over it.
+const INTERMEDIATE: &str = r#"{"type": "ok", "process": 0, "value": [["w", "x", 1], ["w", "x", 2]]}
+{"type": "ok", "process": 1, "value": [["r", "x", 1]]}
+"#;
+
+/// Two that read one version wrote over it.
+const LOST: &str = r#"{"type": "ok", "process": 0, "value": [["w", "x", 1]]}
+{"type": "ok", "process": 1, "value": [["r", "x", 1], ["w", "x", 2]]}
+{"type": "ok", "process": 2, "value": [["r", "x", 1], ["w", "x", 3]]}
+"#;
+
+#[test]
+fn reads_are_of_committed_transactions(rt: HostRuntime) -> Result<(), Fail> {
+    for (trace, status, told) in [
+        (SKEW, status::DONE, "committed reads transactions=3\n"),
+        (LOST, status::DONE, "committed reads transactions=3\n"),
+        (
+            ROUND,
+            status::REFUSED,
+            "not committed reads: G1c\n  line 1 w x before line 2 r x (wr)\n  line 2 w y before line 1 r y (wr)\n",
+        ),
+        (DIRTY, status::REFUSED, "not committed reads: dirty read (G1a)\n  line 2 r x\n"),
+        (
+            INTERMEDIATE,
+            status::REFUSED,
+            "not committed reads: intermediate read (G1b)\n  line 2 r x\n",
+        ),
+    ] {
+        let (code, held) = called(rt.alloc(), "committed", trace)?;
         assert_eq!(rt; code, status);
         assert_eq!(rt; str::from_utf8(held.as_slice()), Ok(told));
     }

@@ -13,6 +13,8 @@ use trace_rules::{Level, Wanted};
 pub enum Question {
     /// Whether it is so at the level, in an order that is asked for besides.
     Isolated { level: Level, wanted: Wanted },
+    /// Whether each read is of a committed transaction's last write, and none goes round.
+    Committed,
 }
 
 /// What the program is asked to do.
@@ -68,6 +70,11 @@ fn one_word(word: &str) -> Option<Command>
 {
     if is_word(word, "help") || is_word(word, "--help") {
         return Some(Command::Help);
+    }
+    if is_word(word, "committed") {
+        return Some(Command::Check {
+            question: Question::Committed,
+        });
     }
     checks(level_of(word), Some(Wanted::Nothing))
 }
