@@ -3,8 +3,8 @@ use Rattle.std.proofs.Common.{◌≡◌, ◌≢◌, ℕ, ◌<◌, ◌≤◌, Lis
 use Rattle.std.specs.Prelude.{IfSome}
 use Rattle.std.proofs.lemmas.List.{append-nil}
 use Rattle.port_io.specs.Ports.{Gains, Gives, IsAtEnd}
-use Rattle.trace_rules.specs.declared.wanted.Level.{Level}
 use Rattle.omid_check_top.specs.declared.limit.TheConstants.{TRACE_LIMIT}
+use Rattle.omid_check_top.specs.declared.words.Question.{Question}
 use Rattle.omid_check_top.specs.Commands.{Checks, GainsFront, Told, ToldFront}
 use Rattle.omid_check_top.specs.Verdicts.{IsEnd, IsRight, IsVerdict, too_long_text}
 
@@ -42,17 +42,17 @@ pub verdict_is_not_five : (code : ℕ) → IsVerdict code → code ≢ 5
 verdict_is_not_five code told five = not_verdict code (omega (arith, five)) (omega (arith, five)) told
 
 -- ---- what was made of bytes was written
-pub told_of : (level : Level) (bytes : List ℕ) (code result : ℕ) (held now : Option (List ℕ)) (text : List ℕ) → IsRight level bytes code text → (result ≢ 5 → (result ≡ code) × Gains held now text) → IsVerdict result → Told level bytes result held now
-told_of level bytes code result held now text right all told =
+pub told_of : (question : Question) (bytes : List ℕ) (code result : ℕ) (held now : Option (List ℕ)) (text : List ℕ) → IsRight question bytes code text → (result ≢ 5 → (result ≡ code) × Gains held now text) → IsVerdict result → Told question bytes result held now
+told_of question bytes code result held now text right all told =
     let both = all (verdict_is_not_five result told) in
-    record { text = text; right = subst (λ (n : ℕ). IsRight level bytes n text) (sym both.0) right; told = both.1 }
+    record { text = text; right = subst (λ (n : ℕ). IsRight question bytes n text) (sym both.0) right; told = both.1 }
 
-pub front_of : (level : Level) (bytes : List ℕ) (code : ℕ) (held now : Option (List ℕ)) (text : List ℕ) → IsRight level bytes code text → GainsFront held now text → ToldFront level bytes held now
-front_of level bytes code held now text right told = record { text = text; code = code; right = right; told = told }
+pub front_of : (question : Question) (bytes : List ℕ) (code : ℕ) (held now : Option (List ℕ)) (text : List ℕ) → IsRight question bytes code text → GainsFront held now text → ToldFront question bytes held now
+front_of question bytes code held now text right told = record { text = text; code = code; right = right; told = told }
 
 -- ---- nothing was written
-pub checks_silently : (level : Level) (code : ℕ) (left rest held now : Option (List ℕ)) → 3 < code → code < 7 → code ≢ 5 → Checks level code left rest held now
-checks_silently level code left rest held now low high whole = record {
+pub checks_silently : (question : Question) (code : ℕ) (left rest held now : Option (List ℕ)) → 3 < code → code < 7 → code ≢ 5 → Checks question code left rest held now
+checks_silently question code left rest held now low high whole = record {
   read = λ end. absurd (not_end code (omega (arith, low)) high end);
   told = λ told. absurd (not_verdict code low high told);
   cut = λ five. absurd (whole five);
@@ -70,8 +70,8 @@ pub of_too_many : (left : Option (List ℕ)) (P : List ℕ → Type 0) → ((byt
 of_too_many None P holds long = tt
 of_too_many (Some bytes) P holds long = holds bytes long
 
-pub long_told : (level : Level) (bytes : List ℕ) (code : ℕ) (held now : Option (List ℕ)) → TRACE_LIMIT < length bytes → code ≡ 3 → Gains held now too_long_text → Told level bytes code held now
-long_told level bytes code held now long three told = record { text = too_long_text; right = inr (inr (record { long = long; status = three; told = refl })); told = told }
+pub long_told : (question : Question) (bytes : List ℕ) (code : ℕ) (held now : Option (List ℕ)) → TRACE_LIMIT < length bytes → code ≡ 3 → Gains held now too_long_text → Told question bytes code held now
+long_told question bytes code held now long three told = record { text = too_long_text; right = inr (inr (record { long = long; status = three; told = refl })); told = told }
 
-pub long_front : (level : Level) (bytes : List ℕ) (held now : Option (List ℕ)) → TRACE_LIMIT < length bytes → GainsFront held now too_long_text → ToldFront level bytes held now
-long_front level bytes held now long told = record { text = too_long_text; code = 3; right = inr (inr (record { long = long; status = refl; told = refl })); told = told }
+pub long_front : (question : Question) (bytes : List ℕ) (held now : Option (List ℕ)) → TRACE_LIMIT < length bytes → GainsFront held now too_long_text → ToldFront question bytes held now
+long_front question bytes held now long told = record { text = too_long_text; code = 3; right = inr (inr (record { long = long; status = refl; told = refl })); told = told }

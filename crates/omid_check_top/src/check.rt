@@ -1,7 +1,7 @@
 // What the program does for its words.
 ghost use Rattle.std.specs.Prelude.{◌≡◌, ◌≢◌, ◌≤◌, ◌⊎◌, None, OnOk, OnErr, Some, map, string_bytes};
 ghost use Rattle.port_io.specs.Ports.{Risen, Gains};
-ghost use Rattle.trace_rules.specs.declared.wanted.Level.{Level as LevelOf};
+ghost use Rattle.omid_check_top.specs.declared.words.Question.{Question as QuestionOf};
 ghost use Rattle.omid_check_top.specs.declared.words.Command.TheVariants.{Check, Help};
 ghost use Rattle.omid_check_top.specs.Words.{command_of};
 ghost use Rattle.omid_check_top.specs.Verdicts.{IsVerdict, too_long_text};
@@ -10,10 +10,9 @@ ghost use Rattle.omid_check_top.specs.Commands.{Checks, GainsFront, SaysUsage, T
 use crate::limit::TRACE_LIMIT;
 use crate::made::{Made, made_of, too_long};
 use crate::status;
-use crate::words::{Command, command_of};
+use crate::words::{Command, Question, command_of};
 use port_io::{Failed, ReadStop, Sink, Source, read_up_to, write_all_of};
 use std::alloc::Global;
-use trace_rules::Level;
 
 /// Carries out what the words name: reads a trace, judges it by what is asked, and writes the verdict, with a cycle where the
 /// trace is not as asked; or writes how the program is used. The status is 0 where the trace is as asked, or help was, 2 where the
@@ -27,8 +26,8 @@ pub fn omid_check<S: Source, K: Sink>(
     sink: &mut K,
 ) -> u8
     // What is done for the words.
-    ensures checks { (level : LevelOf) → command_of (map string_bytes words.now) ≡ Some (Check level) →
-        Checks level result (S.left source.old) (S.left source.new) (K.held sink.old) (K.held sink.new) }
+    ensures checks { (question : QuestionOf) → command_of (map string_bytes words.now) ≡ Some (Check question) →
+        Checks question result (S.left source.old) (S.left source.new) (K.held sink.old) (K.held sink.new) }
     ensures help { command_of (map string_bytes words.now) ≡ Some Help → SaysUsage 0 result (K.held sink.old) (K.held sink.new) }
     ensures no_command { command_of (map string_bytes words.now) ≡ None → SaysUsage 2 result (K.held sink.old) (K.held sink.new) }
 
@@ -45,15 +44,20 @@ pub fn omid_check<S: Source, K: Sink>(
     ensures no_memory { result ≡ 6 → sink.new ≡ sink.old }
 {
     match command_of(words) {
-        Some(Command::Check { level }) => check_source(alloc, level, source, sink),
+        Some(Command::Check { question }) => check_source(alloc, question, source, sink),
         Some(Command::Help) => say_usage(sink, status::DONE),
         None => say_usage(sink, status::USAGE),
     }
 }
 
 /// As `omid_check`, for a trace that is judged.
-fn check_source<S: Source, K: Sink>(alloc: Global, level: Level, source: &mut S, sink: &mut K) -> u8
-    ensures checks { Checks level result (S.left source.old) (S.left source.new) (K.held sink.old) (K.held sink.new) }
+fn check_source<S: Source, K: Sink>(
+    alloc: Global,
+    question: Question,
+    source: &mut S,
+    sink: &mut K,
+) -> u8
+    ensures checks { Checks question result (S.left source.old) (S.left source.new) (K.held sink.old) (K.held sink.new) }
     ensures source_failed { result ≡ 4 → Risen (S.faults source.old) (S.faults source.new) × (sink.new ≡ sink.old) }
     ensures source_worked { result ≢ 4 → S.faults source.new ≡ S.faults source.old }
     ensures sink_failed { result ≡ 5 → Risen (K.faults sink.old) (K.faults sink.new) }
@@ -61,7 +65,7 @@ fn check_source<S: Source, K: Sink>(alloc: Global, level: Level, source: &mut S,
     ensures no_memory { result ≡ 6 → sink.new ≡ sink.old }
 {
     match read_up_to(alloc, source, TRACE_LIMIT) {
-        Ok(bytes) => check_bytes(alloc, level, &bytes, sink),
+        Ok(bytes) => check_bytes(alloc, question, &bytes, sink),
         Err(ReadStop::TooLong) => say_too_long(alloc, sink),
         Err(ReadStop::Failed) => status::SOURCE_FAILED,
         Err(ReadStop::NoMemory) => status::NO_MEMORY,
@@ -70,15 +74,15 @@ fn check_source<S: Source, K: Sink>(alloc: Global, level: Level, source: &mut S,
 
 /// Writes what is said of the trace that the bytes are.
 #[tactic(auto, using(crate::proofs::CheckLemmas::front_of))]
-fn check_bytes<K: Sink>(alloc: Global, level: Level, bytes: &[u8], sink: &mut K) -> u8
-    ensures told { IsVerdict result → Told level bytes.now result (K.held sink.old) (K.held sink.new) }
-    ensures cut { result ≡ 5 → ToldFront level bytes.now (K.held sink.old) (K.held sink.new) }
+fn check_bytes<K: Sink>(alloc: Global, question: Question, bytes: &[u8], sink: &mut K) -> u8
+    ensures told { IsVerdict result → Told question bytes.now result (K.held sink.old) (K.held sink.new) }
+    ensures cut { result ≡ 5 → ToldFront question bytes.now (K.held sink.old) (K.held sink.new) }
     ensures sink_failed { result ≡ 5 → Risen (K.faults sink.old) (K.faults sink.new) }
     ensures sink_worked { result ≢ 5 → K.faults sink.new ≡ K.faults sink.old }
     ensures no_memory { result ≡ 6 → sink.new ≡ sink.old }
     ensures codes { IsVerdict result ⊎ (result ≡ 5) ⊎ (result ≡ 6) }
 {
-    match made_of(alloc, level, bytes) {
+    match made_of(alloc, question, bytes) {
         Ok(made) => show(sink, &made),
         Err(_) => status::NO_MEMORY,
     }
@@ -121,7 +125,7 @@ fn say_usage<K: Sink>(sink: &mut K, code: u8) -> u8
     ensures failed { result ≡ 5 → Risen (K.faults sink.old) (K.faults sink.new) }
     ensures worked { result ≢ 5 → K.faults sink.new ≡ K.faults sink.old }
 {
-    match print_text(sink, b"usage: omid_check snapshot | serializable | help\n") {
+    match print_text(sink, b"usage: omid_check snapshot | serializable [session | real-time], committed, or help\n") {
         Ok(()) => code,
         Err(Failed) => status::SINK_FAILED,
     }

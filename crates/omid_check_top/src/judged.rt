@@ -1,52 +1,79 @@
 // What is said of a trace whose writers are known.
 ghost use Rattle.std.specs.Prelude.{◌≡◌, IfOk, length, option_map};
-ghost use Rattle.trace_rules.specs.declared.wanted.Wanted.TheVariants.{Nothing};
 ghost use Rattle.trace_report.specs.Verdict.{holds_text};
-ghost use Rattle.omid_check_top.specs.Verdicts.{IsFound, IsShown, IsVerdict, open_text, reader_of, subject_of, wrong_text};
+ghost use Rattle.omid_check_top.specs.Verdicts.{IsFound, IsIsolated, IsShown, IsVerdict, open_text, reader_of, subject_of, wrong_text};
 
+use crate::committed::committed;
 use crate::made::Made;
 use crate::status;
 use crate::steps::steps_of;
+use crate::words::Question;
 use rising_numbers::Edge;
 use stamp_base::NoMemory;
 use std::alloc::Global;
 use trace_index::Indexed;
-use trace_judge::{Verdict, judge};
+use trace_judge::{Verdict, judge_wanted};
 use trace_reading::{Recording, push_words};
-use trace_report::{name_of, push_cycle, push_holds, push_refused, push_wrong_read, wrong_at};
+use trace_report::{
+    name_of, push_cycle, push_holds, push_refused, push_undecided, push_wrong_read, wrong_at,
+};
 use trace_rules::{Level, Operation, Wanted};
 
 /// What is said of the trace.
-#[tactic(auto, using(crate::proofs::MadeLemmas::is_holding, crate::proofs::MadeLemmas::is_wrong, crate::proofs::MadeLemmas::is_shown, crate::proofs::MadeLemmas::is_open))]
 pub fn judged(
     alloc: Global,
-    level: Level,
+    question: Question,
     recording: &Recording,
     indexed: &Indexed,
 ) -> Result<Made, NoMemory>
-    ensures found { IfOk result (λ made. IsFound level (subject_of recording.now indexed.now.attempts.items indexed.now.trace indexed.now.times.items) made.code made.text.items) }
+    ensures found { IfOk result (λ made. IsFound question (subject_of recording.now indexed.now.attempts.items indexed.now.trace indexed.now.times.items) made.code made.text.items) }
     ensures codes { IfOk result (λ made. IsVerdict made.code) }
 {
-    match judge(
+    match question {
+        Question::Isolated { level, wanted } => isolated(alloc, level, wanted, recording, indexed),
+        Question::Committed => committed(alloc, recording, indexed),
+    }
+}
+
+/// Whether the trace is so at the level, in the order that is asked for besides.
+#[tactic(auto, using(crate::proofs::MadeLemmas::is_holding, crate::proofs::MadeLemmas::is_wrong, crate::proofs::MadeLemmas::is_shown, crate::proofs::MadeLemmas::is_open))]
+fn isolated(
+    alloc: Global,
+    level: Level,
+    wanted: Wanted,
+    recording: &Recording,
+    indexed: &Indexed,
+) -> Result<Made, NoMemory>
+    ensures found { IfOk result (λ made. IsIsolated level wanted (subject_of recording.now indexed.now.attempts.items indexed.now.trace indexed.now.times.items) made.code made.text.items) }
+    ensures codes { IfOk result (λ made. IsVerdict made.code) }
+{
+    match judge_wanted(
         alloc,
         level,
+        wanted,
         &indexed.trace.transactions,
+        &indexed.times,
         &indexed.trace.operations,
     )? {
-        Verdict::Holds(_) => holds(alloc, level, indexed.trace.transactions.len()),
-        Verdict::WrongRead(place) => wrong_read(alloc, level, recording, indexed, place),
-        Verdict::Refused(cycle) => refused(alloc, level, recording, indexed, &cycle),
-        Verdict::Undecided => undecided(alloc),
+        Verdict::Holds(_) => holds(alloc, level, wanted, indexed.trace.transactions.len()),
+        Verdict::WrongRead(place) => wrong_read(alloc, level, wanted, recording, indexed, place),
+        Verdict::Refused(cycle) => refused(alloc, level, wanted, recording, indexed, &cycle),
+        Verdict::Undecided(key) => undecided(alloc, recording, key),
     }
 }
 
 /// That there are stamps for so many transactions.
-fn holds(alloc: Global, level: Level, transactions: usize) -> Result<Made, NoMemory>
+fn holds(
+    alloc: Global,
+    level: Level,
+    wanted: Wanted,
+    transactions: usize,
+) -> Result<Made, NoMemory>
     ensures code { IfOk result (λ made. made.code ≡ 0) }
-    ensures told { IfOk result (λ made. made.text.items ≡ holds_text level Nothing transactions) }
+    ensures told { IfOk result (λ made. made.text.items ≡ holds_text level wanted transactions) }
 {
     let mut text = Vec::new(alloc);
-    push_holds(&mut text, level, Wanted::Nothing, transactions)?;
+    push_holds(&mut text, level, wanted, transactions)?;
     Ok(Made {
         text,
         code: status::DONE,
@@ -57,18 +84,19 @@ fn holds(alloc: Global, level: Level, transactions: usize) -> Result<Made, NoMem
 fn wrong_read(
     alloc: Global,
     level: Level,
+    wanted: Wanted,
     recording: &Recording,
     indexed: &Indexed,
     place: usize,
 ) -> Result<Made, NoMemory>
     ensures code { IfOk result (λ made. made.code ≡ 7) }
-    ensures told { IfOk result (λ made. made.text.items ≡ wrong_text level (subject_of recording.now indexed.now.attempts.items indexed.now.trace indexed.now.times.items) place) }
+    ensures told { IfOk result (λ made. made.text.items ≡ wrong_text level wanted (subject_of recording.now indexed.now.attempts.items indexed.now.trace indexed.now.times.items) place) }
 {
     let mut text = Vec::new(alloc);
     push_refused(
         &mut text,
         level,
-        Wanted::Nothing,
+        wanted,
         wrong_at(&indexed.trace, place).name(),
     )?;
     let (txn, key) = reader_of(indexed.trace.operations.get(place));
@@ -79,7 +107,7 @@ fn wrong_read(
     })
 }
 
-fn reader_of(operation: Option<&Operation>) -> (usize, u64)
+pub fn reader_of(operation: Option<&Operation>) -> (usize, u64)
     ensures { (result.0, result.1) ≡ reader_of (option_map (λ o. o.now) operation.entry) }
 {
     match operation {
@@ -93,16 +121,17 @@ fn reader_of(operation: Option<&Operation>) -> (usize, u64)
 fn refused(
     alloc: Global,
     level: Level,
+    wanted: Wanted,
     recording: &Recording,
     indexed: &Indexed,
     cycle: &[Edge],
 ) -> Result<Made, NoMemory>
     ensures code { IfOk result (λ made. made.code ≡ 7) }
-    ensures told { IfOk result (λ made. IsShown level (subject_of recording.now indexed.now.attempts.items indexed.now.trace indexed.now.times.items) made.text.items) }
+    ensures told { IfOk result (λ made. IsShown level wanted (subject_of recording.now indexed.now.attempts.items indexed.now.trace indexed.now.times.items) made.text.items) }
 {
-    let steps = steps_of(alloc, level, &indexed.trace, cycle)?;
+    let steps = steps_of(alloc, level, wanted, &indexed.trace, cycle)?;
     let mut text = Vec::new(alloc);
-    push_refused(&mut text, level, Wanted::Nothing, name_of(&steps).name())?;
+    push_refused(&mut text, level, wanted, name_of(&steps).name())?;
     push_cycle(&mut text, recording, &indexed.attempts, &steps)?;
     Ok(Made {
         text,
@@ -110,16 +139,19 @@ fn refused(
     })
 }
 
-/// That nothing decides.
-fn undecided(alloc: Global) -> Result<Made, NoMemory>
+/// That nothing decides, and of which key.
+fn undecided(alloc: Global, recording: &Recording, key: Option<u64>) -> Result<Made, NoMemory>
     ensures code { IfOk result (λ made. made.code ≡ 8) }
-    ensures told { IfOk result (λ made. made.text.items ≡ open_text) }
+    ensures told { IfOk result (λ made. made.text.items ≡ open_text recording.now.names key) }
 {
     let mut text = Vec::new(alloc);
-    push_words(
-        &mut text,
-        "not decided: nothing forces the order of some writers of a key\n",
-    )?;
+    match key {
+        Some(key) => push_undecided(&mut text, recording, key)?,
+        None => push_words(
+            &mut text,
+            "not decided: nothing forces the order of some writers of a key\n",
+        )?,
+    }
     Ok(Made {
         text,
         code: status::UNDECIDED,

@@ -2,14 +2,21 @@
 #![tactic(auto)]
 
 mod check;
+mod committed;
 mod judged;
 mod limit;
 mod made;
 mod status;
 mod steps;
+#[cfg(test)]
+mod tests;
+#[cfg(test)]
+mod traces;
+#[cfg(test)]
+mod word_tests;
 mod words;
 
 pub use check::{last_status, omid_check};
 pub use limit::TRACE_LIMIT;
 pub use status::NO_MEMORY;
-pub use words::{Command, command_of, words_behind};
+pub use words::{Command, Question, command_of, words_behind};

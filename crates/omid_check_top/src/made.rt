@@ -7,12 +7,12 @@ ghost use Rattle.omid_check_top.specs.Verdicts.{IsOfRecording, IsRight, IsVerdic
 
 use crate::judged::judged;
 use crate::status;
+use crate::words::Question;
 use stamp_base::NoMemory;
 use std::alloc::Global;
 use trace_index::{Fault, Unclear, attempts_of, index};
 use trace_reading::{Recording, TraceFault, Want, fault_line, push_words, read_trace};
 use trace_report::push_unclear;
-use trace_rules::Level;
 
 /// A text, and the status that goes with it.
 #[derive(Drop)]
@@ -23,12 +23,12 @@ pub struct Made {
 
 /// What is said of the trace that the bytes are.
 #[tactic(auto, using(crate::proofs::MadeLemmas::of_bytes, crate::proofs::MadeLemmas::not_read))]
-pub fn made_of(alloc: Global, level: Level, bytes: &[u8]) -> Result<Made, NoMemory>
-    ensures right { IfOk result (λ made. IsRight level bytes.now made.code made.text.items) }
+pub fn made_of(alloc: Global, question: Question, bytes: &[u8]) -> Result<Made, NoMemory>
+    ensures right { IfOk result (λ made. IsRight question bytes.now made.code made.text.items) }
     ensures codes { IfOk result (λ made. IsVerdict made.code) }
 {
     match read_trace(alloc, bytes) {
-        Ok(recording) => of_recording(alloc, level, &recording),
+        Ok(recording) => of_recording(alloc, question, &recording),
         Err(TraceFault::At { line, want }) => not_read(alloc, line, want),
         Err(TraceFault::NoMemory) => Err(NoMemory),
     }
@@ -61,12 +61,12 @@ pub fn too_long(alloc: Global) -> Result<Made, NoMemory>
 
 /// What is said of the trace that was read.
 #[tactic(auto, using(crate::proofs::MadeLemmas::of_index, crate::proofs::MadeLemmas::of_blame))]
-fn of_recording(alloc: Global, level: Level, recording: &Recording) -> Result<Made, NoMemory>
-    ensures right { IfOk result (λ made. IsOfRecording level recording.now made.code made.text.items) }
+fn of_recording(alloc: Global, question: Question, recording: &Recording) -> Result<Made, NoMemory>
+    ensures right { IfOk result (λ made. IsOfRecording question recording.now made.code made.text.items) }
     ensures codes { IfOk result (λ made. IsVerdict made.code) }
 {
     match index(alloc, recording) {
-        Ok(indexed) => judged(alloc, level, recording, &indexed),
+        Ok(indexed) => judged(alloc, question, recording, &indexed),
         Err(
             Fault::At {
                 txn,

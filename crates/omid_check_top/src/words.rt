@@ -1,18 +1,27 @@
 // The words behind the program's name.
 ghost use Rattle.std.specs.Prelude.{◌≡◌, [], map, string_bytes, IfOk};
 ghost use Rattle.std.specs.Str.{IsUtf8, bytes_eq};
-ghost use Rattle.omid_check_top.specs.Words.{checks, command_of, level_of, one_word};
+ghost use Rattle.omid_check_top.specs.Words.{checks, command_of, level_of, one_word, wanted_of};
 
 use stamp_base::NoMemory;
 use std::alloc::Global;
 use std::env::{Env, FillError};
-use trace_rules::Level;
+use trace_rules::{Level, Wanted};
+
+/// What is asked of a trace.
+#[derive(Clone, Copy, Debug, PartialEq, Eq)]
+pub enum Question {
+    /// Whether it is so at the level, in an order that is asked for besides.
+    Isolated { level: Level, wanted: Wanted },
+    /// Whether each read is of a committed transaction's last write, and none goes round.
+    Committed,
+}
 
 /// What the program is asked to do.
 #[derive(Clone, Copy, Debug, PartialEq, Eq)]
 pub enum Command {
-    /// Judge whether a trace is so.
-    Check { level: Level },
+    /// Judge a trace.
+    Check { question: Question },
     /// Tell how the program is used.
     Help,
 }
@@ -51,6 +60,7 @@ pub fn command_of(words: &[String]) -> Option<Command>
 {
     match words {
         [word] => one_word(word.as_str()),
+        [word, other] => checks(level_of(word.as_str()), wanted_of(other.as_str())),
         _ => None,
     }
 }
@@ -61,15 +71,25 @@ fn one_word(word: &str) -> Option<Command>
     if is_word(word, "help") || is_word(word, "--help") {
         return Some(Command::Help);
     }
-    checks(level_of(word))
+    if is_word(word, "committed") {
+        return Some(Command::Check {
+            question: Question::Committed,
+        });
+    }
+    checks(level_of(word), Some(Wanted::Nothing))
 }
 
-fn checks(level: Option<Level>) -> Option<Command>
-    ensures { result ≡ checks level }
+fn checks(level: Option<Level>, wanted: Option<Wanted>) -> Option<Command>
+    ensures { result ≡ checks level wanted }
 {
     match level {
-        Some(level) => Some(Command::Check { level }),
         None => None,
+        Some(level) => match wanted {
+            None => None,
+            Some(wanted) => Some(Command::Check {
+                question: Question::Isolated { level, wanted },
+            }),
+        },
     }
 }
 
@@ -81,6 +101,18 @@ fn level_of(word: &str) -> Option<Level>
     }
     if is_word(word, "serializable") {
         return Some(Level::Serializable);
+    }
+    None
+}
+
+fn wanted_of(word: &str) -> Option<Wanted>
+    ensures { result ≡ wanted_of word.now }
+{
+    if is_word(word, "session") {
+        return Some(Wanted::Sessions);
+    }
+    if is_word(word, "real-time") {
+        return Some(Wanted::RealTime);
     }
     None
 }

@@ -1,2 +1,2 @@
 mod OrderLemmas
-mod StampLemmas
+pub mod StampLemmas

@@ -6,9 +6,8 @@ use Rattle.trace_rules.specs.declared.trace.Version.{Version}
 use Rattle.trace_rules.specs.declared.trace.Transaction.{Transaction}
 use Rattle.trace_rules.specs.declared.wanted.Level.TheVariants.{Snapshot, Serializable}
 use Rattle.trace_rules.specs.Trace.{Trace, Done, Writer, OuterRead, committed_in}
-use Rattle.trace_rules.specs.Stamping.{Numbered, Stampable}
+use Rattle.trace_rules.specs.Stamping.{Asked, Keeps, Numbered, Stampable}
 use Rattle.trace_rules.specs.Rising.{Listed, Rising}
-use Rattle.trace_rules.specs.Wants.{no_wants}
 use Rattle.trace_rules.specs.Serial.{RisingPlaces, one_by_one}
 use Rattle.trace_rules.proofs.Isolates.{isolates}
 use Rattle.trace_rules.proofs.Serial.{serialises}
@@ -235,11 +234,11 @@ module _ (trace : Trace) (readings : List Reading) (order : List Writing) (numbe
     missed_first = λ t u k outer at_u other. spread_less (length trace.transactions + length trace.transactions) (get_or numbers t 0) (get_or numbers (length trace.transactions + u) 0) t (length trace.transactions + u) (low_point t outer.read.done) (missed_first trace readings order numbers (length trace.transactions) known weak nexts reads t u k outer at_u other);
   }
 
-  pub numbers_stamp : Stampable Snapshot no_wants trace
-  numbers_stamp = record {
+  pub numbers_stamp : (asked : Asked) → Keeps asked (stamps_of (length trace.transactions) numbers) → Stampable Snapshot asked trace
+  numbers_stamp asked keeps = record {
     stamps = stamps_of (length trace.transactions) numbers;
     isolated = isolates (stamps_of (length trace.transactions) numbers) trace (λ k. orders_of order k) stamps_numbered known.sourced (lists_all trace readings order numbers (length trace.transactions) known weak nexts reads) stamps_rise;
-    keeps = λ x y wanted. absurd (cc);
+    keeps = keeps;
   }
 
 -- ---- the places of a serial order
@@ -273,9 +272,9 @@ module _ (trace : Trace) (readings : List Reading) (order : List Writing) (numbe
         (let up = missed_first trace readings order numbers 0 known at_itself nexts reads t u k outer at_u other in let s = same_number u in omega (arith, up, s));
   }
 
-  pub numbers_serialise : Stampable Serializable no_wants trace
-  numbers_serialise = record {
+  pub numbers_serialise : (asked : Asked) → Keeps asked (one_by_one (places_of (length trace.transactions) numbers)) → Stampable Serializable asked trace
+  numbers_serialise asked keeps = record {
     stamps = one_by_one (places_of (length trace.transactions) numbers);
     isolated = serialises (places_of (length trace.transactions) numbers) trace (λ k. orders_of order k) known.sourced (lists_all trace readings order numbers 0 known at_itself nexts reads) places_rise;
-    keeps = λ x y wanted. absurd (cc);
+    keeps = keeps;
   }

@@ -5,18 +5,18 @@ ghost use Rattle.std.specs.Prelude.{◌≡◌, ◌+◌, ◌<◌, ◌≤◌, ℕ,
 ghost use Rattle.trace_rules.specs.declared.trace.Operation.{Operation};
 ghost use Rattle.trace_rules.specs.declared.wanted.Level.TheVariants.{Snapshot, Serializable};
 ghost use Rattle.trace_rules.specs.Trace.{Trace, committed_in};
-ghost use Rattle.trace_rules.specs.Stamping.{Stampable};
-ghost use Rattle.trace_rules.specs.Wants.{no_wants};
+ghost use Rattle.trace_rules.specs.Serial.{one_by_one};
+ghost use Rattle.trace_rules.specs.Stamping.{Asked, Keeps, Stampable};
 ghost use Rattle.outer_reads.specs.declared.writings.Writing.{Writing};
 ghost use Rattle.outer_reads.specs.declared.readings.Reading.{Reading};
 ghost use Rattle.outer_reads.specs.Sources.{AreKnown, trace_of};
-ghost use Rattle.stamp_check.specs.Orders.{IsBelow, NextRises, NextsRise, OwnRise, ReadsRise, Sees, SeesAt, SeesNone, Unseen};
+ghost use Rattle.stamp_check.specs.Orders.{IsBelow, NextRises, NextsRise, OwnRise, ReadsRise, Sees, SeesAt, SeesNone, Unseen, places_of, stamps_of};
 
 use outer_reads::{Reading, Writing};
 use trace_rules::Transaction;
 
 /// Whether the numbers, of the starts by transaction and behind them of the commits, rise along all edges between neighbours of
-/// the order, which has the versions of each key together. For each reading, the place in the order is given of what was
+/// the order, which has the versions of each key together; so they are stamps of the trace, where they keep what is asked for. For each reading, the place in the order is given of what was
 /// read, or where nothing was, of the key's first version or the first one of a greater key.
 pub fn are_stamps(
     transactions: &[Transaction],
@@ -25,8 +25,8 @@ pub fn are_stamps(
     order: &[Writing],
     numbers: &[usize],
 ) -> bool
-    ensures { result ≡ true → (operations : List Operation) → AreKnown (trace_of transactions.now operations) readings.now order.now →
-        Stampable Snapshot no_wants (trace_of transactions.now operations) }
+    ensures { result ≡ true → (asked : Asked) (operations : List Operation) → AreKnown (trace_of transactions.now operations) readings.now order.now →
+        Keeps asked (stamps_of (length transactions.now) numbers.now) → Stampable Snapshot asked (trace_of transactions.now operations) }
 {
     let count = transactions.len();
     if !own_rise(transactions, numbers) || !nexts_rise(order, count, numbers) {
@@ -43,7 +43,8 @@ pub fn are_serial(
     order: &[Writing],
     numbers: &[usize],
 ) -> bool
-    ensures { result ≡ true → (trace : Trace) → AreKnown trace readings.now order.now → Stampable Serializable no_wants trace }
+    ensures { result ≡ true → (asked : Asked) (trace : Trace) → AreKnown trace readings.now order.now →
+        Keeps asked (one_by_one (places_of (length trace.transactions) numbers.now)) → Stampable Serializable asked trace }
 {
     nexts_rise(order, 0, numbers) && reads_rise(readings, places, order, 0, numbers)
 }

@@ -1,1 +1,1 @@
-mod EdgeLemmas
+pub mod EdgeLemmas

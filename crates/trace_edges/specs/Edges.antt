@@ -6,9 +6,8 @@ use Rattle.trace_rules.specs.declared.trace.Version.{Version}
 use Rattle.trace_rules.specs.declared.wanted.Level.{Level}
 use Rattle.trace_rules.specs.declared.wanted.Level.TheVariants.{Snapshot, Serializable}
 use Rattle.trace_rules.specs.Trace.{Trace}
-use Rattle.trace_rules.specs.Stamping.{Point, Start, Commit}
+use Rattle.trace_rules.specs.Stamping.{Asked, Point, Start, Commit}
 use Rattle.trace_rules.specs.Below.{Below}
-use Rattle.trace_rules.specs.Wants.{no_wants}
 use Rattle.rising_numbers.specs.declared.Edge.{Edge}
 use Rattle.rising_numbers.specs.Rises.{AreWithin}
 use Rattle.outer_reads.specs.declared.writings.Writing.{Writing}
@@ -28,14 +27,14 @@ pick false starts x = Commit (x - starts)
 abbrev pub point_of : ℕ → ℕ → Point
 point_of starts x = pick (nat_lt x starts) starts x
 
--- each edge holds in all stamps
-abbrev pub AreForced : Level → Trace → ℕ → List Edge → Type 0
-AreForced level trace starts edges = (place : ℕ) (edge : Edge) → slice_get edges place ≡ Some edge → Below level no_wants trace (point_of starts edge.from) (point_of starts edge.to)
+-- each edge holds in all stamps that keep what is asked for
+abbrev pub AreForced : Level → Asked → Trace → ℕ → List Edge → Type 0
+AreForced level asked trace starts edges = (place : ℕ) (edge : Edge) → slice_get edges place ≡ Some edge → Below level asked trace (point_of starts edge.from) (point_of starts edge.to)
 
--- the edges are between nodes, and hold in all stamps of a trace of which these are the reads and versions
+-- the edges are between nodes, and hold, whatever is asked for, in all stamps of a trace of which these are the reads and versions
 pub record AreLaid (transactions : List Transaction) (readings : List Reading) (order : List Writing) (starts nodes : ℕ) (edges : List Edge) : Type 0 where
   pub within : AreWithin nodes edges
-  pub forced : (level : Level) (operations : List Operation) → starts ≡ starts_of level (length transactions) → AreKnown (trace_of transactions operations) readings order → AreForced level (trace_of transactions operations) starts edges
+  pub forced : (level : Level) (asked : Asked) (operations : List Operation) → starts ≡ starts_of level (length transactions) → AreKnown (trace_of transactions operations) readings order → AreForced level asked (trace_of transactions operations) starts edges
 
 -- ---- the edges that are laid
 -- the next version's writer read the same as the reader did, or this read nothing

@@ -308,8 +308,8 @@ fn is_of(answer: Option<Version>, from: usize) -> bool
     }
 }
 
-/// Lays an edge, where it is between nodes.
-fn lay(edges: &mut Vec<Edge>, nodes: usize, edge: Edge) -> Result<(), AllocError>
+/// Lays an edge behind the others, where it is between nodes.
+pub fn lay(edges: &mut Vec<Edge>, nodes: usize, edge: Edge) -> Result<(), AllocError>
     ensures { OnOk result (MayLay nodes edge edges.old.items edges.new.items) }
 {
     if edge.from < nodes && edge.to < nodes {

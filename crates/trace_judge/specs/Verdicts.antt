@@ -1,24 +1,49 @@
 -- What a verdict says.
+use Rattle.std.specs.Prelude.{◌≡◌, ◌≢◌, ℕ, List, Some, IfSome, length, slice_get}
+use Rattle.trace_rules.specs.declared.trace.Operation.{Operation}
+use Rattle.trace_rules.specs.declared.trace.Transaction.{Transaction}
 use Rattle.trace_rules.specs.declared.wanted.Level.{Level}
-use Rattle.trace_rules.specs.Trace.{Trace}
-use Rattle.trace_rules.specs.Stamping.{Stampable}
-use Rattle.trace_rules.specs.Wants.{no_wants}
-use Rattle.outer_reads.specs.Sources.{IsWrong}
-use Rattle.trace_judge.specs.declared.Forced.{Forced}
-use Rattle.trace_judge.specs.declared.Forced.TheVariants.{Rising, Cycle}
+use Rattle.trace_rules.specs.Trace.{Trace, Writer}
+use Rattle.trace_rules.specs.Stamping.{Asked, Stampable}
+use Rattle.outer_reads.specs.declared.writings.Writing.{Writing}
+use Rattle.outer_reads.specs.declared.readings.Reading.{Reading}
+use Rattle.outer_reads.specs.Sources.{AreKnown, IsWrong, trace_of}
+use Rattle.trace_edges.specs.Edges.{starts_of}
 use Rattle.trace_judge.specs.declared.Verdict.{Verdict}
 use Rattle.trace_judge.specs.declared.Verdict.TheVariants.{Holds, WrongRead, Refused, Undecided}
 
--- no stamps make the trace isolated
-abbrev pub NoStamps : Level → Trace → Type 0
-NoStamps level trace = Stampable level no_wants trace → ⊥
+-- no stamps make the trace isolated and keep what is asked for
+abbrev pub NoStamps : Level → Asked → Trace → Type 0
+NoStamps level asked trace = Stampable level asked trace → ⊥
 
-abbrev pub IsVerdict : Level → Trace → Verdict → Type 0
-IsVerdict level trace (Holds numbers) = Stampable level no_wants trace
-IsVerdict level trace (WrongRead place) = IsWrong trace place × NoStamps level trace
-IsVerdict level trace (Refused cycle) = NoStamps level trace
-IsVerdict level trace Undecided = Unit {0}
+-- two transactions wrote the key, and an order of them was tried
+pub record IsTried (trace : Trace) (key : ℕ) : Type 0 where
+  pub first : ℕ
+  pub second : ℕ
+  pub value : ℕ
+  pub other : ℕ
+  pub apart : first ≢ second
+  pub one : Writer trace first key value
+  pub two : Writer trace second key other
 
-abbrev pub IsForced : Level → Trace → Forced → Type 0
-IsForced level trace (Rising numbers) = Unit {0}
-IsForced level trace (Cycle edges) = NoStamps level trace
+abbrev pub IsVerdict : Level → Asked → Trace → Verdict → Type 0
+IsVerdict level asked trace (Holds numbers) = Stampable level asked trace
+IsVerdict level asked trace (WrongRead place) = IsWrong trace place × NoStamps level asked trace
+IsVerdict level asked trace (Refused cycle) = NoStamps level asked trace
+IsVerdict level asked trace (Undecided key) = IfSome key (λ k. IsTried trace k)
+
+-- at the level that has so many starts, whatever is asked for, no stamps make a trace isolated of which these are the reads and versions
+abbrev pub Refuses : List Transaction → List Reading → List Writing → ℕ → Type 0
+Refuses transactions readings order starts = (level : Level) (asked : Asked) (operations : List Operation) → starts ≡ starts_of level (length transactions) → AreKnown (trace_of transactions operations) readings order → NoStamps level asked (trace_of transactions operations)
+
+-- the order has two versions of the key, by different writers
+pub record IsShared (order : List Writing) (key : ℕ) : Type 0 where
+  pub i : ℕ
+  pub j : ℕ
+  pub a : Writing
+  pub b : Writing
+  pub at_a : slice_get order i ≡ Some a
+  pub at_b : slice_get order j ≡ Some b
+  pub key_a : a.key ≡ key
+  pub key_b : b.key ≡ key
+  pub apart : a.txn ≢ b.txn

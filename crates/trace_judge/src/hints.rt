@@ -175,6 +175,20 @@ fn places_of_readings(
     Ok(places)
 }
 
+/// For each reading the place of what was read, as in the hints.
+pub fn places_of(
+    alloc: Global,
+    readings: &[Reading],
+    order: &[Writing],
+) -> Result<Vec<usize>, AllocError> {
+    let stands = places_of_versions(alloc, order)?;
+    let mut places = Vec::new(alloc);
+    for reading in readings {
+        places.push(place_of(&stands, order, *reading))?;
+    }
+    Ok(places)
+}
+
 fn place_of(stands: &HashMap<(usize, u64), usize>, order: &[Writing], reading: Reading) -> usize {
     match reading.answer {
         None => first_at(order, reading.key),

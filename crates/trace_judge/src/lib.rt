@@ -1,24 +1,28 @@
 //! The judge of traces without stamps.
 #![tactic(auto)]
 
-ghost use Rattle.std.specs.Prelude.{◌≡◌, true, List, IfOk, IfSome, length};
+ghost use Rattle.std.specs.Prelude.{◌≡◌, ◌≤◌, true, List, IfOk, IfSome, length, slice_get};
 ghost use Rattle.std.specs.List.Sorted.{IsPermutation};
 ghost use Rattle.trace_rules.specs.declared.trace.Operation.{Operation};
 ghost use Rattle.trace_rules.specs.Stamping.{Stampable};
-ghost use Rattle.trace_rules.specs.Wants.{no_wants};
+ghost use Rattle.trace_rules.specs.Wants.{asked_of, no_wants};
 ghost use Rattle.outer_reads.specs.Sources.{AreKnown, trace_of};
 ghost use Rattle.trace_edges.specs.Edges as edges_of;
-ghost use Rattle.trace_judge.specs.Verdicts.{IsForced, IsVerdict, NoStamps};
+ghost use Rattle.rising_numbers.specs.Rises.{AreWithin};
+ghost use Rattle.version_orders.specs.Orders.{AreSure};
+ghost use Rattle.trace_judge.specs.Verdicts.{IsShared, IsVerdict, NoStamps, Refuses};
 
 mod hints;
 
-use hints::{Hints, hints_of, number_at};
+use asked_orders::{Nodes, Plan, keep_asked, lay_asked, plan_of};
+use hints::{hints_of, number_at, places_of};
 use outer_reads::{Reading, Sources, Writing, sources_of};
 use rising_numbers::{Edge, Order, numbered};
 use stamp_check::{are_serial, are_stamps};
 use std::alloc::{AllocError, Global};
 use trace_edges::{forced_edges, lay_tried};
-use trace_rules::{Level, Operation, Transaction};
+use trace_rules::{Level, Operation, Times, Transaction, Wanted};
+use version_orders::{Laid, add_orders};
 
 /// What is found of a trace.
 #[derive(Drop)]
@@ -30,19 +34,13 @@ pub enum Verdict {
     WrongRead(usize),
     /// There are none: these edges hold in all stamps, and lead from a node back to it. Nodes are numbered as stamps are in Holds.
     Refused(Vec<Edge>),
-    /// The order of a key's versions was tried where nothing forces it, and led to no stamps.
-    Undecided,
+    /// The order of a key's versions was tried where nothing forces it, and led to no stamps: of this key, where one was found that
+    /// several transactions wrote.
+    Undecided(Option<u64>),
 }
 
-/// What the edges that hold in all stamps come to.
-#[derive(Drop)]
-enum Forced {
-    Rising(Vec<usize>),
-    Cycle(Vec<Edge>),
-}
-
-/// How many times versions are sorted by what is known of their writers.
-const ROUNDS: usize = 3;
+/// How many times at most versions are sorted, and edges added that follow of their order.
+const ROUNDS: usize = 8;
 
 /// Judges a trace: whether there are stamps for the transactions that make it isolated, at the level. For n operations it takes a
 /// time in proportion to n log n, and memory in proportion to n.
@@ -52,13 +50,36 @@ pub fn judge(
     transactions: &[Transaction],
     operations: &[Operation],
 ) -> Result<Verdict, AllocError>
-    ensures { IfOk result (λ verdict. IsVerdict level (trace_of transactions.now operations.now) verdict) }
+    ensures { IfOk result (λ verdict. IsVerdict level no_wants (trace_of transactions.now operations.now) verdict) }
+{
+    judge_wanted(alloc, level, Wanted::Nothing, transactions, &[], operations)
+}
+
+/// Judges a trace as `judge` does, where the stamps are to keep an order besides: the moments that are known of each
+/// transaction are given by its place.
+pub fn judge_wanted(
+    alloc: Global,
+    level: Level,
+    wanted: Wanted,
+    transactions: &[Transaction],
+    times: &[Times],
+    operations: &[Operation],
+) -> Result<Verdict, AllocError>
+    ensures { IfOk result (λ verdict. IsVerdict level (asked_of wanted level times.now (trace_of transactions.now operations.now)) (trace_of transactions.now operations.now) verdict) }
 {
     match sources_of(alloc, transactions, operations)? {
         Sources::WrongRead(place) => Ok(Verdict::WrongRead(place)),
         Sources::Known(readings, writings) => {
             let mut order = writings;
-            judge_known(alloc, level, transactions, &readings, &mut order)
+            judge_known(
+                alloc,
+                level,
+                wanted,
+                transactions,
+                times,
+                &readings,
+                &mut order,
+            )
         }
     }
 }
@@ -67,58 +88,149 @@ pub fn judge(
 fn judge_known(
     alloc: Global,
     level: Level,
+    wanted: Wanted,
     transactions: &[Transaction],
+    times: &[Times],
     readings: &[Reading],
     order: &mut Vec<Writing>,
 ) -> Result<Verdict, AllocError>
     ensures { IfOk result (λ verdict. (operations : List Operation) → AreKnown (trace_of transactions.now operations) readings.now order.old.items →
-        IsVerdict level (trace_of transactions.now operations) verdict) }
+        IsVerdict level (asked_of wanted level times.now (trace_of transactions.now operations)) (trace_of transactions.now operations) verdict) }
 {
+    let plan = plan_of(alloc, wanted, level, transactions, times)?;
+    let nodes = nodes_of(level, transactions.len(), plan.moments.len());
     sort_by(order, &[]);
+    let mut edges = sure_edges(
+        alloc,
+        transactions,
+        readings,
+        order,
+        nodes.starts,
+        nodes.points,
+    )?;
+    let mut laid = Laid::new(alloc);
     for round in 0..ROUNDS {
-        if let Some(cycle) = sort_round(alloc, level, transactions, readings, order)? {
+        if let Some(cycle) = sort_round(
+            alloc,
+            transactions,
+            readings,
+            order,
+            &mut edges,
+            &mut laid,
+            nodes.starts,
+            nodes.points,
+        )? {
             return Ok(Verdict::Refused(cycle));
         }
     }
-    try_order(alloc, level, transactions, readings, order)
+    judge_asked(
+        alloc,
+        level,
+        wanted,
+        transactions,
+        times,
+        &plan,
+        readings,
+        order,
+        &mut edges,
+        nodes,
+    )
 }
 
-/// Sorts the versions by what is known of their writers, or finds a cycle of edges that hold in all stamps.
-fn sort_round(
+/// Judges a trace of which edges are sure, with those of the order that is asked for behind them.
+fn judge_asked(
     alloc: Global,
     level: Level,
+    wanted: Wanted,
     transactions: &[Transaction],
+    times: &[Times],
+    plan: &Plan,
     readings: &[Reading],
     order: &mut Vec<Writing>,
-) -> Result<Option<Vec<Edge>>, AllocError>
-    ensures permutation { IfOk result (λ cycle. IsPermutation order.old.items order.new.items) }
-    ensures refused { IfOk result (λ cycle. IfSome cycle (λ edges. (operations : List Operation) → AreKnown (trace_of transactions.now operations) readings.now order.old.items →
-        NoStamps level (trace_of transactions.now operations))) }
+    edges: &mut Vec<Edge>,
+    nodes: Nodes,
+) -> Result<Verdict, AllocError>
+    requires starts { nodes.starts ≡ edges_of.starts_of level (length transactions.now) }
+    requires points { nodes.points ≤ nodes.all }
+    requires sure { AreSure transactions.now readings.now order.old.items nodes.starts nodes.points edges.old.items }
+    ensures { IfOk result (λ verdict. (operations : List Operation) → AreKnown (trace_of transactions.now operations) readings.now order.old.items →
+        IsVerdict level (asked_of wanted level times.now (trace_of transactions.now operations)) (trace_of transactions.now operations) verdict) }
 {
-    match forced_order(alloc, level, transactions, readings, order)? {
-        Forced::Cycle(cycle) => Ok(Some(cycle)),
-        Forced::Rising(numbers) => {
+    if let Some(cycle) = sort_asked(
+        alloc,
+        level,
+        wanted,
+        transactions,
+        times,
+        plan,
+        readings,
+        order,
+        edges,
+        nodes,
+    )? {
+        return Ok(Verdict::Refused(cycle));
+    }
+    try_order(
+        alloc,
+        level,
+        wanted,
+        transactions,
+        times,
+        plan,
+        readings,
+        order,
+        edges,
+        nodes,
+    )
+}
+
+/// Lays the edges of the order that is asked for, and sorts the versions by the numbers that all of them allow, or finds a cycle.
+fn sort_asked(
+    alloc: Global,
+    level: Level,
+    wanted: Wanted,
+    transactions: &[Transaction],
+    times: &[Times],
+    plan: &Plan,
+    readings: &[Reading],
+    order: &mut Vec<Writing>,
+    edges: &mut Vec<Edge>,
+    nodes: Nodes,
+) -> Result<Option<Vec<Edge>>, AllocError>
+    requires starts { nodes.starts ≡ edges_of.starts_of level (length transactions.now) }
+    requires points { nodes.points ≤ nodes.all }
+    requires sure { AreSure transactions.now readings.now order.old.items nodes.starts nodes.points edges.old.items }
+    ensures permutation { IfOk result (λ cycle. IsPermutation order.old.items order.new.items) }
+    ensures within { IfOk result (λ cycle. AreWithin nodes.all edges.new.items) }
+    ensures refused { IfOk result (λ cycle. IfSome cycle (λ found. (operations : List Operation) → AreKnown (trace_of transactions.now operations) readings.now order.old.items →
+        NoStamps level (asked_of wanted level times.now (trace_of transactions.now operations)) (trace_of transactions.now operations))) }
+{
+    lay_asked(edges, wanted, level, transactions, times, plan, nodes)?;
+    match numbered(alloc, nodes.all, edges)? {
+        Order::Cycle(places) => {
+            let cycle = edges_at(alloc, edges, &places)?;
+            Ok(Some(cycle))
+        }
+        Order::Rising(numbers) => {
             sort_by(order, &numbers);
             Ok(None)
         }
     }
 }
 
-/// The numbers that the edges which hold in all stamps allow, or a cycle of these.
-fn forced_order(
+/// The edges that hold in all stamps, before any order of versions is known.
+fn sure_edges(
     alloc: Global,
-    level: Level,
     transactions: &[Transaction],
     readings: &[Reading],
     order: &[Writing],
-) -> Result<Forced, AllocError>
-    ensures { IfOk result (λ found. (operations : List Operation) → AreKnown (trace_of transactions.now operations) readings.now order.now →
-        IsForced level (trace_of transactions.now operations) found) }
+    starts: usize,
+    nodes: usize,
+) -> Result<Vec<Edge>, AllocError>
+    ensures { IfOk result (λ edges. AreSure transactions.now readings.now order.now starts nodes edges.items) }
 {
-    let starts = starts_of(level, transactions.len());
-    let nodes = starts.saturating_add(transactions.len());
     let hints = hints_of(alloc, readings, order)?;
-    let edges = forced_edges(
+    forced_edges(
         alloc,
         transactions,
         readings,
@@ -126,10 +238,42 @@ fn forced_order(
         &hints.heirs,
         starts,
         nodes,
-    )?;
-    match numbered(alloc, nodes, &edges)? {
-        Order::Rising(numbers) => Ok(Forced::Rising(numbers)),
-        Order::Cycle(places) => Ok(Forced::Cycle(edges_at(alloc, &edges, &places)?)),
+    )
+}
+
+/// Sorts the versions by the numbers that the edges allow, and adds the edges that follow; or finds a cycle of edges, all of which
+/// hold in all stamps. Where no edge was added since the last time, nothing is done.
+fn sort_round(
+    alloc: Global,
+    transactions: &[Transaction],
+    readings: &[Reading],
+    order: &mut Vec<Writing>,
+    edges: &mut Vec<Edge>,
+    laid: &mut Laid,
+    starts: usize,
+    nodes: usize,
+) -> Result<Option<Vec<Edge>>, AllocError>
+    requires { AreSure transactions.now readings.now order.old.items starts nodes edges.old.items }
+    ensures permutation { IfOk result (λ cycle. IsPermutation order.old.items order.new.items) }
+    ensures sure { IfOk result (λ cycle. AreSure transactions.now readings.now order.new.items starts nodes edges.new.items) }
+    ensures refused { IfOk result (λ cycle. IfSome cycle (λ found. Refuses transactions.now readings.now order.old.items starts)) }
+{
+    if !laid.take_news() {
+        return Ok(None);
+    }
+    match numbered(alloc, nodes, edges)? {
+        Order::Cycle(places) => {
+            let cycle = edges_at(alloc, edges, &places)?;
+            Ok(Some(cycle))
+        }
+        Order::Rising(numbers) => {
+            sort_by(order, &numbers);
+            let places = places_of(alloc, readings, order)?;
+            add_orders(
+                alloc, readings, &places, order, &numbers, edges, laid, starts, nodes,
+            )?;
+            Ok(None)
+        }
     }
 }
 
@@ -137,60 +281,153 @@ fn forced_order(
 fn try_order(
     alloc: Global,
     level: Level,
+    wanted: Wanted,
     transactions: &[Transaction],
+    times: &[Times],
+    plan: &Plan,
     readings: &[Reading],
     order: &[Writing],
+    edges: &mut Vec<Edge>,
+    nodes: Nodes,
 ) -> Result<Verdict, AllocError>
+    requires starts { nodes.starts ≡ edges_of.starts_of level (length transactions.now) }
+    requires within { AreWithin nodes.all edges.old.items }
     ensures { IfOk result (λ verdict. (operations : List Operation) → AreKnown (trace_of transactions.now operations) readings.now order.now →
-        IsVerdict level (trace_of transactions.now operations) verdict) }
+        IsVerdict level (asked_of wanted level times.now (trace_of transactions.now operations)) (trace_of transactions.now operations) verdict) }
 {
-    let starts = starts_of(level, transactions.len());
-    let nodes = starts.saturating_add(transactions.len());
     let hints = hints_of(alloc, readings, order)?;
-    let mut edges = forced_edges(
-        alloc,
-        transactions,
+    let sure = edges.len();
+    lay_tried(
+        edges,
         readings,
         order,
-        &hints.heirs,
-        starts,
-        nodes,
+        &hints.next,
+        nodes.starts,
+        nodes.all,
     )?;
-    lay_tried(&mut edges, readings, order, &hints.next, starts, nodes)?;
-    match numbered(alloc, nodes, &edges)? {
-        Order::Cycle(_) => Ok(Verdict::Undecided),
+    match numbered(alloc, nodes.all, edges)? {
+        Order::Cycle(places) => {
+            let tried = first_tried(edges, sure, &places);
+            Ok(Verdict::Undecided(tried_key(order, nodes.starts, tried)))
+        }
         Order::Rising(numbers) => {
             if are_right(
                 level,
+                wanted,
                 transactions,
+                times,
+                plan,
                 readings,
                 &hints.places,
                 order,
+                nodes,
                 &numbers,
             ) {
                 Ok(Verdict::Holds(numbers))
             } else {
-                Ok(Verdict::Undecided)
+                Ok(Verdict::Undecided(None))
             }
         }
     }
 }
 
-/// Whether the numbers make stamps at the level.
+/// Whether the numbers make stamps at the level that keep what is asked for.
 fn are_right(
     level: Level,
+    wanted: Wanted,
     transactions: &[Transaction],
+    times: &[Times],
+    plan: &Plan,
     readings: &[Reading],
     places: &[usize],
     order: &[Writing],
+    nodes: Nodes,
     numbers: &[usize],
 ) -> bool
+    requires { nodes.starts ≡ edges_of.starts_of level (length transactions.now) }
     ensures { result ≡ true → (operations : List Operation) → AreKnown (trace_of transactions.now operations) readings.now order.now →
-        Stampable level no_wants (trace_of transactions.now operations) }
+        Stampable level (asked_of wanted level times.now (trace_of transactions.now operations)) (trace_of transactions.now operations) }
 {
+    if !keep_asked(wanted, level, transactions, times, plan, nodes, numbers) {
+        return false;
+    }
     match level {
         Level::Snapshot => are_stamps(transactions, readings, places, order, numbers),
         Level::Serializable => are_serial(readings, places, order, numbers),
+    }
+}
+
+/// The numbers of nodes, for so many transactions and moments.
+fn nodes_of(level: Level, transactions: usize, moments: usize) -> Nodes
+    ensures starts { result.starts ≡ edges_of.starts_of level transactions }
+    ensures all { result.points ≤ result.all }
+{
+    let starts = starts_of(level, transactions);
+    let points = starts.saturating_add(transactions);
+    Nodes {
+        starts,
+        points,
+        all: points.saturating_add(moments),
+    }
+}
+
+/// The first of the edges at the places that stands behind the sure ones.
+fn first_tried(edges: &[Edge], sure: usize, places: &[usize]) -> Option<Edge> {
+    for place in places {
+        if *place >= sure {
+            return edges.get(*place).copied();
+        }
+    }
+    None
+}
+
+/// The key of two neighbours of the order that the edge was to order, or one of which it has a reader come before.
+fn tried_key(order: &[Writing], starts: usize, tried: Option<Edge>) -> Option<u64>
+    ensures { IfSome result (λ key. IsShared order.now key) }
+{
+    for next in 1..order.len() {
+        if let Some(key) = key_between(order, next.saturating_sub(1), next, starts, tried) {
+            return Some(key);
+        }
+    }
+    None
+}
+
+fn key_between(
+    order: &[Writing],
+    i: usize,
+    j: usize,
+    starts: usize,
+    tried: Option<Edge>,
+) -> Option<u64>
+    ensures { IfSome result (λ key. IsShared order.now key) }
+{
+    let a = version_at(order, i)?;
+    let b = version_at(order, j)?;
+    if a.key == b.key && a.txn != b.txn && is_between(starts, tried, a.txn, b.txn) {
+        Some(a.key)
+    } else {
+        None
+    }
+}
+
+/// Whether the edge leads from the commit of the first to the start of the second, or to the commit of the second.
+fn is_between(starts: usize, tried: Option<Edge>, first: usize, second: usize) -> bool {
+    match tried {
+        None => false,
+        Some(edge) => {
+            edge.to == starts.saturating_add(second)
+                || edge.to == second && edge.from == starts.saturating_add(first)
+        }
+    }
+}
+
+fn version_at(order: &[Writing], place: usize) -> Option<Writing>
+    ensures { result ≡ slice_get order.now place }
+{
+    match order.get(place) {
+        None => None,
+        Some(version) => Some(*version),
     }
 }
 

@@ -1,30 +1,30 @@
-use Rattle.std.proofs.Common.{◌≡◌, List, subst}
+use Rattle.std.proofs.Common.{List}
 use Rattle.std.specs.List.Sorted.{IsPermutation}
 use Rattle.std.proofs.lemmas.List.Sorted.{IsPermutation-trans}
 use Rattle.std.proofs.lemmas.Result.{IfOk-weaker}
 use Rattle.trace_rules.specs.declared.trace.Operation.{Operation}
-use Rattle.outer_reads.specs.declared.writings.Writing.{Writing}
+use Rattle.trace_rules.specs.Wants.{asked_of}
 use Rattle.outer_reads.specs.Sources.{AreKnown, trace_of}
 use Rattle.trace_judge.specs.declared.Verdict.{Verdict}
-use Rattle.trace_judge.specs.Verdicts.{IsVerdict, NoStamps}
+use Rattle.trace_judge.specs.Verdicts.{IsVerdict, Refuses}
 use Rattle.trace_judge.proofs.JudgeLemmas.{if_some_at, known_still}
 use Rattle.trace_judge.proofs.judge_known.Goals as goal
 
 pub returns-in-Some : goal.returns-in-Some
 returns-in-Some c = λ operations known.
-    if_some_at c.in_ok-cycle.field-0 ((os : List Operation) → AreKnown (trace_of c.args.transactions.now os) c.args.readings.now c.loop-round.order.items → NoStamps c.args.level (trace_of c.args.transactions.now os)) c.in-Some.cycle c.in-Some.is c.in_ok-cycle.ensures.refused
-    operations (known_still (trace_of c.args.transactions.now operations) c.args.readings.now c.args.order.now.items c.loop-round.order.items c.loop-round.invariant known)
+    if_some_at c.in_ok-cycle.field-0 (Refuses c.args.transactions.now c.args.readings.now c.loop-round.order.items c.nodes_of-nodes.result.starts) c.in-Some.cycle c.in-Some.is c.in_ok-cycle.ensures.refused
+    c.args.level (asked_of c.args.wanted c.args.level c.args.times.now (trace_of c.args.transactions.now operations)) operations c.nodes_of-nodes.ensures.starts
+    (known_still (trace_of c.args.transactions.now operations) c.args.readings.now c.args.order.now.items c.loop-round.order.items c.loop-round.invariant.permutation known)
 
 pub loop-round-preserved : goal.loop-round-preserved
-loop-round-preserved c = IsPermutation-trans c.args.order.now.items c.loop-round.order.items c.sort_round.new.order.items c.loop-round.invariant c.in_ok-cycle.ensures.permutation
+loop-round-preserved c = record {
+  permutation = IsPermutation-trans c.args.order.now.items c.loop-round.order.items c.sort_round.new.order.items c.loop-round.invariant.permutation c.in_ok-cycle.ensures.permutation;
+  sure = c.in_ok-cycle.ensures.sure;
+}
 
 pub returns : goal.returns
-returns c =
-    let value = c.deref.ensures.value in
-    let same : c.loop-round.order.items ≡ c.deref.result.now = cc in
-    let still : IsPermutation c.args.order.now.items c.deref.result.now = subst (λ (xs : List Writing). IsPermutation c.args.order.now.items xs) same c.loop-round.invariant in
-    IfOk-weaker c.try_order.result
-    (λ (verdict : Verdict). (operations : List Operation) → AreKnown (trace_of c.args.transactions.now operations) c.args.readings.now c.deref.result.now → IsVerdict c.args.level (trace_of c.args.transactions.now operations) verdict)
-    (λ (verdict : Verdict). (operations : List Operation) → AreKnown (trace_of c.args.transactions.now operations) c.args.readings.now c.args.order.now.items → IsVerdict c.args.level (trace_of c.args.transactions.now operations) verdict)
-    (λ verdict said operations known. said operations (known_still (trace_of c.args.transactions.now operations) c.args.readings.now c.args.order.now.items c.deref.result.now still known))
-    c.try_order.ensures
+returns c = IfOk-weaker c.judge_asked.result
+    (λ (verdict : Verdict). (operations : List Operation) → AreKnown (trace_of c.args.transactions.now operations) c.args.readings.now c.loop-round.order.items → IsVerdict c.args.level (asked_of c.args.wanted c.args.level c.args.times.now (trace_of c.args.transactions.now operations)) (trace_of c.args.transactions.now operations) verdict)
+    (λ (verdict : Verdict). (operations : List Operation) → AreKnown (trace_of c.args.transactions.now operations) c.args.readings.now c.args.order.now.items → IsVerdict c.args.level (asked_of c.args.wanted c.args.level c.args.times.now (trace_of c.args.transactions.now operations)) (trace_of c.args.transactions.now operations) verdict)
+    (λ verdict said operations known. said operations (known_still (trace_of c.args.transactions.now operations) c.args.readings.now c.args.order.now.items c.loop-round.order.items c.loop-round.invariant.permutation known))
+    c.judge_asked.ensures

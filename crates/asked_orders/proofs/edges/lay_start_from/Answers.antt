@@ -1,0 +1,15 @@
+use Rattle.std.proofs.Common.{ℕ, Option, sym, subst, ◌∙◌}
+use Rattle.std.proofs.lemmas.Result.{on_ok_weaker}
+use Rattle.trace_edges.proofs.EdgeLemmas.{within_laid}
+use Rattle.asked_orders.specs.Laid.{IsFrom}
+use Rattle.asked_orders.proofs.JoinLemmas.{start_from_still}
+use Rattle.asked_orders.proofs.edges.lay_start_from.Goals as goal
+
+pub returns-in-Some-clause-within : goal.returns-in-Some-clause-within
+returns-in-Some-clause-within c = on_ok_weaker c.lay.result (λ may within. within_laid c.args.nodes.all c.in-Some.edge c.args.edges.now.items c.lay.new.edges.items may within) c.lay.ensures
+
+pub returns-in-Some-clause-joined : goal.returns-in-Some-clause-joined
+returns-in-Some-clause-joined c = on_ok_weaker c.lay.result (λ may.
+    start_from_still c.args.level c.args.times.now c.args.transactions.now c.args.nodes.starts c.args.nodes.points c.args.nodes.all c.args.moments.now c.args.edges.now.items c.lay.new.edges.items c.in-Some.edge may
+    c.args.txn (sym c.is_committed.ensures ∙ c.if-not-is_committed.false)
+    (subst (λ (o : Option ℕ). IsFrom c.args.moments.now c.args.nodes.points c.args.txn o c.in-Some.edge) c.from_start.ensures c.in-Some.ensures)) c.lay.ensures
