@@ -256,7 +256,12 @@ fn lay_commit_from(
     if !is_committed(transactions, txn) {
         return Ok(());
     }
-    match from_edge(moments, nodes.points, commit, from_commit(level, times, txn)) {
+    match from_edge(
+        moments,
+        nodes.points,
+        commit,
+        from_commit(level, times, txn),
+    ) {
         None => Ok(()),
         Some(edge) => lay(edges, nodes.all, edge),
     }
@@ -279,7 +284,12 @@ fn lay_commit_until(
     if !is_committed(transactions, txn) {
         return Ok(());
     }
-    match until_edge(moments, nodes.points, commit, until_commit(level, times, txn)) {
+    match until_edge(
+        moments,
+        nodes.points,
+        commit,
+        until_commit(level, times, txn),
+    ) {
         None => Ok(()),
         Some(edge) => lay(edges, nodes.all, edge),
     }
@@ -305,12 +315,7 @@ fn lay_next(
 }
 
 /// From a node to the first moment that is not below the one by which its point came.
-fn until_edge(
-    moments: &[u64],
-    points: usize,
-    node: usize,
-    until: Option<u64>,
-) -> Option<Edge>
+fn until_edge(moments: &[u64], points: usize, node: usize, until: Option<u64>) -> Option<Edge>
     ensures { IfSome result (λ edge. IsUntil moments.now points node until edge) }
 {
     match until {
@@ -331,12 +336,7 @@ fn until_edge(
 }
 
 /// To a node from the last moment below the one behind which its point came.
-fn from_edge(
-    moments: &[u64],
-    points: usize,
-    node: usize,
-    from: Option<u64>,
-) -> Option<Edge>
+fn from_edge(moments: &[u64], points: usize, node: usize, from: Option<u64>) -> Option<Edge>
     ensures { IfSome result (λ edge. IsFrom moments.now points node from edge) }
 {
     match from {

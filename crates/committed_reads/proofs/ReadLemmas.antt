@@ -125,6 +125,6 @@ module _ (trace : Trace) (readings : List Reading) (writings : List Writing) (co
         let there = known.read.all outer.place t k (Some found) (slice_get_within trace.operations outer.place _ outer.read.stands) outer.read in
         let source = known.sourced.outer t k found outer in
         let edge = laid.all there.0 (record { place = outer.place; txn = t; key = k; answer = Some found }) found (slice_get_within readings there.0 _ there.1) there.1 refl
-            (subst (λ (n : ℕ). found.from < n) (sym is) (done_within trace found.from source.done)) (subst (λ (n : ℕ). t < n) (sym is) (done_within trace t outer.read.done)) in
+        (subst (λ (n : ℕ). found.from < n) (sym is) (done_within trace found.from source.done)) (subst (λ (n : ℕ). t < n) (sym is) (done_within trace t outer.read.done)) in
         rises.each edge.0 (record { from = found.from; to = t }) edge.1;
   }

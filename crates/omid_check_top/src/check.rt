@@ -125,7 +125,10 @@ fn say_usage<K: Sink>(sink: &mut K, code: u8) -> u8
     ensures failed { result ≡ 5 → Risen (K.faults sink.old) (K.faults sink.new) }
     ensures worked { result ≢ 5 → K.faults sink.new ≡ K.faults sink.old }
 {
-    match print_text(sink, b"usage: omid_check snapshot | serializable [session | real-time], committed, or help\n") {
+    match print_text(
+        sink,
+        b"usage: omid_check snapshot | serializable [session | real-time], committed, or help\n",
+    ) {
         Ok(()) => code,
         Err(Failed) => status::SINK_FAILED,
     }

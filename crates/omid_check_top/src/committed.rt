@@ -17,11 +17,7 @@ use trace_rules::{Level, Wanted};
 
 /// Whether each read is of a committed transaction's last write, and none goes round.
 #[tactic(auto, using(crate::proofs::MadeLemmas::is_committed, crate::proofs::MadeLemmas::is_wrong_committed, crate::proofs::MadeLemmas::is_committed_shown))]
-pub fn committed(
-    alloc: Global,
-    recording: &Recording,
-    indexed: &Indexed,
-) -> Result<Made, NoMemory>
+pub fn committed(alloc: Global, recording: &Recording, indexed: &Indexed) -> Result<Made, NoMemory>
     ensures found { IfOk result (λ made. IsCommitted (subject_of recording.now indexed.now.attempts.items indexed.now.trace indexed.now.times.items) made.code made.text.items) }
     ensures codes { IfOk result (λ made. IsVerdict made.code) }
 {

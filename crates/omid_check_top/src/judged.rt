@@ -63,12 +63,7 @@ fn isolated(
 }
 
 /// That there are stamps for so many transactions.
-fn holds(
-    alloc: Global,
-    level: Level,
-    wanted: Wanted,
-    transactions: usize,
-) -> Result<Made, NoMemory>
+fn holds(alloc: Global, level: Level, wanted: Wanted, transactions: usize) -> Result<Made, NoMemory>
     ensures code { IfOk result (λ made. made.code ≡ 0) }
     ensures told { IfOk result (λ made. made.text.items ≡ holds_text level wanted transactions) }
 {

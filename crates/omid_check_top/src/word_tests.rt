@@ -67,7 +67,12 @@ fn called(alloc: Global, words: &str, trace: &str) -> Result<(u8, Vec<u8>), Fail
 #[test]
 fn levels_differ(rt: HostRuntime) -> Result<(), Fail> {
     for (words, trace, status, told) in [
-        ("snapshot", SKEW, status::DONE, "snapshot isolated transactions=3\n"),
+        (
+            "snapshot",
+            SKEW,
+            status::DONE,
+            "snapshot isolated transactions=3\n",
+        ),
         (
             "serializable",
             SKEW,
@@ -87,8 +92,18 @@ fn levels_differ(rt: HostRuntime) -> Result<(), Fail> {
 #[test]
 fn sessions_see_their_commits(rt: HostRuntime) -> Result<(), Fail> {
     for (words, trace, status, told) in [
-        ("snapshot", FORGOTTEN, status::DONE, "snapshot isolated transactions=2\n"),
-        ("serializable", FORGOTTEN, status::DONE, "serializable transactions=2\n"),
+        (
+            "snapshot",
+            FORGOTTEN,
+            status::DONE,
+            "snapshot isolated transactions=2\n",
+        ),
+        (
+            "serializable",
+            FORGOTTEN,
+            status::DONE,
+            "serializable transactions=2\n",
+        ),
         (
             "snapshot session",
             FORGOTTEN,
@@ -99,10 +114,20 @@ fn sessions_see_their_commits(rt: HostRuntime) -> Result<(), Fail> {
             "serializable session",
             FORGOTTEN,
             status::REFUSED,
-            "not serializable in sessions: G-single\n  line 2 r x before line 1 w x (rw)\n  line 1 before line 2 (session)\n",
+            "not serializable in sessions: G-single\n  line 1 before line 2 (session)\n  line 2 r x before line 1 w x (rw)\n",
         ),
-        ("snapshot session", UNSEEN, status::DONE, "snapshot isolated in sessions transactions=2\n"),
-        ("serializable session", UNSEEN, status::DONE, "serializable in sessions transactions=2\n"),
+        (
+            "snapshot session",
+            UNSEEN,
+            status::DONE,
+            "snapshot isolated in sessions transactions=2\n",
+        ),
+        (
+            "serializable session",
+            UNSEEN,
+            status::DONE,
+            "serializable in sessions transactions=2\n",
+        ),
     ] {
         let (code, held) = called(rt.alloc(), words, trace)?;
         assert_eq!(rt; code, status);
@@ -114,7 +139,12 @@ fn sessions_see_their_commits(rt: HostRuntime) -> Result<(), Fail> {
 #[test]
 fn time_is_kept(rt: HostRuntime) -> Result<(), Fail> {
     for (words, trace, status, told) in [
-        ("snapshot session", STALE, status::DONE, "snapshot isolated in sessions transactions=2\n"),
+        (
+            "snapshot session",
+            STALE,
+            status::DONE,
+            "snapshot isolated in sessions transactions=2\n",
+        ),
         (
             "snapshot real-time",
             STALE,
@@ -125,10 +155,20 @@ fn time_is_kept(rt: HostRuntime) -> Result<(), Fail> {
             "serializable real-time",
             STALE,
             status::REFUSED,
-            "not serializable in real time: G-single\n  line 4 r x before line 2 w x (rw)\n  line 2 before line 4 (real time)\n",
+            "not serializable in real time: G-single\n  line 2 before line 4 (real time)\n  line 4 r x before line 2 w x (rw)\n",
         ),
-        ("snapshot real-time", BESIDE, status::DONE, "snapshot isolated in real time transactions=2\n"),
-        ("serializable real-time", BESIDE, status::DONE, "serializable in real time transactions=2\n"),
+        (
+            "snapshot real-time",
+            BESIDE,
+            status::DONE,
+            "snapshot isolated in real time transactions=2\n",
+        ),
+        (
+            "serializable real-time",
+            BESIDE,
+            status::DONE,
+            "serializable in real time transactions=2\n",
+        ),
     ] {
         let (code, held) = called(rt.alloc(), words, trace)?;
         assert_eq!(rt; code, status);
@@ -168,7 +208,11 @@ fn reads_are_of_committed_transactions(rt: HostRuntime) -> Result<(), Fail> {
             status::REFUSED,
             "not committed reads: G1c\n  line 1 w x before line 2 r x (wr)\n  line 2 w y before line 1 r y (wr)\n",
         ),
-        (DIRTY, status::REFUSED, "not committed reads: dirty read (G1a)\n  line 2 r x\n"),
+        (
+            DIRTY,
+            status::REFUSED,
+            "not committed reads: dirty read (G1a)\n  line 2 r x\n",
+        ),
         (
             INTERMEDIATE,
             status::REFUSED,

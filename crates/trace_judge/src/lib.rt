@@ -297,14 +297,7 @@ fn try_order(
 {
     let hints = hints_of(alloc, readings, order)?;
     let sure = edges.len();
-    lay_tried(
-        edges,
-        readings,
-        order,
-        &hints.next,
-        nodes.starts,
-        nodes.all,
-    )?;
+    lay_tried(edges, readings, order, &hints.next, nodes.starts, nodes.all)?;
     match numbered(alloc, nodes.all, edges)? {
         Order::Cycle(places) => {
             let tried = first_tried(edges, sure, &places);
