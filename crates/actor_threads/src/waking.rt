@@ -46,7 +46,7 @@ fn woken_by(actor: Actor, verb: &Verb) -> Woken
 
 // A stage that is held passes over what the instance has left.
 fn wake_users(queues: &Queues, node: NodeNo) {
-    queues.wake_sessions();
+    let _rungs = queues.wake_sessions();
     for stage in [Stage::Request, Stage::Persist, Stage::Reply] {
         queues.wake_stage(node, stage);
     }

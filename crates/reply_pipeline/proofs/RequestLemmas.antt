@@ -1,6 +1,7 @@
 -- A request stage's pass after each of its calls.
-use Rattle.std.proofs.Common.{◌≡◌, ℕ, ◌+◌, ◌-◌, ◌≤◌, true, false, List, [], ◌∷◌, ◌++◌, refl, sym, ap, ◌∙◌, subst, append-nil, append_assoc, arith}
+use Rattle.std.proofs.Common.{◌≡◌, ℕ, ◌+◌, ◌-◌, ◌≤◌, true, false, List, [], ◌∷◌, ◌++◌, length, length-append, inl, inr, refl, sym, ap, ◌∙◌, subst, append-nil, append_assoc, arith}
 use Rattle.std.specs.Prelude.{Option, None, Some, Result, Ok, Err, IfOk, IfSome, IsSomeAnd, IsErr, MatchOption, MatchResult, slice_get}
+use Rattle.std.proofs.lemmas.Option.{slice_get_within}
 use Rattle.std.proofs.lemmas.List.{map-append}
 use Rattle.std.proofs.lemmas.List.Concat.{flat_map-append, flat_map-cons}
 use Rattle.batch_pool.specs.declared.batch.Entry.{Entry}
@@ -15,8 +16,9 @@ use Rattle.batch_rule.proofs.NumberLemmas.{next_after-push}
 use Rattle.stage_queues.specs.Plan.{Plan, NodeRing, node_ring}
 use Rattle.stage_queues.specs.NodePasses.{changed, batch_put, TakesOneOf, TakesTicket, IsOfRing}
 use Rattle.stage_queues.specs.Passes.{StageAccount, at_node, with_node, let_go, ReceivesTickets, SendsBatches}
+use Rattle.stage_queues.proofs.OpeningLemmas.{get_push}
 use Rattle.reply_pipeline.specs.Picks.{IsPickOf}
-use Rattle.reply_pipeline.specs.Requesting.{taken_tickets, put_batches, tickets_at, batches_at, ticket_of, tickets_of, entered, IsRequestPass, IsRequesting, HasRequested, Enters, EntersLeft, MayEnter, KeepsLeft}
+use Rattle.reply_pipeline.specs.Requesting.{taken_tickets, put_batches, tickets_at, batches_at, ticket_of, tickets_of, entered, AreNumbered, IsRequestPass, IsUnused, IsRequesting, HasRequested, Enters, EntersLeft, MayEnter, KeepsLeft}
 use Rattle.reply_pipeline.proofs.ReachLemmas.{rings_here, ring_node, changed_of, both_said, now_here, still_reaches}
 use Rattle.reply_pipeline.proofs.PickLemmas.{pick_one, pick_not, pick_front}
 
@@ -54,9 +56,24 @@ entered-push batches item =
     flat_map-append (λ b. tickets_of b.batch.entries) batches (item ∷ [])
     ∙ ap (λ l. entered batches ++ l) (flat_map-cons (λ b. tickets_of b.batch.entries) item [] ∙ append-nil (tickets_of item.batch.entries))
 
+-- the next number is that of a batch more
+numbered_push : (batches : List Numbered) (item : Numbered) → AreNumbered batches → item.number ≡ length batches → AreNumbered (batches ++ item ∷ [])
+numbered_push batches item h is n batch at = elim (get_push batches item batch n at) [ inl e ↦ h n batch e | inr e ↦ ap (λ (b : Numbered). b.number) (sym e.1) ∙ is ∙ sym e.0 ]
+
 module _ (queues : Plan) (node : ℕ) (p : StageAccount) where
+  -- before the first ticket
+  pub starts : IsRequestPass queues node p → IsUnused node p → p.held ≡ 0 → IsRequesting queues node 0 0 [] p
+  starts h unused holds = record {
+    pass = h;
+    holds = holds;
+    numbered = subst AreNumbered (sym unused.1) (λ n batch at. absurd (let l = slice_get_within [] n batch at in omega arith));
+    next = sym (ap length unused.1);
+    below = (let e = ap (next_after 0) unused.1 in omega arith);
+    enters = subst (λ b. IsPickOf (entered b ++ tickets_of []) (tickets_at p node)) (sym unused.1) (subst (IsPickOf (entered [] ++ tickets_of [])) (sym unused.0) (record { marks = []; fit = refl; is = refl }));
+  }
+
   pub ends_requesting : (number : ℕ) (entries : List Entry) → IsRequesting queues node number 0 entries p → HasRequested queues node p
-  ends_requesting number entries h = record { pass = h.pass; holds = h.holds; enters = pick_front (entered (batches_at p node)) (tickets_of entries) (tickets_at p node) h.enters }
+  ends_requesting number entries h = record { pass = h.pass; holds = h.holds; numbered = h.numbered; enters = pick_front (entered (batches_at p node)) (tickets_of entries) (tickets_at p node) h.enters }
 
   pub may_receive : (ring : NodeRing) → IsRequestPass queues node p → IfSome (slice_get queues.nodes node) (λ rings. ring ≡ node_ring node rings.requests) → ReceivesTickets ring p
   may_receive ring h is = rings_here queues node p _ _ h.reaches is (λ rings of e. subst (λ r. ReceivesTickets r p) (sym e) (record {
@@ -74,6 +91,8 @@ module _ (queues : Plan) (node : ℕ) (p : StageAccount) where
   holds_other q number hand held entries h is = subst (IsRequesting queues node number held entries) (sym is) (record {
     pass = record { reaches = record { there = h.pass.reaches.there; of = h.pass.reaches.of; alone = h.pass.reaches.alone }; takes = h.pass.takes; sends = h.pass.sends };
     holds = refl;
+    numbered = h.numbered;
+    next = h.next;
     below = h.below;
     enters = h.enters;
   })
@@ -101,6 +120,8 @@ module _ (queues : Plan) (node : ℕ) (p : StageAccount) where
     taken_with number hand before after h picks = record {
       pass = still_requests h.pass;
       holds = ap (λ x. x.held) is ∙ h.holds;
+      numbered = subst (λ o. AreNumbered (put_batches o)) (sym same_batches) h.numbered;
+      next = h.next ∙ ap (λ o. length (put_batches o)) (sym same_batches);
       below = subst (λ o. next_after 0 (put_batches o) ≤ number) (sym same_batches) h.below;
       enters = subst (λ o. IsPickOf (entered (put_batches o) ++ tickets_of after) (tickets_at q node)) (sym same_batches) (subst (IsPickOf (entered (batches_at p node) ++ tickets_of after)) (sym more_tickets) (picks h.enters));
     }
@@ -133,6 +154,8 @@ module _ (queues : Plan) (node : ℕ) (p : StageAccount) where
           sends = subst (λ n. IsSomeAnd n.batches (λ r. r.account.sends ≡ true)) (sym here) (sends_still item (at_node p node).batches h.pass.sends);
         };
         holds = ap (λ x. x.held) is ∙ (let e = h.holds in omega arith);
+        numbered = subst AreNumbered (sym put) (numbered_push before item h.numbered h.next);
+        next = (let e = ap length put in let k = h.next in omega (arith, e, k, length-append before (item ∷ [])));
         below = subst (λ l. next_after 0 l ≤ item.number + 1) (sym put) (omega arith);
         enters = subst (λ l. IsPickOf l (tickets_at q node)) (sym whole) (subst (λ n. IsPickOf (entered before ++ tickets_of (item.batch.entries ++ more)) (taken_tickets n.requests)) (sym here) h.enters);
       }

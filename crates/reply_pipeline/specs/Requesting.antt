@@ -1,5 +1,5 @@
 -- What a request stage did through its pass.
-use Rattle.std.specs.Prelude.{⊤, ◌≡◌, ℕ, ◌+◌, ◌≤◌, true, List, [], ◌∷◌, ◌++◌, map, flat_map, Option, None, Some, IfSome, IsSomeAnd}
+use Rattle.std.specs.Prelude.{⊤, ◌≡◌, ℕ, ◌+◌, ◌≤◌, true, List, [], ◌∷◌, ◌++◌, map, flat_map, length, slice_get, Option, None, Some, IfSome, IsSomeAnd}
 use Rattle.batch_pool.specs.declared.batch.Entry.{Entry}
 use Rattle.persist_batches.specs.declared.numbered.Numbered.{Numbered}
 use Rattle.queue_passes.specs.Holds.{Holds}
@@ -59,10 +59,16 @@ entered batches = flat_map (λ batch. tickets_of batch.batch.entries) batches
 abbrev pub EntersTickets : ℕ → StageAccount → Type 0
 EntersTickets node p = IsPickOf (entered (batches_at p node)) (tickets_at p node)
 
--- so while it holds so many batches, with these entries that were not put yet; a further batch may have the number
+-- the batches are numbered 0, 1, 2, ..
+abbrev pub AreNumbered : List Numbered → Type 0
+AreNumbered batches = (n : ℕ) (batch : Numbered) → slice_get batches n ≡ Some batch → batch.number ≡ n
+
+-- so while it holds so many batches, with these entries that were not put yet; the next batch has the number
 pub record IsRequesting (queues : Plan) (node number hand : ℕ) (entries : List Entry) (p : StageAccount) : Type 0 where
   pub pass : IsRequestPass queues node p
   pub holds : p.held ≡ hand
+  pub numbered : AreNumbered (batches_at p node)
+  pub next : number ≡ length (batches_at p node)
   pub below : next_after 0 (batches_at p node) ≤ number
   pub enters : IsPickOf (entered (batches_at p node) ++ tickets_of entries) (tickets_at p node)
 
@@ -97,14 +103,15 @@ KeepsLeft queues node batch old new = (ticket : Ticket) → MayStill queues node
 abbrev pub EntersLeft : Plan → ℕ → Option Ticket → Option Entry → StageAccount → StageAccount → Type 0
 EntersLeft queues node left found old new = (number : ℕ) → GoesOnWith queues node number left old → IsRequesting queues node number 0 (with_entry [] found) new
 
--- an entry is of the ticket
+-- an entry is of the ticket, and what is left is the ticket
 abbrev pub IsServed : Ticket → Served → Type 0
 IsServed ticket (served.Drawn entry) = ticket_of entry ≡ ticket
 IsServed ticket served.Ended = ⊤
-IsServed ticket served.Held = ⊤
+IsServed ticket (served.Held left) = left ≡ ticket
 
 -- the request stage has ended, and holds nothing
 pub record HasRequested (queues : Plan) (node : ℕ) (p : StageAccount) : Type 0 where
   pub pass : IsRequestPass queues node p
   pub holds : p.held ≡ 0
+  pub numbered : AreNumbered (batches_at p node)
   pub enters : EntersTickets node p

@@ -30,5 +30,5 @@ pub record IsSenderPass (plan : Plan) (p : StageAccount) : Type 0 where
   pub sends : (node : ℕ) (rings : NodeRings) → slice_get plan.nodes node ≡ Some rings → MaySendTicket rings.requests (at_node p node)
 
 -- the ticket is the last that was put for the node, and nothing else changed; or it comes back, and nothing changed
-abbrev pub SendsOrGivesBack : ℕ → Ticket → StageAccount → StageAccount → Result (Unit {0}) Ticket → Type 0
+abbrev pub SendsOrGivesBack : {Told : Type 0} → ℕ → Ticket → StageAccount → StageAccount → Result Told Ticket → Type 0
 SendsOrGivesBack node ticket old new result = MatchResult result (λ _. new ≡ with_node old node (ticket_put ticket (at_node old node))) (λ back. (back ≡ ticket) × (new ≡ old))

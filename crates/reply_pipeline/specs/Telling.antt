@@ -8,7 +8,7 @@ use Rattle.persist_batches.specs.declared.numbered.Numbered.{Numbered}
 use Rattle.request_rule.specs.declared.account.Ticket.{Ticket}
 use Rattle.thread_steps.specs.declared.stages.StageStep.{StageStep}
 use Rattle.thread_steps.specs.declared.stages.StageStep.TheVariants.{Held, Did, Refused, NoMemory}
-use Rattle.reply_pipeline.specs.declared.desk.Said.{Said}
+use Rattle.reply_pipeline.specs.declared.said.Said.{Said}
 use Rattle.reply_pipeline.specs.declared.told.Told.{Told}
 use Rattle.reply_pipeline.specs.declared.request.Served.{Served}
 use Rattle.reply_pipeline.specs.declared.request.Served.TheVariants as served
@@ -25,6 +25,17 @@ is_over Held = false
 is_over NoMemory = false
 is_over (Refused (NotYet commit)) = false
 is_over step = true
+
+-- memory was refused
+abbrev pub is_short : StageStep → Bool
+is_short NoMemory = true
+is_short step = false
+
+-- the board said it of the ticket's request
+pub record IsSaidFor (stage : Stage) (ticket : Ticket) (said : Said) : Type 0 where
+  pub by : said.stage ≡ stage
+  pub session : said.session ≡ ticket.session
+  pub term : said.term ≡ ticket.term
 
 -- the board said of the entry's request that the stage's step is made, or that there is none to make
 pub record IsSaidOf (stage : Stage) (entry : Entry) (said : Said) : Type 0 where

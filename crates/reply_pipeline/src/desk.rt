@@ -1,25 +1,21 @@
-ghost use Rattle.std.specs.Prelude.{◌≡◌, ◌≢◌, ◌∷◌, ◌++◌, [], None, Some, IfOk, length};
+ghost use Rattle.std.specs.Prelude.{◌≡◌, ◌≢◌, ◌<◌, ◌∷◌, ◌++◌, [], None, Some, IfOk, length};
 ghost use Rattle.stamp_base.specs.declared.stage.Stage.TheVariants.{Request};
 ghost use Rattle.reply_pipeline.specs.Requesting.{entry_of};
-ghost use Rattle.reply_pipeline.specs.Telling.{drawn_by, is_over, IsSaidOf};
+ghost use Rattle.reply_pipeline.specs.Telling.{drawn_by, is_over, is_short, IsSaidFor, IsSaidOf};
+ghost use Rattle.history_book.specs.declared.item.Actor.TheVariants.{Session};
+ghost use Rattle.stage_queues.specs.declared.spot.Row.TheVariants.{Actors};
+ghost use Rattle.stage_queues.specs.Places.{place_of};
+ghost use Rattle.stage_queues.specs.Spots.{senders_to, spot, whom};
 
-use crate::ending::StageEnd;
-use crate::gate::{Gate, GatePlace, GateWay};
+use crate::ending::Ending;
+use crate::gate::{Gate, GateWay};
+use crate::said::{Passed, Said};
 use batch_pool::{Batch, Entry};
 use history_book::{Actor, Cause};
-use stage_queues::{Queues, Ticket, Waiter};
+use stage_queues::{Heard, Queues, Rung, Ticket, Waiter};
 use stamp_base::{NodeNo, SessionNo, Stage, Stamp, Term};
 use std::sync::Wait;
 use thread_steps::{StageStep, Steps};
-
-/// What the board said to a stage of a request. Nobody but the desk has one to show.
-#[derive(Drop)]
-pub struct Said {
-    stage: Stage,
-    session: SessionNo,
-    term: Term,
-    step: StageStep,
-}
 
 /// The entry of a request that was drawn, until it is entered in a batch.
 #[derive(Drop)]
@@ -74,45 +70,23 @@ pub struct Desk<'a, B: Steps, G: Gate> {
 
 impl<B: Steps, G: Gate> Desk<'_, B, G> {
     /// The request stage's next step for a ticket's request. What is drawn is loose from then on.
-    pub fn draw<R: Wait>(&self, rt: &R, ticket: &Ticket, loose: &mut Loose) -> StageStep
+    pub fn draw<R: Wait>(&self, rt: &R, ticket: &Ticket, loose: &mut Loose) -> Said
         requires { loose.old.entry ≡ None }
-        ensures { loose.new.entry ≡ drawn_by ticket.now result }
+        ensures loose { loose.new.entry ≡ drawn_by ticket.now result.step }
+        ensures said { IsSaidFor Request ticket.now result }
     {
         let said = self.step(rt, Stage::Request, ticket.session, ticket.term);
-        loose.take(ticket, &said.step);
-        said.step
+        loose.take(ticket, &said.step());
+        said
     }
 
-    // Passes the gate, and makes the stage's next step for a request. A held stage keeps nothing of an instance that is gone: its
-    // request is not there any more.
+    // Passes the gate, and makes the stage's next step for a request.
     fn step<R: Wait>(&self, rt: &R, stage: Stage, session: SessionNo, term: Term) -> Said
-        ensures { (result.stage ≡ stage) × (result.session ≡ session) × (result.term ≡ term) }
+        ensures place { (result.node ≡ self.now.node) × (result.stage ≡ stage) }
+        ensures request { (result.session ≡ session) × (result.term ≡ term) }
     {
-        let place = GatePlace {
-            node: self.node,
-            stage,
-        };
-        self.gate.pass(rt, place);
-        let step = match self.board.stage_step(rt, self.node, term, stage, session) {
-            StageStep::Held => self.held_step(rt, term),
-            step => step,
-        };
-        Said {
-            stage,
-            session,
-            term,
-            step,
-        }
-    }
-
-    // The board says Held wherever the stage is held, also of what is not there any more.
-    fn held_step<R: Wait>(&self, rt: &R, term: Term) -> StageStep {
-        let found = self.board.term_of(rt, self.node);
-        if found == Some(term) {
-            StageStep::Held
-        } else {
-            StageStep::Stale { found }
-        }
+        let passed = Passed::at(rt, self.gate, self.node, stage);
+        Said::ask(rt, self.board, passed, session, term)
     }
 
     /// Makes the stage's step for an entry's request, again and again while the stage is held or a commit below the request's start
@@ -123,25 +97,27 @@ impl<B: Steps, G: Gate> Desk<'_, B, G> {
         stage: Stage,
         worker: u64,
         entry: &Entry,
-    ) -> Result<Said, StageEnd>
+    ) -> Result<Said, Ending>
         requires { stage ≢ Request }
         ensures { IfOk result (IsSaidOf stage entry.now) }
     {
         for _ in rt.forever() {
             let said = self.step(rt, stage, entry.session, entry.term);
-            if is_over(&said.step) {
+            let step = said.step();
+            if is_over(&step) {
                 return Ok(said);
             }
-            if said.step == StageStep::NoMemory {
-                return Err(StageEnd::NoMemory);
+            if is_short(&step) {
+                return Err(Ending::short(said));
             }
+            said.again();
             self.wait(rt, stage, worker)?;
         }
         unreachable!()
     }
 
     /// Waits until the stage is woken, and ends it where the queues are closed.
-    pub fn wait<R: Wait>(&self, rt: &R, stage: Stage, worker: u64) -> Result<(), StageEnd> {
+    pub fn wait<R: Wait>(&self, rt: &R, stage: Stage, worker: u64) -> Result<(), Ending> {
         self.go_on()?;
         self.rest(rt, stage, worker);
         Ok(())
@@ -162,7 +138,7 @@ impl<B: Steps, G: Gate> Desk<'_, B, G> {
         stage: Stage,
         worker: u64,
         asked: bool,
-    ) -> Result<(), StageEnd> {
+    ) -> Result<(), Ending> {
         if asked {
             return self.wait(rt, stage, worker);
         }
@@ -172,23 +148,15 @@ impl<B: Steps, G: Gate> Desk<'_, B, G> {
     }
 
     /// The stage has received something, so that there is room in its queue.
-    pub fn tell_room(&self, stage: Stage) {
-        self.queues.tell_room(self.node, stage);
+    pub fn tell_room(&self, stage: Stage) -> Heard
+        requires { self.now.node < length self.now.queues.now.nodes }
+        ensures { result.whom.row ≡ senders_to self.now.node stage }
+    {
+        self.queues.tell_room(self.node, stage)
     }
 
-    fn go_on(&self) -> Result<(), StageEnd> {
-        if self.queues.closed() {
-            return Err(StageEnd::Closed);
-        }
-        Ok(())
-    }
-
-    /// A stage that memory is refused closes the queues, so that no other waits for it.
-    pub fn ended(&self, end: StageEnd) -> StageEnd {
-        if end == StageEnd::NoMemory {
-            self.queues.close();
-        }
-        end
+    fn go_on(&self) -> Result<(), Ending> {
+        Ending::where_closed(self.queues)
     }
 
     /// Waits until the tickets that are there are to be taken, or the queues are closed.
@@ -204,7 +172,7 @@ impl<B: Steps, G: Gate> Desk<'_, B, G> {
 
     /// For a request stage that found the pool out: asks for a batch, and where it has asked since it last waited, waits until it is
     /// woken. Ends the stage where the queues are closed.
-    pub fn wait_for_empty<R: Wait>(&self, rt: &R, asked: bool) -> Result<(), StageEnd> {
+    pub fn wait_for_empty<R: Wait>(&self, rt: &R, asked: bool) -> Result<(), Ending> {
         if asked {
             return self.wait(rt, Stage::Request, 0);
         }
@@ -215,7 +183,7 @@ impl<B: Steps, G: Gate> Desk<'_, B, G> {
 
     /// For a persist worker that found no batch: tells that it is going to wait, and where it has told so already, waits until it is
     /// woken. Ends the stage where the queues are closed.
-    pub fn wait_for_batch<R: Wait>(&self, rt: &R, worker: u64) -> Result<(), StageEnd> {
+    pub fn wait_for_batch<R: Wait>(&self, rt: &R, worker: u64) -> Result<(), Ending> {
         if self.queues.rest_for_batch(self.node, worker) {
             return self.wait(rt, Stage::Persist, worker);
         }
@@ -223,13 +191,17 @@ impl<B: Steps, G: Gate> Desk<'_, B, G> {
     }
 
     /// Wakes the session's thread where its line waits for the stamp that was drawn.
-    pub fn tell_stamp(&self, session: SessionNo) {
-        self.queues.tell_stamp(session);
+    pub fn tell_stamp(&self, said: &Said) -> Heard
+        ensures { result.whom ≡ whom Actors (place_of (Session said.now.session)) 1 }
+    {
+        self.queues.tell_stamp(said.session())
     }
 
-    /// Wakes the session's thread.
-    pub fn wake_session(&self, session: SessionNo) {
-        self.queues.wake(Waiter::Actor(Actor::Session(session)));
+    /// Wakes the session's thread, of whose request that was said.
+    pub fn wake_session(&self, said: &Said) -> Rung
+        ensures { result.spot ≡ spot Actors (place_of (Session said.now.session)) }
+    {
+        self.queues.wake_actor(Actor::Session(said.session()))
     }
 }
 
@@ -254,6 +226,16 @@ fn is_over(step: &StageStep) -> bool
         StageStep::Held | StageStep::NoMemory => false,
         StageStep::Refused(cause) => !matches!(cause, Cause::NotYet { .. }),
         _ => true,
+    }
+}
+
+// Whether memory was refused.
+fn is_short(step: &StageStep) -> bool
+    ensures { result ≡ is_short step.now }
+{
+    match step {
+        StageStep::NoMemory => true,
+        _ => false,
     }
 }
 

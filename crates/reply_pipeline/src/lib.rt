@@ -8,6 +8,8 @@ mod gate;
 mod persist;
 mod reply;
 mod request;
+mod said;
+mod taken;
 mod tickets;
 mod told;
 

@@ -2,16 +2,17 @@
 // place their commits it only sends them on.
 ghost use Rattle.std.specs.Prelude.{◌≡◌, ◌+◌, ◌<◌, ◌∷◌, [], Some, IfOk, IfSome, MatchOption, MatchResult, OnOk, length, slice_get};
 ghost use Rattle.stamp_base.specs.declared.stage.Stage.TheVariants.{Persist};
+ghost use Rattle.stage_queues.specs.Spots.{senders_to};
 ghost use Rattle.reply_pipeline.specs.Telling.{counted, puts_nothing, IsTold};
 ghost use Rattle.reply_pipeline.specs.Persisting.{IsPersistPass, IsPersisting, Carries, PutsAllButOne};
 
 use crate::desk::Desk;
-use crate::ending::StageEnd;
+use crate::ending::{Ending, StageEnd};
 use crate::gate::Gate;
 use crate::told::Told;
 use batch_pool::Entry;
 use persist_batches::Numbered;
-use stage_queues::{Queues, StagePass};
+use stage_queues::{Heard, Queues, StagePass};
 use stamp_base::{NodeNo, Stage};
 use std::sync::Wait;
 use thread_steps::Steps;
@@ -38,14 +39,10 @@ pub fn persist_worker<R: Wait, B: Steps, G: Gate>(
         gate,
     };
     let end = serve(rt, &desk, pass);
-    desk.ended(end)
+    end.reached(queues)
 }
 
-fn serve<R: Wait, B: Steps, G: Gate>(
-    rt: &R,
-    desk: &Desk<'_, B, G>,
-    pass: &mut StagePass,
-) -> StageEnd
+fn serve<R: Wait, B: Steps, G: Gate>(rt: &R, desk: &Desk<'_, B, G>, pass: &mut StagePass) -> Ending
     requires { IsPersisting desk.now.queues.now desk.now.node [] pass.old }
     ensures pass { IsPersisting desk.now.queues.now desk.now.node [] pass.new }
     ensures all { PutsAllButOne desk.now.node pass.old pass.new }
@@ -65,15 +62,15 @@ fn turn<R: Wait, B: Steps, G: Gate>(
     desk: &Desk<'_, B, G>,
     worker: u64,
     pass: &mut StagePass,
-) -> Result<(), StageEnd>
+) -> Result<(), Ending>
     requires { IsPersisting desk.now.queues.now desk.now.node [] pass.old }
     ensures pass { IsPersisting desk.now.queues.now desk.now.node [] pass.new }
     ensures all { MatchResult result (λ _. Carries desk.now.node [] [] pass.old pass.new) (λ _. PutsAllButOne desk.now.node pass.old pass.new) }
 {
     match receive(rt, desk, pass) {
         Some(batch) => {
-            desk.tell_room(Stage::Persist);
-            settle(rt, desk, worker, pass, batch)
+            let heard = desk.tell_room(Stage::Persist);
+            settle(rt, desk, worker, pass, batch, &heard)
         }
         None => desk.wait_for_batch(rt, worker),
     }
@@ -85,11 +82,14 @@ fn settle<R: Wait, B: Steps, G: Gate>(
     worker: u64,
     pass: &mut StagePass,
     batch: Numbered,
-) -> Result<(), StageEnd>
-    requires { IsPersisting desk.now.queues.now desk.now.node (batch ∷ []) pass.old }
+    heard: &Heard,
+) -> Result<(), Ending>
+    requires hand { IsPersisting desk.now.queues.now desk.now.node (batch ∷ []) pass.old }
+    requires heard { heard.now.whom.row ≡ senders_to desk.now.node Persist }
     ensures pass { IsPersisting desk.now.queues.now desk.now.node [] pass.new }
     ensures put { MatchResult result (λ _. Carries desk.now.node (batch ∷ []) [] pass.old pass.new) (λ _. pass.new.nodes ≡ pass.old.nodes) }
 {
+    let _heard = heard;
     match put_all(rt, desk, worker, &batch) {
         Ok(told) => send_on(rt, desk, worker, pass, batch, &told),
         Err(end) => {
@@ -105,7 +105,7 @@ fn put_all<R: Wait, B: Steps, G: Gate>(
     desk: &Desk<'_, B, G>,
     worker: u64,
     batch: &Numbered,
-) -> Result<Told, StageEnd>
+) -> Result<Told, Ending>
     ensures { IfOk result (IsTold Persist batch.now) }
 {
     let mut told = Told::none(Stage::Persist, batch);
@@ -129,7 +129,7 @@ fn put_one<R: Wait, B: Steps, G: Gate>(
     batch: &Numbered,
     entry: &Entry,
     told: &mut Told,
-) -> Result<(), StageEnd>
+) -> Result<(), Ending>
     requires told { told.old ≡ counted Persist batch.now.number told.old.count }
     requires within { told.old.count < length batch.now.batch.entries }
     requires next { slice_get batch.now.batch.entries told.old.count ≡ Some entry.now }
@@ -152,7 +152,7 @@ fn send_on<R: Wait, B: Steps, G: Gate>(
     pass: &mut StagePass,
     batch: Numbered,
     told: &Told,
-) -> Result<(), StageEnd>
+) -> Result<(), Ending>
     requires hand { IsPersisting desk.now.queues.now desk.now.node (batch ∷ []) pass.old }
     requires told { IsTold Persist batch told.now }
     ensures pass { IsPersisting desk.now.queues.now desk.now.node [] pass.new }

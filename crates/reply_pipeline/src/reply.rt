@@ -2,15 +2,16 @@
 ghost use Rattle.std.specs.Prelude.{◌≡◌, ◌+◌, ◌-◌, ◌<◌, ◌^◌, length, IfOk, IsSomeAnd, MatchOption};
 ghost use Rattle.stamp_base.specs.declared.stage.Stage.TheVariants.{Reply};
 ghost use Rattle.reply_pipeline.specs.Replying.{AnswersNext, IsReplyPass, IsReplying, Offers};
+ghost use Rattle.stage_queues.specs.Spots.{senders_to};
 ghost use Rattle.reply_pipeline.specs.Telling.{counted, IsTold};
 
 use crate::desk::Desk;
-use crate::ending::StageEnd;
+use crate::ending::{Ending, StageEnd};
 use crate::gate::Gate;
 use crate::told::Told;
 use batch_pool::Batch;
 use persist_batches::{Numbered, Reorder};
-use stage_queues::{Queues, StagePass};
+use stage_queues::{Heard, Queues, StagePass};
 use stamp_base::{NodeNo, Stage};
 use std::alloc::Global;
 use std::sync::Wait;
@@ -40,9 +41,9 @@ pub fn reply_stage<R: Wait, B: Steps, G: Gate>(
     };
     let end = match Reorder::open(alloc, 0, queues.buffers()) {
         Ok(order) => serve(rt, &desk, pass, order),
-        Err(_) => StageEnd::NoMemory,
+        Err(refused) => Ending::lacking(refused),
     };
-    desk.ended(end)
+    end.reached(queues)
 }
 
 // Serves until the stage ends, and gives back what then waits for its turn.
@@ -51,7 +52,7 @@ fn serve<R: Wait, B: Steps, G: Gate>(
     desk: &Desk<'_, B, G>,
     pass: &mut StagePass,
     order: Reorder,
-) -> StageEnd
+) -> Ending
     requires replying { IsReplying desk.now.queues.now desk.now.node 0 order pass.old }
     requires first { order.next ≡ 0 }
     ensures pass { IsReplyPass desk.now.queues.now desk.now.node pass.new }
@@ -70,7 +71,7 @@ fn answer_all<R: Wait, B: Steps, G: Gate>(
     desk: &Desk<'_, B, G>,
     pass: &mut StagePass,
     order: &mut Reorder,
-) -> StageEnd
+) -> Ending
     requires { IsReplying desk.now.queues.now desk.now.node 0 order.old pass.old }
     ensures { IsReplying desk.now.queues.now desk.now.node 0 order.new pass.new }
 {
@@ -88,7 +89,7 @@ fn turn<R: Wait, B: Steps, G: Gate>(
     desk: &Desk<'_, B, G>,
     pass: &mut StagePass,
     order: &mut Reorder,
-) -> Result<Option<Told>, StageEnd>
+) -> Result<Option<Told>, Ending>
     requires { IsReplying desk.now.queues.now desk.now.node 0 order.old pass.old }
     ensures pass { IsReplying desk.now.queues.now desk.now.node 0 order.new pass.new }
     ensures answers { IfOk result (AnswersNext order.old order.new) }
@@ -116,8 +117,8 @@ fn take_in<R: Wait, B: Steps, G: Gate>(
     for _ in rt.forever() {
         match receive(rt, desk, pass) {
             Some(batch) => {
-                desk.tell_room(Stage::Reply);
-                place(rt, desk, pass, order, batch);
+                let heard = desk.tell_room(Stage::Reply);
+                place(rt, desk, pass, order, batch, &heard);
             }
             None => return,
         }
@@ -132,11 +133,14 @@ fn place<R: Wait, B: Steps, G: Gate>(
     pass: &mut StagePass,
     order: &mut Reorder,
     batch: Numbered,
+    heard: &Heard,
 )
-    requires { IsReplying desk.now.queues.now desk.now.node 1 order.old pass.old }
+    requires hand { IsReplying desk.now.queues.now desk.now.node 1 order.old pass.old }
+    requires heard { heard.now.whom.row ≡ senders_to desk.now.node Reply }
     ensures pass { IsReplying desk.now.queues.now desk.now.node 0 order.new pass.new }
     ensures offered { Offers order.old order.new batch }
 {
+    let _heard = heard;
     if let Err(back) = order.offer(batch) {
         give_back(rt, desk, pass, back.batch);
     }
@@ -149,7 +153,7 @@ fn answer_next<R: Wait, B: Steps, G: Gate>(
     pass: &mut StagePass,
     order: &Reorder,
     batch: Numbered,
-) -> Result<Option<Told>, StageEnd>
+) -> Result<Option<Told>, Ending>
     requires turn { batch.number + 1 ≡ order.now.next }
     requires node { desk.now.node < length desk.now.queues.now.nodes }
     requires held { 0 < pass.old.held }
@@ -167,14 +171,14 @@ fn answer_all_of<R: Wait, B: Steps, G: Gate>(
     rt: &R,
     desk: &Desk<'_, B, G>,
     batch: &Numbered,
-) -> Result<Told, StageEnd>
+) -> Result<Told, Ending>
     ensures { IfOk result (IsTold Reply batch.now) }
 {
     let mut told = Told::none(Stage::Reply, batch);
     for entry in batch.batch.entries() {
         let said = desk.step_in_turn(rt, Stage::Reply, 0, entry)?;
-        told.add(batch, entry, said);
-        desk.wake_session(entry.session);
+        let rung = desk.wake_session(&said);
+        told.answer(batch, entry, said, rung);
     }
     Ok(told)
 }

@@ -1,17 +1,18 @@
 // The request stage: serves tickets until each request is drawn or has ended, and sends what was drawn on in batches. What is drawn
 // does not wait for a stage that is held.
 ghost use Rattle.std.specs.Prelude.{◌≡◌, ◌+◌, ◌<◌, [], length, None, Some, IfOk, IfSome, MatchResult};
-ghost use Rattle.reply_pipeline.specs.Requesting.{IsRequestPass, IsUnused, EntersTickets, IsRequesting, HasRequested, Enters, EntersLeft, MayEnter, MayStill, GoesOnWith, KeepsLeft, IsServed, ticket_of};
+ghost use Rattle.reply_pipeline.specs.Requesting.{AreNumbered, batches_at, IsRequestPass, IsUnused, EntersTickets, IsRequesting, HasRequested, Enters, EntersLeft, MayEnter, MayStill, GoesOnWith, KeepsLeft, IsServed, ticket_of};
 ghost use Rattle.reply_pipeline.specs.Telling.{drawn_in};
-ghost use Rattle.reply_pipeline.specs.Serving.{goes_on};
+ghost use Rattle.reply_pipeline.specs.Serving.{ends};
 
 use crate::desk::{Desk, Loose, entry_of};
-use crate::ending::StageEnd;
+use crate::ending::{Ending, StageEnd};
 use crate::gate::Gate;
+use crate::taken::{Taken, leave};
 use batch_pool::{Batch, Entry};
 use history_book::Cause;
 use persist_batches::Numbered;
-use stage_queues::{Queues, StagePass, Ticket};
+use stage_queues::{Queues, StagePass};
 use stamp_base::{NodeNo, Stage};
 use std::sync::Wait;
 use thread_steps::{StageStep, Steps};
@@ -23,10 +24,11 @@ pub enum Served {
     /// Its request has ended, or is not there any more.
     Ended,
     /// The stage is held.
-    Held,
+    Held(Taken),
 }
 
 /// Serves as the node's request stage, until the queues are closed or memory is refused. Batches are numbered from 0 on.
+#[tactic(auto, using(crate::proofs::RequestLemmas::starts))]
 pub fn request_stage<R: Wait, B: Steps, G: Gate>(
     rt: &R,
     node: NodeNo,
@@ -40,6 +42,7 @@ pub fn request_stage<R: Wait, B: Steps, G: Gate>(
     requires held { pass.old.held ≡ 0 }
     ensures pass { IsRequestPass queues.now node pass.new }
     ensures enters { EntersTickets node pass.new }
+    ensures numbered { AreNumbered (batches_at pass.new node) }
     ensures held { pass.new.held ≡ 0 }
 {
     let desk = Desk {
@@ -49,14 +52,10 @@ pub fn request_stage<R: Wait, B: Steps, G: Gate>(
         gate,
     };
     let end = serve(rt, &desk, pass);
-    desk.ended(end)
+    end.reached(queues)
 }
 
-fn serve<R: Wait, B: Steps, G: Gate>(
-    rt: &R,
-    desk: &Desk<'_, B, G>,
-    pass: &mut StagePass,
-) -> StageEnd
+fn serve<R: Wait, B: Steps, G: Gate>(rt: &R, desk: &Desk<'_, B, G>, pass: &mut StagePass) -> Ending
     requires { IsRequesting desk.now.queues.now desk.now.node 0 0 [] pass.old }
     ensures { HasRequested desk.now.queues.now desk.now.node pass.new }
 {
@@ -68,8 +67,7 @@ fn serve<R: Wait, B: Steps, G: Gate>(
         }
     }
     // No number is left.
-    desk.queues.close();
-    StageEnd::Closed
+    leave(left, Ending::closing(desk.queues))
 }
 
 // Gathers what is drawn next in a batch of this number, and sends it. A ticket may be left from the batch before, and from this one,
@@ -78,9 +76,9 @@ fn make_batch<R: Wait, B: Steps, G: Gate>(
     rt: &R,
     desk: &Desk<'_, B, G>,
     number: u64,
-    left: Option<Ticket>,
+    left: Option<Taken>,
     pass: &mut StagePass,
-) -> Result<Option<Ticket>, StageEnd>
+) -> Result<Option<Taken>, Ending>
     requires requesting { IsRequesting desk.now.queues.now desk.now.node number 0 [] pass.old }
     requires left { IfSome left (λ ticket. MayStill desk.now.queues.now desk.now.node number 0 [] ticket pass.old) }
     ensures { MatchResult result (λ left. GoesOnWith desk.now.queues.now desk.now.node (number + 1) left pass.new) (λ _. HasRequested desk.now.queues.now desk.now.node pass.new) }
@@ -91,10 +89,10 @@ fn make_batch<R: Wait, B: Steps, G: Gate>(
     let mut batch = Numbered { number, batch };
     loose.enter(&mut batch.batch, entry);
     match fill(rt, desk, pass, &mut batch, &mut loose) {
-        Ok(left) => {
-            send(rt, desk, pass, batch, &loose)?;
-            Ok(left)
-        }
+        Ok(left) => match send(rt, desk, pass, batch, &loose) {
+            Ok(()) => Ok(left),
+            Err(end) => Err(leave(left, end)),
+        },
         Err(end) => {
             give_back(rt, desk, pass, batch);
             Err(end)
@@ -106,17 +104,17 @@ fn make_batch<R: Wait, B: Steps, G: Gate>(
 fn left_or_first<R: Wait, B: Steps, G: Gate>(
     rt: &R,
     desk: &Desk<'_, B, G>,
-    left: Option<Ticket>,
+    left: Option<Taken>,
     pass: &mut StagePass,
     loose: &mut Loose,
-) -> Result<Entry, StageEnd>
+) -> Result<Entry, Ending>
     requires pass { IsRequestPass desk.now.queues.now desk.now.node pass.old }
     requires none { loose.old.entry ≡ None }
     ensures drawn { IfOk result (λ entry. loose.new.entry ≡ Some entry) }
     ensures enters { MatchResult result (λ entry. EntersLeft desk.now.queues.now desk.now.node left (Some entry) pass.old pass.new) (λ _. EntersLeft desk.now.queues.now desk.now.node left None pass.old pass.new) }
 {
     if let Some(ticket) = left {
-        match serve_ticket(rt, desk, &ticket, loose)? {
+        match serve_ticket(rt, desk, ticket, loose)? {
             Some(entry) => return Ok(entry),
             None => {}
         }
@@ -130,7 +128,7 @@ fn first_entry<R: Wait, B: Steps, G: Gate>(
     desk: &Desk<'_, B, G>,
     pass: &mut StagePass,
     loose: &mut Loose,
-) -> Result<Entry, StageEnd>
+) -> Result<Entry, Ending>
     requires pass { IsRequestPass desk.now.queues.now desk.now.node pass.old }
     requires none { loose.old.entry ≡ None }
     ensures drawn { IfOk result (λ entry. loose.new.entry ≡ Some entry) }
@@ -153,7 +151,7 @@ fn fill<R: Wait, B: Steps, G: Gate>(
     pass: &mut StagePass,
     batch: &mut Numbered,
     loose: &mut Loose,
-) -> Result<Option<Ticket>, StageEnd>
+) -> Result<Option<Taken>, Ending>
     requires requesting { IsRequesting desk.now.queues.now desk.now.node batch.old.number 1 batch.old.batch.entries pass.old }
     requires none { loose.old.entry ≡ None }
     ensures drawn { IfOk result (λ _. loose.new.entry ≡ None) }
@@ -168,11 +166,10 @@ fn fill<R: Wait, B: Steps, G: Gate>(
         let Some(ticket) = receive(rt, desk, pass) else {
             return Ok(None);
         };
-        desk.tell_room(Stage::Request);
-        match try_ticket(rt, desk, &ticket, loose)? {
+        match try_ticket(rt, desk, ticket, loose)? {
             Served::Drawn(entry) => loose.enter(&mut batch.batch, entry),
             Served::Ended => {}
-            Served::Held => return Ok(Some(ticket)),
+            Served::Held(still) => return Ok(Some(still)),
         }
     }
     unreachable!()
@@ -184,7 +181,7 @@ fn next_entry<R: Wait, B: Steps, G: Gate>(
     desk: &Desk<'_, B, G>,
     pass: &mut StagePass,
     loose: &mut Loose,
-) -> Result<Option<Entry>, StageEnd>
+) -> Result<Option<Entry>, Ending>
     requires pass { IsRequestPass desk.now.queues.now desk.now.node pass.old }
     requires none { loose.old.entry ≡ None }
     ensures drawn { IfOk result (λ found. loose.new.entry ≡ found) }
@@ -193,13 +190,10 @@ fn next_entry<R: Wait, B: Steps, G: Gate>(
 {
     for _ in rt.forever() {
         match receive(rt, desk, pass) {
-            Some(ticket) => {
-                desk.tell_room(Stage::Request);
-                match serve_ticket(rt, desk, &ticket, loose)? {
-                    Some(entry) => return Ok(Some(entry)),
-                    None => {}
-                }
-            }
+            Some(ticket) => match serve_ticket(rt, desk, ticket, loose)? {
+                Some(entry) => return Ok(Some(entry)),
+                None => {}
+            },
             None => return Ok(None),
         }
     }
@@ -210,18 +204,22 @@ fn next_entry<R: Wait, B: Steps, G: Gate>(
 fn serve_ticket<R: Wait, B: Steps, G: Gate>(
     rt: &R,
     desk: &Desk<'_, B, G>,
-    ticket: &Ticket,
+    taken: Taken,
     loose: &mut Loose,
-) -> Result<Option<Entry>, StageEnd>
+) -> Result<Option<Entry>, Ending>
     requires { loose.old.entry ≡ None }
     ensures drawn { IfOk result (λ found. loose.new.entry ≡ found) }
-    ensures served { IfOk result (λ found. IfSome found (λ entry. ticket_of entry ≡ ticket.now)) }
+    ensures served { IfOk result (λ found. IfSome found (λ entry. ticket_of entry ≡ taken)) }
 {
+    let mut taken = taken;
     for _ in rt.forever() {
-        match try_ticket(rt, desk, ticket, loose)? {
+        match try_ticket(rt, desk, taken, loose)? {
             Served::Drawn(entry) => return Ok(Some(entry)),
             Served::Ended => return Ok(None),
-            Served::Held => desk.wait(rt, Stage::Request, 0)?,
+            Served::Held(still) => match desk.wait(rt, Stage::Request, 0) {
+                Ok(()) => taken = still,
+                Err(end) => return Err(still.left(end)),
+            },
         }
     }
     unreachable!()
@@ -231,44 +229,56 @@ fn serve_ticket<R: Wait, B: Steps, G: Gate>(
 fn try_ticket<R: Wait, B: Steps, G: Gate>(
     rt: &R,
     desk: &Desk<'_, B, G>,
-    ticket: &Ticket,
+    taken: Taken,
     loose: &mut Loose,
-) -> Result<Served, StageEnd>
+) -> Result<Served, Ending>
     requires { loose.old.entry ≡ None }
     ensures drawn { IfOk result (λ served. loose.new.entry ≡ drawn_in served) }
-    ensures served { IfOk result (IsServed ticket.now) }
+    ensures served { IfOk result (IsServed taken) }
 {
+    let ticket = taken.ticket();
     for _ in rt.forever() {
-        match desk.draw(rt, ticket, loose) {
+        let said = desk.draw(rt, &ticket, loose);
+        match said.step() {
             StageStep::Did { start, commit } => {
-                desk.tell_stamp(ticket.session);
-                return Ok(Served::Drawn(entry_of(ticket, start, commit)));
+                let heard = desk.tell_stamp(&said);
+                taken.drawn(said, loose, heard);
+                return Ok(Served::Drawn(entry_of(&ticket, start, commit)));
             }
-            StageStep::Held => return Ok(Served::Held),
-            StageStep::NoMemory => return Err(StageEnd::NoMemory),
+            StageStep::Held => {
+                said.goes_on();
+                return Ok(Served::Held(taken));
+            }
+            StageStep::NoMemory => return Err(taken.left(Ending::short(said))),
             step => {
-                if !goes_on(&step) {
-                    desk.wake_session(ticket.session);
+                if ends(&step) {
+                    let rung = desk.wake_session(&said);
+                    taken.ended(said, rung);
                     return Ok(Served::Ended);
                 }
+                said.goes_on();
             }
         }
     }
     unreachable!()
 }
 
-// Whether the request may be there after this step. A refused or faulted extension leaves it where it was. The causes of a refused
-// extension also end a request, which its next step then does not find.
-fn goes_on(step: &StageStep) -> bool
-    ensures { result ≡ goes_on step.now }
+// Whether the request has ended with this step, or is not there any more. A refused or faulted extension leaves it where it was. The
+// causes of a refused extension also end a request, which its next step then does not find.
+fn ends(step: &StageStep) -> bool
+    ensures { result ≡ ends step.now }
 {
     match step {
-        StageStep::Went | StageStep::Fault => true,
-        StageStep::Refused(cause) => matches!(
+        StageStep::Held
+        | StageStep::Did { .. }
+        | StageStep::NoMemory
+        | StageStep::Went
+        | StageStep::Fault => false,
+        StageStep::Refused(cause) => !matches!(
             cause,
             Cause::NoStamp { .. } | Cause::Replaced { .. } | Cause::Spent { .. }
         ),
-        _ => false,
+        _ => true,
     }
 }
 
@@ -277,7 +287,7 @@ fn empty_batch<R: Wait, B: Steps, G: Gate>(
     rt: &R,
     desk: &Desk<'_, B, G>,
     pass: &mut StagePass,
-) -> Result<Batch, StageEnd>
+) -> Result<Batch, Ending>
     requires node { desk.now.node < length desk.now.queues.now.nodes }
     requires held { pass.old.held ≡ 0 }
     ensures held { MatchResult result (λ _. pass.new ≡ record pass.old { held = pass.old.held + 1 }) (λ _. pass.new ≡ pass.old) }
@@ -301,7 +311,7 @@ fn send<R: Wait, B: Steps, G: Gate>(
     pass: &mut StagePass,
     batch: Numbered,
     loose: &Loose,
-) -> Result<(), StageEnd>
+) -> Result<(), Ending>
     requires requesting { IsRequesting desk.now.queues.now desk.now.node batch.number 1 batch.batch.entries pass.old }
     requires drawn { loose.now.entry ≡ None }
     ensures sent { MatchResult result (λ _. IsRequesting desk.now.queues.now desk.now.node (batch.number + 1) 0 [] pass.new) (λ _. HasRequested desk.now.queues.now desk.now.node pass.new) }
@@ -328,13 +338,16 @@ fn receive<R: Wait, B: Steps, G: Gate>(
     rt: &R,
     desk: &Desk<'_, B, G>,
     pass: &mut StagePass,
-) -> Option<Ticket>
+) -> Option<Taken>
     requires { IsRequestPass desk.now.queues.now desk.now.node pass.old }
     ensures pass { IsRequestPass desk.now.queues.now desk.now.node pass.new }
     ensures passed { Enters desk.now.queues.now desk.now.node None pass.old pass.new }
     ensures may_enter { IfSome result (λ ticket. MayEnter desk.now.queues.now desk.now.node ticket pass.old pass.new) }
 {
-    desk.queues.requests(desk.node).receive(rt, pass)
+    match desk.queues.requests(desk.node).receive(rt, pass) {
+        Some(ticket) => Some(Taken::of(ticket, desk.tell_room(Stage::Request))),
+        None => None,
+    }
 }
 
 fn try_send<R: Wait, B: Steps, G: Gate>(

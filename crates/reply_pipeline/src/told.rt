@@ -1,11 +1,15 @@
 ghost use Rattle.std.specs.Prelude.{◌≡◌, ◌+◌, ◌<◌, true, Some, length, slice_get};
-ghost use Rattle.stamp_base.specs.declared.stage.Stage.TheVariants.{Persist};
+ghost use Rattle.stamp_base.specs.declared.stage.Stage.TheVariants.{Persist, Reply};
+ghost use Rattle.history_book.specs.declared.item.Actor.TheVariants.{Session};
+ghost use Rattle.stage_queues.specs.declared.spot.Row.TheVariants.{Actors};
+ghost use Rattle.stage_queues.specs.Places.{place_of};
+ghost use Rattle.stage_queues.specs.Spots.{spot};
 ghost use Rattle.reply_pipeline.specs.Telling.{counted, puts_nothing, IsSaidOf};
 
-use crate::desk::Said;
+use crate::said::Said;
 use batch_pool::Entry;
 use persist_batches::Numbered;
-use stage_queues::Queues;
+use stage_queues::{Queues, Rung};
 use stamp_base::Stage;
 
 /// With how many entries of a batch a stage is through, from the first on.
@@ -30,13 +34,29 @@ impl Told {
 
     /// With the next one, of which the board has said so.
     pub fn add(&mut self, batch: &Numbered, entry: &Entry, said: Said)
+        requires stage { self.old.stage ≡ Persist }
         requires number { batch.now.number ≡ self.old.number }
         requires within { self.old.count < length batch.now.batch.entries }
         requires next { slice_get batch.now.batch.entries self.old.count ≡ Some entry.now }
         requires said { IsSaidOf self.old.stage entry.now said }
         ensures { self.new ≡ counted self.old.stage self.old.number (self.old.count + 1) }
     {
-        let _said = said;
+        said.heeded();
+        self.go_on(batch);
+    }
+
+    /// With the next one, of which the board has said so, and whose session was woken.
+    pub fn answer(&mut self, batch: &Numbered, entry: &Entry, said: Said, rung: Rung)
+        requires stage { self.old.stage ≡ Reply }
+        requires number { batch.now.number ≡ self.old.number }
+        requires within { self.old.count < length batch.now.batch.entries }
+        requires next { slice_get batch.now.batch.entries self.old.count ≡ Some entry.now }
+        requires said { IsSaidOf self.old.stage entry.now said }
+        requires rung { rung.spot ≡ spot Actors (place_of (Session entry.now.session)) }
+        ensures { self.new ≡ counted self.old.stage self.old.number (self.old.count + 1) }
+    {
+        said.heeded();
+        let _rung = rung;
         self.go_on(batch);
     }
 

@@ -1,4 +1,4 @@
 mod JoinLemmas
-mod OpeningLemmas
+pub mod OpeningLemmas
 pub mod PlaceLemmas
 mod NewLemmas

@@ -1,3 +1,4 @@
+-- For reply_pipeline too.
 -- The passes of sessions, on their way to reach a node more.
 use Rattle.std.proofs.Common.{◌≡◌, ℕ, zero, suc, ◌+◌, ◌-◌, ◌⊎◌, ◌<◌, ◌≤◌, List, [], ◌∷◌, ◌++◌, length, map, get_or, inl, inr, refl, sym, ap, ◌∙◌, append-nil, arith}
 use Rattle.std.specs.List.{range_with_len}
@@ -12,6 +13,9 @@ use Rattle.settled_rule.specs.declared.account.SettledAccount.{SettledAccount}
 use Rattle.settled_rule.specs.Accounts.{new_account}
 use Rattle.stage_queues.specs.Plan.{NodeRings, AreNumbered}
 use Rattle.stage_queues.specs.Passes.{StageAccount}
+use Rattle.stage_queues.specs.declared.spot.Row.{Row}
+use Rattle.stage_queues.specs.declared.waiting.Place.{Place}
+use Rattle.stage_queues.specs.Spots.{spot, StandIn}
 use Rattle.stage_queues.specs.Opening.{stage_pass, worker_pass, session_pass, session_passes}
 
 abbrev pub nobody : StageAccount
@@ -44,7 +48,7 @@ one_more_worker nodes i rings passes pass batches settled old is b s =
 pub part_less : (i : ℕ) → whole - i - 1 ≡ whole - (i + 1)
 part_less i = omega arith
 
-get_push : {A : Type 0} (xs : List A) (x y : A) (n : ℕ) → slice_get (xs ++ x ∷ []) n ≡ Some y → (slice_get xs n ≡ Some y) ⊎ ((n ≡ length xs) × (x ≡ y))
+pub get_push : {A : Type 0} (xs : List A) (x y : A) (n : ℕ) → slice_get (xs ++ x ∷ []) n ≡ Some y → (slice_get xs n ≡ Some y) ⊎ ((n ≡ length xs) × (x ≡ y))
 get_push [] x y zero e = inr (refl, same_Some x y e)
 get_push [] x y (suc n) e = inl e
 get_push (z ∷ xs) x y zero e = inl e
@@ -52,6 +56,9 @@ get_push (z ∷ xs) x y (suc n) e = elim (get_push xs x y n e) [ inl h ↦ inl h
 
 pub numbered_push : (nodes : List NodeRings) (node : NodeRings) → AreNumbered nodes → node.node ≡ length nodes → AreNumbered (nodes ++ node ∷ [])
 numbered_push nodes node h is n rings at = elim (get_push nodes node rings n at) [ inl e ↦ h n rings e | inr e ↦ ap (λ (r : NodeRings). r.node) (sym e.1) ∙ is ∙ sym e.0 ]
+
+pub stand_push : (row : Row) (places : List Place) (place : Place) → StandIn row places → place.bell.spot ≡ spot row (length places) → StandIn row (places ++ place ∷ [])
+stand_push row places place h is n other at = elim (get_push places place other n at) [ inl e ↦ h n other e | inr e ↦ ap (λ (p : Place). p.bell.spot) (sym e.1) ∙ is ∙ ap (spot row) (sym e.0) ]
 
 pub flat_map_push : {A B : Type 0} (f : A → List B) (xs : List A) (x : A) → flat_map f (xs ++ x ∷ []) ≡ flat_map f xs ++ f x
 flat_map_push f xs x = flat_map-append f xs (x ∷ []) ∙ ap (λ l. flat_map f xs ++ l) (append-nil (f x))

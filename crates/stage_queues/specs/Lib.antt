@@ -4,6 +4,7 @@ pub mod Passes
 pub mod Opening
 pub mod Laws
 pub mod Places
+pub mod Spots
 pub mod Halfway
 pub use Rattle.queue_passes.specs.Holds
 pub use Rattle.request_rule.specs.Rule as RequestRule

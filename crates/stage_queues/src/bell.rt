@@ -1,5 +1,8 @@
 // Where a thread waits until it is rung for, and looks for a while before it parks.
+ghost use Rattle.std.specs.Prelude.{◌≡◌};
+
 use crate::giving_way::GivesWay;
+use crate::spot::Spot;
 use std::sync::Wait;
 use std::sync::atomic::{AtomicBool, AtomicUsize, Ordering};
 use std::thread::Parker;
@@ -18,23 +21,43 @@ const MOST: usize = 4;
 /// that comes before the wait. The mark only ends a look: where it is wrong, a thread parks too early, or looks in vain.
 #[derive(Drop)]
 pub struct Bell {
+    spot: Spot,
     parker: Parker,
     rung: AtomicBool,
 }
 
+/// A bell was rung. Nobody but that bell makes one.
+#[derive(Drop)]
+pub struct Rung {
+    pub(crate) spot: Spot,
+}
+
 impl Bell {
     /// Nobody has rung.
-    pub fn new() -> Bell {
+    pub fn at(spot: Spot) -> Bell
+        ensures { result.spot ≡ spot }
+    {
         Bell {
+            spot,
             parker: Parker::new(),
             rung: AtomicBool::new(false),
         }
     }
 
+    /// Which bell it is.
+    pub fn spot(&self) -> Spot
+        ensures { result ≡ self.now.spot }
+    {
+        self.spot
+    }
+
     /// Ends the present wait of the bell's thread, or else the next one. The mark is set last, so that who sees it finds the parker told.
-    pub fn ring(&self) {
+    pub fn ring(&self) -> Rung
+        ensures { result.spot ≡ self.now.spot }
+    {
         self.parker.unpark();
         self.rung.store(true, Ordering::SeqCst);
+        Rung { spot: self.spot }
     }
 
     // Gives way to other threads until the bell is rung, for a while.

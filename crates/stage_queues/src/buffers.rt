@@ -1,7 +1,7 @@
 ghost use Rattle.std.specs.Prelude.{◌≡◌, ◌+◌, ◌<◌, true, replicate, IfOk};
 
 use crate::sizes::Sizes;
-use batch_pool::Pool;
+use batch_pool::{Batch, Pool};
 use stamp_base::NoMemory;
 use std::alloc::Global;
 
@@ -20,5 +20,23 @@ impl Buffers {
     {
         let pool = Pool::open(alloc, sizes.workers + 2, sizes.batch)?;
         Ok(Buffers { pool })
+    }
+
+    /// A batch comes home. Who has asked for one is looked up after that.
+    pub fn give(&mut self, batch: Batch) -> Home {
+        self.pool.give(batch);
+        Home { given: true }
+    }
+}
+
+/// A batch was given home, and who has asked for one is not looked up yet. It can't be let go.
+pub struct Home {
+    given: bool,
+}
+
+impl Home {
+    /// Who has asked is looked up now.
+    pub fn told(self) {
+        let Home { given: _given } = self;
     }
 }

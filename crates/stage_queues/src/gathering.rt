@@ -36,6 +36,18 @@ impl AtWork {
     }
 }
 
+/// A ticket is counted, and not sent yet. It can't be let go.
+pub struct Counted {
+    sent: bool,
+}
+
+impl Counted {
+    /// The ticket is sent.
+    pub fn sent(self) {
+        let Counted { sent: _sent } = self;
+    }
+}
+
 /// The tickets that wait for a request stage.
 #[derive(Drop)]
 pub struct Gathered {
@@ -56,12 +68,19 @@ impl Gathered {
         }
     }
 
-    /// One more.
-    pub fn add(&self) {
+    /// One more, which is to be sent.
+    pub fn add(&self) -> Counted {
         self.count.fetch_add(1, Ordering::SeqCst);
+        Counted { sent: false }
     }
 
-    /// One less, which was taken or found no room.
+    /// One less, which found no room.
+    pub fn give_up(&self, counted: Counted) {
+        counted.sent();
+        self.remove();
+    }
+
+    /// One less, which was taken.
     pub fn remove(&self) {
         self.count.fetch_sub(1, Ordering::SeqCst);
     }

@@ -5,12 +5,16 @@ ghost use Rattle.batch_rule.specs.Rule.{Tells as TellsBatches};
 ghost use Rattle.batch_rule.specs.Accounts.{joined as joined_batches};
 ghost use Rattle.settled_rule.specs.Rule.{IsFair};
 ghost use Rattle.settled_rule.specs.Accounts.{joined as joined_settled};
+ghost use Rattle.stage_queues.specs.declared.spot.Row.TheVariants.{Requests, Workers};
+ghost use Rattle.stage_queues.specs.Spots.{whom};
 ghost use Rattle.stage_queues.specs.NodePasses.{both, joined_node, IsOfRing, IsNodePassOf, TellsNode};
 
 use crate::batch_queue::BatchQueue;
-use crate::buffers::Buffers;
+use crate::buffers::{Buffers, Home};
+use crate::gathering::AtWork;
 use crate::node_pass::NodePass;
 use crate::request_queue::RequestQueue;
+use crate::rings::Heard;
 use crate::settled_queue::SettledQueue;
 use batch_rule::{BatchPass, BatchRing};
 use request_rule::{RequestPass, RequestRing};
@@ -35,10 +39,57 @@ impl Model for NodeQueues {
 
     ghost view = { λ n. record { node = n.requests.node; requests = n.requests.ring; batches = n.batches.ring; settled = n.settled.ring } };
 
-    ghost invariant = { λ n. (n.batches.node ≡ n.requests.node) × (n.settled.node ≡ n.requests.node) };
+    ghost invariant = { λ n. (n.batches.node ≡ n.requests.node) × (n.settled.node ≡ n.requests.node) × (n.settled.ring.room ≡ n.batches.ring.room) };
 }
 
 impl NodeQueues {
+    /// There is room for batches: wakes the request stage, if it has asked for it.
+    pub(crate) fn tell_request_stage(&self) -> Heard
+        ensures { result.whom ≡ whom (Requests self.now.node) 0 1 }
+    {
+        match self.batches.leave_room() {
+            Ok(heard) => heard,
+            Err(owed) => owed.pay(self.requests.wake_reader()),
+        }
+    }
+
+    /// There is room for settled batches: wakes the workers, if one has asked for it.
+    pub(crate) fn tell_workers(&self) -> Heard
+        ensures { result.whom.row ≡ Workers self.now.node }
+    {
+        match self.settled.leave_room() {
+            Ok(heard) => heard,
+            Err(owed) => owed.pay(self.batches.wake_readers()),
+        }
+    }
+
+    /// A batch came home: wakes the request stage, if it has asked for one.
+    pub(crate) fn tell_home(&self, home: Home) -> Heard
+        ensures { result.whom ≡ whom (Requests self.now.node) 0 1 }
+    {
+        match self.requests.leave_home(home) {
+            Ok(heard) => heard,
+            Err(owed) => owed.pay(self.requests.wake_reader()),
+        }
+    }
+
+    /// A ticket was sent: wakes the request stage, if it is to take those that are there.
+    pub(crate) fn tell_ticket(&self, at_work: &AtWork) -> Heard
+        ensures { result.whom ≡ whom (Requests self.now.node) 0 1 }
+    {
+        match self.requests.leave_tickets(at_work) {
+            Ok(heard) => heard,
+            Err(owed) => owed.pay(self.requests.press()),
+        }
+    }
+
+    /// Wakes the threads of each stage.
+    pub(crate) fn wake_stages(&self) {
+        let _request = self.requests.wake_reader();
+        let _persist = self.batches.wake_readers();
+        let _reply = self.settled.wake_reader();
+    }
+
     /// Joins the passes that two threads have at this node.
     pub(crate) fn join(&self, mine: NodePass, theirs: NodePass) -> NodePass
         requires { IsNodePassOf self.now mine × IsNodePassOf self.now theirs }

@@ -1,6 +1,11 @@
-ghost use Rattle.std.specs.Prelude.{◌≡◌, IsSomeAnd, IfNone, IfErr, MatchOption, MatchResult};
+ghost use Rattle.std.specs.Prelude.{◌≡◌, IsSomeAnd, IfNone, IfErr, IfOk, MatchOption, MatchResult};
+ghost use Rattle.stage_queues.specs.declared.spot.Row.TheVariants.{Replies};
+ghost use Rattle.stage_queues.specs.Spots.{whom};
 ghost use Rattle.stage_queues.specs.NodePasses.{nothing, ticket_put, batch_put, batch_taken, settled_put, settled_taken, TakesTicket, MaySendTicket, MayTakeTicket, MaySendBatch, IsOfRing, TookAllTickets, HasLeftTickets, HasLeftBatches, HasLeftSettled};
 
+use crate::gathering::Counted;
+use crate::rings::{Owed, OwedToOne};
+use crate::spot::{Row, Whom};
 use batch_rule::{BatchPass, BatchRing};
 use persist_batches::Numbered;
 use request_rule::{RequestPass, RequestRing, Ticket};
@@ -38,11 +43,13 @@ impl NodePass {
         rt: &R,
         ring: &RequestRing,
         ticket: Ticket,
+        counted: &Counted,
     ) -> Result<(), Ticket>
         requires { MaySendTicket ring.now self.old }
         ensures put { MatchResult result (λ _. self.new ≡ ticket_put ticket self.old) (λ back. (back ≡ ticket) × (self.new ≡ self.old)) }
         ensures full { IfErr result (λ _. HasLeftTickets ring.now.room self.old) }
     {
+        let _counted = counted;
         match &mut self.requests {
             Some(pass) => ring.send(rt, pass, ticket),
             None => Err(ticket),
@@ -64,14 +71,19 @@ impl NodePass {
         &mut self,
         rt: &R,
         ring: &BatchRing,
+        node: usize,
         batch: Numbered,
-    ) -> Result<(), Numbered>
+    ) -> Result<OwedToOne, Numbered>
         requires { MaySendBatch ring.now batch.number self.old }
+        ensures owed { IfOk result (λ owed. (owed.node ≡ node) × (owed.asked ≡ 0)) }
         ensures put { MatchResult result (λ _. self.new ≡ batch_put batch self.old) (λ back. (back ≡ batch) × (self.new ≡ self.old)) }
         ensures full { IfErr result (λ _. HasLeftBatches ring.now.room self.old) }
     {
         match &mut self.batches {
-            Some(pass) => ring.send(rt, pass, batch),
+            Some(pass) => match ring.send(rt, pass, batch) {
+                Ok(()) => Ok(OwedToOne::of(node)),
+                Err(back) => Err(back),
+            },
             None => Err(batch),
         }
     }
@@ -91,14 +103,23 @@ impl NodePass {
         &mut self,
         rt: &R,
         ring: &SettledRing,
+        node: usize,
         batch: Numbered,
-    ) -> Result<(), Numbered>
+    ) -> Result<Owed, Numbered>
         requires { IsSomeAnd self.old.settled (IsOfRing ring.now) }
+        ensures owed { IfOk result (λ owed. owed.whom ≡ whom (Replies node) 0 1) }
         ensures put { MatchResult result (λ _. self.new ≡ settled_put batch self.old) (λ back. (back ≡ batch) × (self.new ≡ self.old)) }
         ensures full { IfErr result (λ _. HasLeftSettled ring.now.room self.old) }
     {
         match &mut self.settled {
-            Some(pass) => ring.send(rt, pass, batch),
+            Some(pass) => match ring.send(rt, pass, batch) {
+                Ok(()) => Ok(Owed::to(Whom {
+                    row: Row::Replies(node),
+                    from: 0,
+                    count: 1,
+                })),
+                Err(back) => Err(back),
+            },
             None => Err(batch),
         }
     }

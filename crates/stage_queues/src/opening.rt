@@ -20,6 +20,7 @@ use crate::queues::Queues;
 use crate::request_queue::RequestQueue;
 use crate::settled_queue::SettledQueue;
 use crate::sizes::{REQUEST_ROOM, Sizes};
+use crate::spot::Row;
 use crate::waiting::{ACTORS, places};
 use batch_rule::{BatchPass, BatchRing};
 use request_rule::{RequestPass, RequestRing};
@@ -115,7 +116,7 @@ impl Opening {
             nodes: self.queues,
             buffers: sizes.workers + 2,
             direct: sizes.direct,
-            actors: places(alloc, ACTORS)?,
+            actors: places(alloc, Row::Actors, ACTORS)?,
             at_work: AtWork::all(sizes.senders),
             closed: AtomicBool::new(false),
             watchers: Watchers::none(),
@@ -135,10 +136,11 @@ fn open_node(alloc: Global, node: usize, sizes: &Sizes) -> Result<(NodeQueues, R
     let (batches, first_batches) = BatchRing::open(alloc, buffers)?;
     let (settled, first_settled) = SettledRing::open(alloc, buffers)?;
     let pool = Buffers::open(alloc, sizes)?;
+    let readers = places(alloc, Row::Workers(node), sizes.workers)?;
     let queues = NodeQueues {
         requests: RequestQueue::new(node, requests, sizes.enough()),
-        batches: BatchQueue::new(node, batches, places(alloc, sizes.workers)?),
-        settled: SettledQueue::new(node, settled),
+        batches: BatchQueue::new(node, batches, readers),
+        settled: SettledQueue::new(node, settled, sizes.workers),
         buffers: Mutex::new(pool),
     };
     let roots = Roots {

@@ -1,18 +1,25 @@
 ghost use Rattle.std.specs.Prelude.{◌≡◌, ℕ, ◌+◌, ◌-◌, ◌^◌, ◌<◌, [], length, Some, IfSome, MatchOption, slice_get};
 ghost use Rattle.stage_queues.specs.NodePasses.{joined_node, TellsNode};
 ghost use Rattle.stage_queues.specs.Passes.{AreNodePassesOf, pass_at};
+ghost use Rattle.stage_queues.specs.Places.{place_of};
 ghost use Rattle.stage_queues.specs.Plan.{node_ring};
+ghost use Rattle.stage_queues.specs.Spots.{spot, whom, all_sessions, senders_to};
+ghost use Rattle.stage_queues.specs.declared.spot.Row.TheVariants.{Actors, Requests};
+ghost use Rattle.history_book.specs.declared.item.Actor.TheVariants.{Session};
+ghost use Rattle.stage_queues.specs.declared.waiting.TheConstants.{ACTORS};
 
 use crate::batch_queue::BatchQueue;
-use crate::bell::{Bell, Watchers};
+use crate::bell::{Bell, Rung, Watchers};
 use crate::gathering::AtWork;
 use crate::giving_way::{GivesWay, KeepsProcessor};
 use crate::node::NodeQueues;
 use crate::node_pass::NodePass;
 use crate::pass::StagePass;
 use crate::request_queue::RequestQueue;
+use crate::rings::{Heard, Rungs};
 use crate::settled_queue::SettledQueue;
-use crate::waiting::{Crowd, Place, Waiter, actor_place};
+use crate::spot::Row;
+use crate::waiting::{Crowd, FIRST_SESSION, Place, Waiter, actor_place};
 use batch_pool::Batch;
 use history_book::Actor;
 use stamp_base::{NodeNo, SessionNo, Stage};
@@ -34,13 +41,17 @@ pub struct Queues {
 }
 
 impl Model for Queues {
+    ghost use Rattle.std.specs.Prelude.{◌≡◌, vec_len};
+    ghost use Rattle.stage_queues.specs.declared.spot.Row.TheVariants.{Actors};
+    ghost use Rattle.stage_queues.specs.declared.waiting.TheConstants.{ACTORS};
     ghost use Rattle.stage_queues.specs.Plan.{Plan, AreNumbered};
+    ghost use Rattle.stage_queues.specs.Spots.{StandIn};
 
     ghost Value = { Plan };
 
     ghost view = { λ q. record { nodes = q.nodes.items; buffers = q.buffers; direct = q.direct } };
 
-    ghost invariant = { λ q. AreNumbered q.nodes.items };
+    ghost invariant = { λ q. AreNumbered q.nodes.items × StandIn Actors q.actors.items × (vec_len q.actors ≡ ACTORS) };
 }
 
 impl Queues {
@@ -101,11 +112,9 @@ impl Queues {
         ensures { pass.new ≡ record pass.old { held = pass.old.held - 1 } }
     {
         let queues = self.node(node);
-        queues.buffers.lock(rt).pool.give(batch);
+        let home = queues.buffers.lock(rt).give(batch);
         pass.held -= 1;
-        if queues.requests.lacks_batch.leave() {
-            queues.requests.reader.ring();
-        }
+        let _heard = queues.tell_home(home);
     }
 
     /// For a request stage that found the pool out: it is woken once a batch comes back. Who asks is to try once more before it waits.
@@ -167,20 +176,31 @@ impl Queues {
     /// Wakes the waiter. Where it does not wait, its next wait ends at once.
     pub fn wake(&self, waiter: Waiter) {
         match waiter {
-            Waiter::Actor(actor) => self.wake_actor(actor),
+            Waiter::Actor(actor) => {
+                let _rung = self.wake_actor(actor);
+            }
             Waiter::Stage(node, stage, number) => {
                 if let Some(bell) = self.stage_bell(node, stage, number) {
-                    bell.ring();
+                    let _rung = bell.ring();
                 }
             }
         }
     }
 
-    fn wake_actor(&self, actor: Actor) {
-        if let Some(place) = self.actors.get(actor_place(actor)) {
-            self.rise(place);
-            place.bell.ring();
-        }
+    /// Wakes the actor, as `wake` does.
+    pub fn wake_actor(&self, actor: Actor) -> Rung
+        ensures { result.spot ≡ spot Actors (place_of actor) }
+    {
+        self.wake_at(actor_place(actor))
+    }
+
+    fn wake_at(&self, number: usize) -> Rung
+        requires { number < ACTORS }
+        ensures { result.spot ≡ spot Actors number }
+    {
+        let place = &self.actors[number];
+        self.rise(place);
+        place.bell.ring()
     }
 
     // An actor that does not work sends no ticket. Where nobody is left who could, the request stages take what there is.
@@ -208,18 +228,17 @@ impl Queues {
     pub fn press(&self) {
         for node in &self.nodes {
             if node.requests.gathered.is_some() {
-                node.requests.press();
+                let _rungs = node.requests.press();
             }
         }
     }
 
     /// A ticket was sent to the node's request stage, which takes it at once where enough are there or nobody else is at work.
-    pub fn tell_ticket(&self, node: NodeNo) {
-        if let Some(queues) = self.nodes.get(node.index()) {
-            if queues.requests.gathered.is_enough() || self.at_work.is_alone() {
-                queues.requests.press();
-            }
-        }
+    pub fn tell_ticket(&self, node: NodeNo) -> Heard
+        requires { node < length self.now.nodes }
+        ensures { result.whom ≡ whom (Requests node) 0 1 }
+    {
+        self.node(node).tell_ticket(&self.at_work)
     }
 
     /// Whether the node's request stage is to take the tickets that are there.
@@ -244,11 +263,13 @@ impl Queues {
     }
 
     /// The session's request has its stamp: wakes the session if its line waits for that.
-    pub fn tell_stamp(&self, session: SessionNo) {
-        if let Some(place) = self.actors.get(actor_place(Actor::Session(session))) {
-            if place.awaits_stamp() {
-                self.wake_actor(Actor::Session(session));
-            }
+    pub fn tell_stamp(&self, session: SessionNo) -> Heard
+        ensures { result.whom ≡ whom Actors (place_of (Session session)) 1 }
+    {
+        let number = actor_place(Actor::Session(session));
+        match self.actors[number].leave_stamp() {
+            Ok(heard) => heard,
+            Err(owed) => owed.pay(Rungs::one(self.wake_at(number))),
         }
     }
 
@@ -262,22 +283,24 @@ impl Queues {
     }
 
     /// Wakes every session.
-    pub fn wake_sessions(&self) {
-        for number in 0..SessionNo::COUNT as u64 {
-            if let Some(session) = SessionNo::new(number) {
-                self.wake_actor(Actor::Session(session));
-            }
+    pub fn wake_sessions(&self) -> Rungs
+        ensures { result.of ≡ all_sessions }
+    {
+        let mut rungs = Rungs::none(Row::Actors, FIRST_SESSION);
+        for session in 0..SessionNo::COUNT {
+            rungs.add(self.wake_at(FIRST_SESSION + session));
         }
+        rungs
     }
 
     /// Wakes the threads of a node's stage.
     pub fn wake_stage(&self, node: NodeNo, stage: Stage) {
         if let Some(queues) = self.nodes.get(node.index()) {
-            match stage {
-                Stage::Request => queues.requests.reader.ring(),
+            let _rungs = match stage {
+                Stage::Request => queues.requests.wake_reader(),
                 Stage::Persist => queues.batches.wake_readers(),
-                Stage::Reply => queues.settled.reader.ring(),
-            }
+                Stage::Reply => queues.settled.wake_reader(),
+            };
         }
     }
 
@@ -290,19 +313,24 @@ impl Queues {
     }
 
     /// There is room in the queue from which the node's stage receives: wakes the senders, if one has asked for it.
-    pub fn tell_room(&self, node: NodeNo, stage: Stage) {
-        if let Some(crowd) = self.crowd(node, stage) {
-            if crowd.leave() {
-                self.wake_senders(node, stage);
-            }
+    pub fn tell_room(&self, node: NodeNo, stage: Stage) -> Heard
+        requires { node < length self.now.nodes }
+        ensures { result.whom.row ≡ senders_to node stage }
+    {
+        let queues = self.node(node);
+        match stage {
+            Stage::Request => self.tell_sessions(&queues.requests),
+            Stage::Persist => queues.tell_request_stage(),
+            Stage::Reply => queues.tell_workers(),
         }
     }
 
-    fn wake_senders(&self, node: NodeNo, stage: Stage) {
-        match stage {
-            Stage::Request => self.wake_sessions(),
-            Stage::Persist => self.wake_stage(node, Stage::Request),
-            Stage::Reply => self.wake_stage(node, Stage::Persist),
+    fn tell_sessions(&self, requests: &RequestQueue) -> Heard
+        ensures { result.whom ≡ all_sessions }
+    {
+        match requests.leave_room() {
+            Ok(heard) => heard,
+            Err(owed) => owed.pay(self.wake_sessions()),
         }
     }
 
@@ -319,12 +347,10 @@ impl Queues {
     pub fn close(&self) {
         self.closed.store(true, Ordering::SeqCst);
         for actor in &self.actors {
-            actor.bell.ring();
+            let _rung = actor.bell.ring();
         }
         for node in &self.nodes {
-            node.requests.reader.ring();
-            node.batches.wake_readers();
-            node.settled.reader.ring();
+            node.wake_stages();
         }
     }
 
@@ -335,7 +361,8 @@ impl Queues {
 
     fn node(&self, node: NodeNo) -> &NodeQueues
         requires { node < length self.now.nodes }
-        ensures { slice_get self.now.nodes node ≡ Some result.now }
+        ensures there { slice_get self.now.nodes node ≡ Some result.now }
+        ensures number { result.now.node ≡ node }
     {
         &self.nodes[node.index()]
     }

@@ -1,7 +1,10 @@
-ghost use Rattle.std.specs.Prelude.{◌≡◌, ◌<◌};
+ghost use Rattle.std.specs.Prelude.{◌≡◌, ◌+◌, ◌<◌, IfOk, MatchResult, vec_len};
 ghost use Rattle.stage_queues.specs.Places.{place_of};
+ghost use Rattle.stage_queues.specs.Spots.{alone, spot, StandIn};
 
 use crate::bell::Bell;
+use crate::rings::{Heard, Owed};
+use crate::spot::{Row, Spot, Whom};
 use history_book::Actor;
 use stamp_base::{NoMemory, NodeNo, SessionNo, Stage};
 use std::alloc::Global;
@@ -17,6 +20,9 @@ pub enum Waiter {
 
 /// How many actors there may be: the clock, the janitor, the nodes and the sessions.
 pub const ACTORS: usize = 2 + NodeNo::COUNT + SessionNo::COUNT;
+
+/// The place of the first session among them.
+pub const FIRST_SESSION: usize = 2 + NodeNo::COUNT;
 
 /// The place of an actor among all.
 pub fn actor_place(actor: Actor) -> usize
@@ -35,13 +41,17 @@ pub fn actor_place(actor: Actor) -> usize
 #[derive(Drop)]
 pub struct Crowd {
     asks: AtomicBool,
+    whom: Whom,
 }
 
 impl Crowd {
-    /// Nobody has asked.
-    pub fn none() -> Crowd {
+    /// None of these has asked.
+    pub fn of(whom: Whom) -> Crowd
+        ensures { result.whom ≡ whom }
+    {
         Crowd {
             asks: AtomicBool::new(false),
+            whom,
         }
     }
 
@@ -50,9 +60,14 @@ impl Crowd {
         self.asks.store(true, Ordering::SeqCst);
     }
 
-    /// There is room, or a batch. Whether one has asked for it since the last time, and so is to be woken.
-    pub fn leave(&self) -> bool {
-        self.asks.load(Ordering::SeqCst) && self.asks.swap(false, Ordering::SeqCst)
+    /// There is room, or a batch. Where one has asked for it since the last time, all are to be woken.
+    pub fn leave(&self) -> Result<Heard, Owed>
+        ensures { MatchResult result (λ heard. heard.whom ≡ self.now.whom) (λ owed. owed.whom ≡ self.now.whom) }
+    {
+        if self.asks.load(Ordering::SeqCst) && self.asks.swap(false, Ordering::SeqCst) {
+            return Err(Owed::to(self.whom));
+        }
+        Ok(Heard::unasked(self.whom))
     }
 }
 
@@ -67,9 +82,11 @@ pub struct Place {
 
 impl Place {
     /// Nobody waits there.
-    pub fn new() -> Place {
+    pub fn at(spot: Spot) -> Place
+        ensures { result.bell.spot ≡ spot }
+    {
         Place {
-            bell: Bell::new(),
+            bell: Bell::at(spot),
             waits: AtomicBool::new(false),
             awaits_stamp: AtomicBool::new(false),
         }
@@ -90,17 +107,30 @@ impl Place {
         self.awaits_stamp.store(awaits, Ordering::SeqCst);
     }
 
-    /// Whether it does.
-    pub fn awaits_stamp(&self) -> bool {
-        self.awaits_stamp.load(Ordering::SeqCst)
+    /// It has its stamp. Where its line waits for that, it is to be woken.
+    pub fn leave_stamp(&self) -> Result<Heard, Owed>
+        ensures { MatchResult result (λ heard. heard.whom ≡ alone self.now.bell.spot) (λ owed. owed.whom ≡ alone self.now.bell.spot) }
+    {
+        let whom = Whom {
+            row: self.bell.spot().row,
+            from: self.bell.spot().number,
+            count: 1,
+        };
+        if self.awaits_stamp.load(Ordering::SeqCst) {
+            return Err(Owed::to(whom));
+        }
+        Ok(Heard::unasked(whom))
     }
 }
 
-/// So many places to wait at.
-pub fn places(alloc: Global, count: usize) -> Result<Vec<Place>, NoMemory> {
+/// So many places to wait at, in a row.
+pub fn places(alloc: Global, row: Row, count: usize) -> Result<Vec<Place>, NoMemory>
+    ensures count { IfOk result (λ places. vec_len places ≡ count) }
+    ensures row { IfOk result (λ places. StandIn row places.items) }
+{
     let mut places = Vec::with_capacity(alloc, count)?;
-    for _waiter in 0..count {
-        places.push(Place::new())?;
+    for number in 0..count {
+        places.push(Place::at(Spot { row, number }))?;
     }
     Ok(places)
 }

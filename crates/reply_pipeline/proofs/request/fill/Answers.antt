@@ -25,4 +25,6 @@ pub returns-in-Held-clause-gathered : goal.returns-in-Held-clause-gathered
 returns-in-Held-clause-gathered g c = c.receive.ensures.passed c.loop.batch.number 1 c.loop.batch.batch.entries c.loop.invariant.0
 
 pub returns-in-Held-clause-left : goal.returns-in-Held-clause-left
-returns-in-Held-clause-left g c = λ entry of. c.in-Some-receive.ensures.may_enter entry of c.loop.batch.number 1 c.loop.batch.batch.entries c.loop.invariant.0
+returns-in-Held-clause-left g c = λ entry of.
+    let same = subst (IsServed c.in-Some-receive.ticket) c.in-Held.is c.in_ok-entry.ensures.served in
+    c.in-Some-receive.ensures.may_enter entry (of ∙ same) c.loop.batch.number 1 c.loop.batch.batch.entries c.loop.invariant.0
