@@ -51,6 +51,18 @@ pub fn opened_by(alloc: Global, setup: &Setup) -> Result<Crew, Fail>
     })
 }
 
+/// The queues for the threads of four sessions, and the pass of the last of them.
+pub fn opened_for_four(alloc: Global, setup: &Setup) -> Result<(Queues, StagePass), Fail>
+    requires nodes { setup.now.nodes ≡ 2 }
+    requires workers { setup.now.workers ≡ 2 }
+    ensures session { IfOk result (λ opened. IsSenderPass opened.0 opened.1) }
+    ensures nodes { IfOk result (λ opened. length opened.0.nodes ≡ 2) }
+{
+    let (queues, mut passes) = Queues::open(alloc, setup, 4)?;
+    let session = passes.pop().ok_or("a session's pass")?;
+    Ok((queues, session))
+}
+
 pub fn ticket_of(session: SessionNo) -> Ticket {
     Ticket {
         session,

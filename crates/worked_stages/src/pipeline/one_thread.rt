@@ -85,6 +85,21 @@ fn a_ticket_is_due_once_nobody_else_sends(rt: HostRuntime) -> Result<(), Fail> {
     Ok(())
 }
 
+// One of four sessions has sent a ticket. It is due once all four have ended, since each could have sent one more.
+#[test]
+fn a_ticket_waits_for_all_that_are_at_work(rt: HostRuntime) -> Result<(), Fail> {
+    let (queues, mut session) = opened_for_four(rt.alloc(), &Setup::default())?;
+    let ticket = ticket_of(SessionNo::LAST);
+    let sent = offer_ticket(&rt, NodeNo::FIRST, &queues, &mut session, ticket);
+    assert!(rt; sent.is_ok());
+    for _session in 0..4 {
+        assert!(rt; !queues.is_due(NodeNo::FIRST));
+        queues.leave();
+    }
+    assert!(rt; queues.is_due(NodeNo::FIRST));
+    Ok(())
+}
+
 // Where sessions place their commits the persist stage asks for no step, and a batch gets through to its answer.
 #[test]
 fn batches_pass_on_where_sessions_place(rt: HostRuntime) -> Result<(), Fail> {

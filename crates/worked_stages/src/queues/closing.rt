@@ -70,7 +70,7 @@ fn a_wake_before_the_wait_is_kept(rt: HostRuntime) -> Result<(), Fail> {
     queues.wait(&rt, waiter(3));
     queues.wait(&rt, Waiter::Stage(NodeNo::FIRST, Stage::Persist, 100));
     queues.ask_for_room(NodeNo::FIRST, Stage::Request);
-    queues.tell_room(NodeNo::FIRST, Stage::Request);
+    let _heard = queues.tell_room(NodeNo::FIRST, Stage::Request);
     queues.wait(&rt, waiter(7));
     Ok(())
 }

@@ -11,7 +11,7 @@ fn nothing_is_due_where_no_ticket_is(rt: HostRuntime) -> Result<(), Fail> {
     let node = NodeNo::FIRST;
     assert!(rt; !queues.is_due(node));
     queues.press();
-    queues.tell_ticket(node);
+    let _heard = queues.tell_ticket(node);
     assert!(rt; !queues.is_due(node));
     for _sender in 0..4 {
         queues.leave();
@@ -36,9 +36,9 @@ fn a_worker_looks_once_more_before_it_waits(rt: HostRuntime) -> Result<(), Fail>
 #[test]
 fn a_stamp_wakes_who_awaits_it(rt: HostRuntime) -> Result<(), Fail> {
     let (queues, _passes) = Queues::open(rt.alloc(), &one_worker(), 1)?;
-    queues.tell_stamp(SessionNo::FIRST);
+    let _heard = queues.tell_stamp(SessionNo::FIRST);
     queues.heed_stamp(SessionNo::FIRST, true);
-    queues.tell_stamp(SessionNo::FIRST);
+    let _heard = queues.tell_stamp(SessionNo::FIRST);
     queues.wait(&rt, Waiter::Actor(Actor::Session(SessionNo::FIRST)));
     queues.heed_stamp(SessionNo::FIRST, false);
     Ok(())
