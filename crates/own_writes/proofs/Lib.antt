@@ -1,0 +1,10 @@
+mod Unwritten
+mod OpenRows
+mod ErasedRows
+mod SweptRows
+mod WritesBefore
+mod OwnCells
+mod ReadTurns
+mod OwnReads
+mod OwnKept
+mod WorkedReads

@@ -1,0 +1,3 @@
+pub mod OwnWrites
+pub mod Laws
+pub mod Worked
