@@ -1,0 +1,6 @@
+mod Measure
+mod NodeEvents
+mod OwnEvents
+mod ServingEvents
+mod OneTurn
+mod AllTurns
