@@ -1,6 +1,7 @@
 -- Lawful turns take off no more than acceptances give and what was left before.
-use Rattle.std.proofs.Common.{◌≡◌, ◌≢◌, ℕ, suc, ◌+◌, ◌*◌, ◌≤◌, Bool, true, false, cond, List, [], ◌∷◌, ◌++◌, length, Option, Some, None, refl, sym, ◌∙◌, ap, subst, arith}
+use Rattle.std.proofs.Common.{◌≡◌, ◌≢◌, ℕ, zero, suc, ◌+◌, ◌*◌, ◌≤◌, Bool, true, false, cond, List, [], ◌∷◌, ◌++◌, length, take, Option, Some, None, refl, sym, ◌∙◌, ap, subst, arith}
 use Rattle.std.specs.Prelude.{fold, slice_get}
+use Rattle.std.proofs.lemmas.Option.{same_Some, none-some}
 use Rattle.stamp_base.specs.SetupNumbers.{AreInRange}
 use Rattle.history_book.specs.Members.{AtEach}
 use Rattle.history_book.specs.declared.item.Item.{Item}
@@ -35,6 +36,16 @@ lawful_on : (script : ScriptData) (c : Carried) (turns : List Turn) → AtEach (
 unfolding LawfulOn
 lawful_on script c [] each = tt
 lawful_on script c (t ∷ turns) each = (each.at 0 t refl, lawful_on script (turned script c t) turns (record { at = λ place x found. each.at (suc place) x found }))
+
+-- and back
+lawful_at : (script : ScriptData) (c : Carried) (turns : List Turn) → LawfulOn script c turns → (place : ℕ) (t : Turn) → slice_get turns place ≡ Some t → IsLawful script (fold (turned script) c (take place turns)) t
+unfolding LawfulOn
+lawful_at script c [] on place t found = absurd (none-some t found)
+lawful_at script c (x ∷ turns) on zero t found = subst (λ (y : Turn). IsLawful script c y) (same_Some x t found) on.0
+lawful_at script c (x ∷ turns) on (suc place) t found = lawful_at script (turned script c x) turns on.1 place t found
+
+pub all_lawful : (script : ScriptData) (c : Carried) (turns : List Turn) → LawfulOn script c turns → AtEach (λ before t. IsLawful script (fold (turned script) c before) t) turns
+all_lawful script c turns on = record { at = lawful_at script c turns on }
 
 lawful_behind : (script : ScriptData) (c : Carried) (before after : List Turn) → LawfulOn script c (before ++ after) → LawfulOn script (fold (turned script) c before) after
 unfolding LawfulOn

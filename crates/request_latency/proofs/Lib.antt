@@ -4,3 +4,4 @@ mod OwnEvents
 mod ServingEvents
 mod OneTurn
 mod AllTurns
+mod WorkedRun

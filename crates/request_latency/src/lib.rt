@@ -2,5 +2,7 @@
 #![tactic(auto)]
 
 mod laws;
+mod worked;
 
 pub use laws::{requests_end_within, requests_keep_to_what_is_left, runs_serve_within};
+pub use worked::two_requests_at_the_bound;
