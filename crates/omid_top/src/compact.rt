@@ -19,6 +19,7 @@ use cluster_core::Stores;
 use port_io::{ReadStop, Sink, Source, read_up_to};
 use replay_driver::replay_told;
 use run_driver::Gate;
+use script_service::scripts_keep_service;
 use stamp_base::{BYTE_LIMIT, NoMemory, Stamp};
 use std::alloc::Global;
 
@@ -109,6 +110,7 @@ fn compacted<G: Gate>(
 {
     snapshots_are_visible();
     compaction_keeps_snapshots();
+    scripts_keep_service();
     let cluster = replay_told(alloc, script, &TellsGate { gate })?;
     // That the history is isolated, serial and explained is known of the cluster alone, while it is whole.
     let _history = cluster.history();
