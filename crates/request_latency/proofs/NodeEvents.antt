@@ -1,5 +1,5 @@
 -- An event that serves no request leaves a session no more turns that serve it.
-use Rattle.std.proofs.Common.{◌≡◌, ℕ, ◌+◌, ◌≤◌, ◌==◌, Bool, true, false, cond, List, [], ◌∷◌, Option, Some, None, Result, Ok, Err, refl, sym, ap, subst, arith}
+use Rattle.std.proofs.Common.{◌≡◌, ℕ, ◌+◌, ◌≤◌, ◌==◌, Bool, true, false, List, [], ◌∷◌, Option, Some, None, Result, Ok, Err, refl, ap, arith}
 use Rattle.std.specs.Prelude.{slice_get, slice_set, if◌then◌else◌}
 use Rattle.port_io.specs.declared.weather.Fate.{Fate}
 use Rattle.history_book.specs.declared.cause.Cause.{Cause}
@@ -30,8 +30,8 @@ use Rattle.machine.specs.Events.Take.{take_by, take_on}
 use Rattle.machine.specs.Events.Renew.{renew_by, renew_on}
 use Rattle.machine.specs.Events.Extend.{extend_by, extend_on}
 use Rattle.machine.specs.Events.Crash.{crash_on}
-use Rattle.machine.specs.Events.AskBegin.{asked_by, begin_asked, ask_begin_by, ask_begin_on}
-use Rattle.machine.specs.Events.AskCommit.{commit_asked, commit_of, ask_commit_by, ask_commit_on}
+use Rattle.machine.specs.Events.AskBegin.{asked_by, ask_begin_by}
+use Rattle.machine.specs.Events.AskCommit.{commit_of, ask_commit_by}
 use Rattle.machine.proofs.LookedUp.{of_post, of_both}
 use Rattle.machine.proofs.PartsKept.{leaves_parts}
 use Rattle.request_latency.proofs.Measure.{held_left, post_left, nodes_left, for_own, request_set, nodes_set}

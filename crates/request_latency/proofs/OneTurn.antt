@@ -1,6 +1,6 @@
 -- One lawful turn: what it takes off the turns that are left to a session's request, and what it gives.
-use Rattle.std.proofs.Common.{◌≡◌, ◌≢◌, ℕ, ◌+◌, ◌≤◌, ◌==◌, Bool, true, false, cond, List, [], Option, Some, None, refl, sym, ◌∙◌, ap, subst, arith}
-use Rattle.std.specs.Prelude.{slice_get, slice_set, IsSomeAnd}
+use Rattle.std.proofs.Common.{◌≡◌, ◌≢◌, ℕ, ◌+◌, ◌≤◌, true, cond, [], Option, Some, None, refl, sym, ◌∙◌, ap, subst, arith}
+use Rattle.std.specs.Prelude.{slice_get, slice_set}
 use Rattle.std.proofs.lemmas.Option.{same_Some}
 use Rattle.port_io.specs.declared.weather.Fate.{Fate}
 use Rattle.history_book.specs.declared.item.Actor.{Actor}
@@ -31,10 +31,10 @@ use Rattle.command_semantics.specs.Runs.{fate_of, clocks_of, step_of}
 use Rattle.command_semantics.proofs.Holders.{Served, is_served_at}
 use Rattle.turn_rules.specs.declared.turn.Turn.{Turn}
 use Rattle.turn_rules.specs.declared.turn.Turn.TheVariants as turn
-use Rattle.turn_rules.specs.Carried.{Carried, event_of, turned_by, turned}
-use Rattle.turn_rules.specs.Lawful.{session_view, answered_from, IsInPlace, IsTold, IsLawful}
+use Rattle.turn_rules.specs.Carried.{Carried, event_of, turned_by}
+use Rattle.turn_rules.specs.Lawful.{session_view, answered_from, IsLawful}
 use Rattle.turn_rules.specs.Told.{AreForThreads}
-use Rattle.request_latency.specs.Latency.{is_acceptance, is_service, left_at}
+use Rattle.request_latency.specs.Latency.{is_acceptance, is_service}
 use Rattle.request_latency.proofs.Measure.{post_left, nodes_left, for_own, nodes_set}
 use Rattle.request_latency.proofs.NodeEvents.{ServesNone, leaves_no_more}
 use Rattle.request_latency.proofs.OwnEvents.{own_serves_none}
@@ -46,10 +46,10 @@ Gives s r w step = nodes_left s step.state.nodes ≤ nodes_left s w.nodes + for_
 
 accepts : (s : ℕ) (w : State) (n r reading : ℕ) (fate : Fate) → Gives s r w (stepped w (event.Accept n r reading) fate)
 accepts s w n r reading fate = of_both (Gives s r w) (with_reading w reading) _ (slice_get w.nodes n) (slice_get w.clients r) (omega arith) (λ post c at there.
-  let now : Option InstanceEntry = (accept_on n r reading post c).parts.0 in
-  let gives : post_left s now ≤ post_left s post + for_own s r 4 = accept_gives s n r reading post c in
-  let set : nodes_left s (slice_set w.nodes n now) + 0 ≤ nodes_left s w.nodes + for_own s r 4 = nodes_set s w.nodes n 0 (for_own s r 4) post now at (omega (arith, gives)) in
-  omega (arith, set))
+    let now : Option InstanceEntry = (accept_on n r reading post c).parts.0 in
+    let gives : post_left s now ≤ post_left s post + for_own s r 4 = accept_gives s n r reading post c in
+    let set : nodes_left s (slice_set w.nodes n now) + 0 ≤ nodes_left s w.nodes + for_own s r 4 = nodes_set s w.nodes n 0 (for_own s r 4) post now at (omega (arith, gives)) in
+    omega (arith, set))
 
 abbrev TakesOff : ℕ → ℕ → State → Step → Type 0
 TakesOff s r w step = step.items ≢ [] → nodes_left s step.state.nodes + for_own s r 1 ≤ nodes_left s w.nodes

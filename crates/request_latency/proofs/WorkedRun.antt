@@ -28,28 +28,67 @@ some_item x xs none = cc
 
 each_lawful : LawfulOn worked.script (carried worked.script []) worked.all_turns
 unfolding LawfulOn seats_of passed holder_from planned_fate record_pairs least_unsettled kept_commit verdict put_row
-each_lawful =
-    (record { free = tt; in_place = tt; told = λ none. some_item _ _ none },
-      (record { free = tt; in_place = tt; told = λ none. some_item _ _ none },
-      (record { free = refl; in_place = refl; told = λ none. some_item _ _ none },
-      (record { free = refl; in_place = refl; told = λ none. some_item _ _ none },
-      (record { free = refl; in_place = refl; told = λ none. some_item _ _ none },
-      (record { free = tt; in_place = tt; told = λ none. some_item _ _ none },
-      (record { free = tt; in_place = tt; told = λ none. some_item _ _ none },
-      (record { free = tt; in_place = tt; told = λ none. some_item _ _ none },
-      (record { free = refl; in_place = refl; told = λ none. some_item _ _ none },
-      (record { free = refl; in_place = refl; told = λ none. some_item _ _ none },
-      (record { free = refl; in_place = refl; told = λ none. some_item _ _ none },
-      (record { free = refl; in_place = (refl, refl); told = λ none. some_item _ _ none },
-      (record { free = refl; in_place = refl; told = λ none. some_item _ _ none },
-      (record { free = refl; in_place = refl; told = λ none. some_item _ _ none },
-      (record { free = refl; in_place = (refl, refl); told = λ none. some_item _ _ none },
-      (record { free = refl; in_place = refl; told = λ none. some_item _ _ none },
-      (record { free = refl; in_place = refl; told = λ none. some_item _ _ none },
-      (record { free = refl; in_place = (refl, refl); told = λ none. some_item _ _ none },
-      (record { free = refl; in_place = refl; told = λ none. some_item _ _ none },
-      (record { free = refl; in_place = refl; told = λ none. some_item _ _ none },
-      tt))))))))))))))))))))
+each_lawful = (
+  record { free = tt; in_place = tt; told = λ none. some_item _ _ none },
+  (
+    record { free = tt; in_place = tt; told = λ none. some_item _ _ none },
+    (
+      record { free = refl; in_place = refl; told = λ none. some_item _ _ none },
+      (
+        record { free = refl; in_place = refl; told = λ none. some_item _ _ none },
+        (
+          record { free = refl; in_place = refl; told = λ none. some_item _ _ none },
+          (
+            record { free = tt; in_place = tt; told = λ none. some_item _ _ none },
+            (
+              record { free = tt; in_place = tt; told = λ none. some_item _ _ none },
+              (
+                record { free = tt; in_place = tt; told = λ none. some_item _ _ none },
+                (
+                  record { free = refl; in_place = refl; told = λ none. some_item _ _ none },
+                  (
+                    record { free = refl; in_place = refl; told = λ none. some_item _ _ none },
+                    (
+                      record { free = refl; in_place = refl; told = λ none. some_item _ _ none },
+                      (
+                        record { free = refl; in_place = (refl, refl); told = λ none. some_item _ _ none },
+                        (
+                          record { free = refl; in_place = refl; told = λ none. some_item _ _ none },
+                          (
+                            record { free = refl; in_place = refl; told = λ none. some_item _ _ none },
+                            (
+                              record { free = refl; in_place = (refl, refl); told = λ none. some_item _ _ none },
+                              (
+                                record { free = refl; in_place = refl; told = λ none. some_item _ _ none },
+                                (
+                                  record { free = refl; in_place = refl; told = λ none. some_item _ _ none },
+                                  (
+                                    record { free = refl; in_place = (refl, refl); told = λ none. some_item _ _ none },
+                                    (
+                                      record { free = refl; in_place = refl; told = λ none. some_item _ _ none },
+                                      (
+                                        record { free = refl; in_place = refl; told = λ none. some_item _ _ none },
+                                        tt,
+                                      ),
+                                    ),
+                                  ),
+                                ),
+                              ),
+                            ),
+                          ),
+                        ),
+                      ),
+                    ),
+                  ),
+                ),
+              ),
+            ),
+          ),
+        ),
+      ),
+    ),
+  ),
+)
 
 pub run_lawful : AreLawful worked.script worked.all_turns
 run_lawful = all_lawful worked.script (carried worked.script []) worked.all_turns each_lawful
