@@ -1,3 +1,4 @@
 pub mod Words
+pub mod Levels
 pub mod Verdicts
 pub mod Commands

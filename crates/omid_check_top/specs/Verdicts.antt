@@ -23,8 +23,9 @@ use Rattle.trace_report.specs.Names.{anomaly_name, name_of}
 use Rattle.trace_report.specs.Wrongs.{wrong_at, wrong_name}
 use Rattle.trace_report.specs.Cycle.{cycle_text}
 use Rattle.trace_report.specs.Verdict.{holds_text, refused_text, unclear_text, undecided_text, wrong_read_text}
+use Rattle.omid_check_top.specs.Levels.{AreLevels}
 use Rattle.omid_check_top.specs.declared.words.Question.{Question}
-use Rattle.omid_check_top.specs.declared.words.Question.TheVariants.{Committed, Isolated}
+use Rattle.omid_check_top.specs.declared.words.Question.TheVariants.{Committed, Isolated, Levels}
 use Rattle.omid_check_top.specs.declared.limit.TheConstants.{TRACE_LIMIT}
 
 -- ---- a verdict with its status and text
@@ -131,6 +132,7 @@ IsCommitted s code text = AreReadsCommitted s code text ⊎ AreReadsCyclic s cod
 abbrev pub IsFound : Question → Subject → ℕ → List ℕ → Type 0
 IsFound (Isolated level wanted) s code text = IsIsolated level wanted s code text
 IsFound Committed s code text = IsCommitted s code text
+IsFound Levels s code text = AreLevels s.trace s.times code text
 
 -- the statuses of a verdict, and those of all that is said of a trace
 abbrev pub IsEnd : ℕ → Type 0

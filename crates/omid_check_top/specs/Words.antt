@@ -5,7 +5,7 @@ use Rattle.trace_rules.specs.declared.wanted.Level.{Level}
 use Rattle.trace_rules.specs.declared.wanted.Level.TheVariants.{Snapshot, Serializable}
 use Rattle.trace_rules.specs.declared.wanted.Wanted.{Wanted}
 use Rattle.trace_rules.specs.declared.wanted.Wanted.TheVariants.{Nothing, Sessions, RealTime}
-use Rattle.omid_check_top.specs.declared.words.Question.TheVariants.{Committed, Isolated}
+use Rattle.omid_check_top.specs.declared.words.Question.TheVariants.{Committed, Isolated, Levels}
 use Rattle.omid_check_top.specs.declared.words.Command.{Command}
 use Rattle.omid_check_top.specs.declared.words.Command.TheVariants.{Check, Help}
 
@@ -22,7 +22,7 @@ checks (Some level) (Some wanted) = Some (Check (Isolated level wanted))
 
 -- a level, committed, or help
 abbrev pub one_word : List ℕ → Option Command
-one_word word = if bytes_eq word (codes "help") || bytes_eq word (codes "--help") then Some Help else (if bytes_eq word (codes "committed") then Some (Check Committed) else checks (level_of word) (Some Nothing))
+one_word word = if bytes_eq word (codes "help") || bytes_eq word (codes "--help") then Some Help else (if bytes_eq word (codes "committed") then Some (Check Committed) else (if bytes_eq word (codes "levels") then Some (Check Levels) else checks (level_of word) (Some Nothing)))
 
 -- the command that the words name, where they name one
 abbrev pub command_of : List (List ℕ) → Option Command
@@ -32,4 +32,4 @@ command_of (word ∷ other ∷ []) = checks (level_of word) (wanted_of other)
 command_of (word ∷ other ∷ another ∷ words) = None
 
 abbrev pub usage_text : List ℕ
-usage_text = codes "usage: omid_check snapshot | serializable [session | real-time], committed, or help\n"
+usage_text = codes "usage: omid_check snapshot | serializable [session | real-time], committed, levels, or help\n"

@@ -17,8 +17,8 @@ use std::alloc::Global;
 /// Carries out what the words name: reads a trace, judges it by what is asked, and writes the verdict, with a cycle where the
 /// trace is not as asked; or writes how the program is used. The status is 0 where the trace is as asked, or help was, 2 where the
 /// words are no command, 3 where the bytes are no trace or do not show who wrote what, 4 where the source failed, 5 where the
-/// sink did, 6 where memory was refused, 7 where the trace is not as asked, and 8 where it does not decide. On 2, and for help,
-/// the source is not read.
+/// sink did, 6 where memory was refused, 7 where the trace is not as asked, and 8 where it does not decide. Of all levels a line
+/// each is written, and the status is that of committed reads. On 2, and for help, the source is not read.
 pub fn omid_check<S: Source, K: Sink>(
     alloc: Global,
     words: &[String],
@@ -127,7 +127,7 @@ fn say_usage<K: Sink>(sink: &mut K, code: u8) -> u8
 {
     match print_text(
         sink,
-        b"usage: omid_check snapshot | serializable [session | real-time], committed, or help\n",
+        b"usage: omid_check snapshot | serializable [session | real-time], committed, levels, or help\n",
     ) {
         Ok(()) => code,
         Err(Failed) => status::SINK_FAILED,

@@ -4,6 +4,7 @@ ghost use Rattle.trace_report.specs.Verdict.{holds_text};
 ghost use Rattle.omid_check_top.specs.Verdicts.{IsFound, IsIsolated, IsShown, IsVerdict, open_text, reader_of, subject_of, wrong_text};
 
 use crate::committed::committed;
+use crate::levels::levels;
 use crate::made::Made;
 use crate::status;
 use crate::steps::steps_of;
@@ -32,6 +33,7 @@ pub fn judged(
     match question {
         Question::Isolated { level, wanted } => isolated(alloc, level, wanted, recording, indexed),
         Question::Committed => committed(alloc, recording, indexed),
+        Question::Levels => levels(alloc, indexed),
     }
 }
 

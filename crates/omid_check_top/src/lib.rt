@@ -4,6 +4,7 @@
 mod check;
 mod committed;
 mod judged;
+mod levels;
 mod limit;
 mod made;
 mod status;

@@ -37,7 +37,7 @@ const BESIDE: &str = r#"{"type": "invoke", "process": 0, "time": 1, "value": [["
 "#;
 
 const USAGE: &str =
-    "usage: omid_check snapshot | serializable [session | real-time], committed, or help\n";
+    "usage: omid_check snapshot | serializable [session | real-time], committed, levels, or help\n";
 
 fn bytes_of(alloc: Global, text: &str) -> Result<Vec<u8>, AllocError> {
     let mut bytes = Vec::new(alloc);
@@ -220,6 +220,41 @@ fn reads_are_of_committed_transactions(rt: HostRuntime) -> Result<(), Fail> {
         ),
     ] {
         let (code, held) = called(rt.alloc(), "committed", trace)?;
+        assert_eq!(rt; code, status);
+        assert_eq!(rt; str::from_utf8(held.as_slice()), Ok(told));
+    }
+    Ok(())
+}
+
+#[test]
+fn levels_stand_in_order(rt: HostRuntime) -> Result<(), Fail> {
+    for (trace, status, told) in [
+        (
+            SKEW,
+            status::DONE,
+            "snapshot real-time: holds
+snapshot session: holds
+snapshot: holds
+committed: holds
+serializable real-time: does not hold
+serializable session: does not hold
+serializable: does not hold
+",
+        ),
+        (
+            DIRTY,
+            status::REFUSED,
+            "serializable real-time: does not hold
+serializable session: does not hold
+serializable: does not hold
+snapshot real-time: does not hold
+snapshot session: does not hold
+snapshot: does not hold
+committed: does not hold
+",
+        ),
+    ] {
+        let (code, held) = called(rt.alloc(), "levels", trace)?;
         assert_eq!(rt; code, status);
         assert_eq!(rt; str::from_utf8(held.as_slice()), Ok(told));
     }

@@ -15,6 +15,8 @@ pub enum Question {
     Isolated { level: Level, wanted: Wanted },
     /// Whether each read is of a committed transaction's last write, and none goes round.
     Committed,
+    /// All of these, each in a line.
+    Levels,
 }
 
 /// What the program is asked to do.
@@ -74,6 +76,11 @@ fn one_word(word: &str) -> Option<Command>
     if is_word(word, "committed") {
         return Some(Command::Check {
             question: Question::Committed,
+        });
+    }
+    if is_word(word, "levels") {
+        return Some(Command::Check {
+            question: Question::Levels,
         });
     }
     checks(level_of(word), Some(Wanted::Nothing))

@@ -1,0 +1,59 @@
+-- What is said of all levels: a line for each, first those that hold, the strongest first.
+use Rattle.std.specs.Prelude.{◌≡◌, ◌≢◌, ℕ, ◌==◌, if◌then◌else◌, List, [], ◌∷◌, ◌++◌, ◌⊎◌, codes}
+use Rattle.trace_rules.specs.declared.wanted.Level.{Level}
+use Rattle.trace_rules.specs.declared.wanted.Level.TheVariants.{Snapshot, Serializable}
+use Rattle.trace_rules.specs.declared.wanted.Times.{Times}
+use Rattle.trace_rules.specs.declared.wanted.Wanted.{Wanted}
+use Rattle.trace_rules.specs.declared.wanted.Wanted.TheVariants.{Nothing, Sessions, RealTime}
+use Rattle.trace_rules.specs.Trace.{Trace}
+use Rattle.trace_rules.specs.Stamping.{Stampable}
+use Rattle.trace_rules.specs.Wants.{asked_of}
+use Rattle.committed_reads.specs.Committed.{CommittedReads}
+use Rattle.omid_check_top.specs.declared.levels.Grade.{Grade}
+use Rattle.omid_check_top.specs.declared.levels.Grade.TheVariants.{AtLevel, OfReads}
+
+-- the levels, the strongest first
+abbrev pub ranked : List Grade
+ranked = AtLevel Serializable RealTime ∷ AtLevel Serializable Sessions ∷ AtLevel Serializable Nothing ∷ AtLevel Snapshot RealTime ∷ AtLevel Snapshot Sessions ∷ AtLevel Snapshot Nothing ∷ OfReads ∷ []
+
+-- a level with each order that may be asked for
+abbrev pub with_orders : Level → List Grade
+with_orders level = AtLevel level RealTime ∷ AtLevel level Sessions ∷ AtLevel level Nothing ∷ []
+
+abbrev pub level_word : Level → List ℕ
+level_word Snapshot = codes "snapshot"
+level_word Serializable = codes "serializable"
+
+abbrev pub wanted_word : Wanted → List ℕ
+wanted_word Nothing = codes ""
+wanted_word Sessions = codes " session"
+wanted_word RealTime = codes " real-time"
+
+abbrev pub grade_words : Grade → List ℕ
+grade_words (AtLevel level wanted) = level_word level ++ wanted_word wanted
+grade_words OfReads = codes "committed"
+
+abbrev pub status_words : ℕ → List ℕ
+status_words code = if code == 0 then codes ": holds\n" else (if code == 7 then codes ": does not hold\n" else codes ": not decided\n")
+
+abbrev pub line_of : Grade → ℕ → List ℕ
+line_of grade code = grade_words grade ++ status_words code
+
+-- the status says whether the trace is so
+abbrev pub IsStatus : Grade → Trace → List Times → ℕ → Type 0
+IsStatus (AtLevel level wanted) trace times code = ((code ≡ 0) × Stampable level (asked_of wanted level times trace) trace) ⊎ ((code ≡ 7) × (Stampable level (asked_of wanted level times trace) trace → ⊥)) ⊎ (code ≡ 8)
+IsStatus OfReads trace times code = ((code ≡ 0) × CommittedReads trace) ⊎ ((code ≡ 7) × (CommittedReads trace → ⊥))
+
+-- the lines of these levels: of those that hold, and of the others
+pub data AreSaid (trace : Trace) (times : List Times) : List Grade → List ℕ → List ℕ → Type 0 where
+  NoneSaid : AreSaid trace times [] [] []
+  Holding : {grades : List Grade} {holding others : List ℕ} (grade : Grade) → IsStatus grade trace times 0 → AreSaid trace times grades holding others → AreSaid trace times (grades ++ grade ∷ []) (holding ++ line_of grade 0) others
+  Other : {grades : List Grade} {holding others : List ℕ} (grade : Grade) (code : ℕ) → code ≢ 0 → IsStatus grade trace times code → AreSaid trace times grades holding others → AreSaid trace times (grades ++ grade ∷ []) holding (others ++ line_of grade code)
+
+-- the status is that of committed reads
+pub record AreLevels (trace : Trace) (times : List Times) (code : ℕ) (text : List ℕ) : Type 0 where
+  pub holding : List ℕ
+  pub others : List ℕ
+  pub said : AreSaid trace times ranked holding others
+  pub told : text ≡ holding ++ others
+  pub status : IsStatus OfReads trace times code
