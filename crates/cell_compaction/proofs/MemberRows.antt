@@ -10,13 +10,13 @@ use Rattle.system_parts.proofs.RowLaws.{is_row-cases, looked-here, looked-past, 
 use Rattle.system_parts.specs.Pairs.{Pairs}
 use Rattle.cell_compaction.specs.Rest.{with_commit, with_commits}
 
-abbrev pub NextAction : Row → Row → Type 0
-NextAction r x = (r.key < x.key) ⊎ ((r.key ≡ x.key) × (r.version < x.version))
+abbrev pub StandsBefore : Row → Row → Type 0
+StandsBefore r x = (r.key < x.key) ⊎ ((r.key ≡ x.key) × (r.version < x.version))
 
-below_member : (r x : Row) (rs : List Row) → IsBelowAll r rs → x ∈ rs → NextAction r x
+below_member : (r x : Row) (rs : List Row) → IsBelowAll r rs → x ∈ rs → StandsBefore r x
 unfolding IsBelowAll ◌∈◌
 below_member r x [] below has = absurd has
-below_member r x (y ∷ ys) below has = ⊎_elim (λ (e : x ≡ y). subst (NextAction r) (sym e) below.0) (below_member r x ys below.1) has
+below_member r x (y ∷ ys) below has = ⊎_elim (λ (e : x ≡ y). subst (StandsBefore r) (sym e) below.0) (below_member r x ys below.1) has
 
 pub member_looked : (r : Row) (rs : List Row) → AreOrdered rs → r ∈ rs → looked rs r.key r.version ≡ Some (cell_of r)
 unfolding AreOrdered ◌∈◌

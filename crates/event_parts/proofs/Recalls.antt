@@ -17,29 +17,29 @@ use Rattle.system_parts.proofs.RecalledLemmas.{over_from, decided_from}
 use Rattle.reader_resolve.specs.Runs.{Run, run_reached, run_recalled, run_told, next_told}
 use Rattle.system_parts.specs.Asks.{FitsNext}
 use Rattle.event_parts.specs.Working.{told_over}
-use Rattle.event_parts.specs.Recalling.{ShownInvariant, remembers, recalls_left}
+use Rattle.event_parts.specs.Recalling.{ShowsNext, remembers, recalls_left}
 
 -- ---- a read that has come to a cell, or has its answer
 reached_comes : (cache : Cache) (turn : ReadTurn) → remembers cache (reading_left turn) (next_reached turn) ≡ recalled_from cache turn
 reached_comes cache (Asks r) = refl
 reached_comes cache (Answers a) = refl
 
-reached_shows : (turn : ReadTurn) → ShownInvariant (reading_left turn) (next_reached turn)
+reached_shows : (turn : ReadTurn) → ShowsNext (reading_left turn) (next_reached turn)
 reached_shows (Asks r) = refl
 reached_shows (Answers a) = tt
 
 -- of a fetch
-over_comes : (every : Bool) (key start epoch : ℕ) (cells : List Cell) (cache : Cache) (reading : Option Reading) (next : Next) → reading ≡ reading_left (read_over every key start epoch cells) → next ≡ next_reached (read_over every key start epoch cells) → (remembers cache reading next ≡ recalled_over every key start epoch cells cache) × ShownInvariant reading next
+over_comes : (every : Bool) (key start epoch : ℕ) (cells : List Cell) (cache : Cache) (reading : Option Reading) (next : Next) → reading ≡ reading_left (read_over every key start epoch cells) → next ≡ next_reached (read_over every key start epoch cells) → (remembers cache reading next ≡ recalled_over every key start epoch cells cache) × ShowsNext reading next
 over_comes every key start epoch cells cache reading next left is =
     let turn : ReadTurn = read_over every key start epoch cells in
     rw (left, is) (reached_comes cache turn ∙ sym (over_from every key start epoch cells cache), reached_shows turn)
 
 -- of a step on the stores
-turned_comes : (cache : Cache) (r : Reading) (turn : SettleTurn) → (remembers cache (reading_left (read_by r turn)) (next_turned turn (read_by r turn)) ≡ recalled_turn cache r turn) × ShownInvariant (reading_left (read_by r turn)) (next_turned turn (read_by r turn))
+turned_comes : (cache : Cache) (r : Reading) (turn : SettleTurn) → (remembers cache (reading_left (read_by r turn)) (next_turned turn (read_by r turn)) ≡ recalled_turn cache r turn) × ShowsNext (reading_left (read_by r turn)) (next_turned turn (read_by r turn))
 turned_comes cache r (Goes point) = (refl, refl)
 turned_comes cache r (Decides outcome) = (reached_comes cache (read_by r (Decides outcome)) ∙ sym (decided_from cache r outcome), reached_shows (read_by r (Decides outcome)))
 
-told_comes : (cache : Cache) (r : Reading) (told : Told) (reading : Option Reading) (next : Next) → reading ≡ reading_left (read_told r told) → next ≡ next_told r told → (remembers cache reading next ≡ recalled_told cache r told) × ShownInvariant reading next
+told_comes : (cache : Cache) (r : Reading) (told : Told) (reading : Option Reading) (next : Next) → reading ≡ reading_left (read_told r told) → next ≡ next_told r told → (remembers cache reading next ≡ recalled_told cache r told) × ShowsNext reading next
 told_comes cache r told reading next left is = rw (left, is) (turned_comes cache r (settle_turn (settling_of r) told))
 
 -- ---- one recall
@@ -58,7 +58,7 @@ used_none cache txn none = rw (entry_none txn cache.kept none) refl
 over_cache : (turn : ReadTurn) {a b : Cache} → a ≡ b → ◌≡◌ {A = Remembering} (turn, a) (turn, b)
 over_cache turn same = cc
 
-known_comes : (cache : Cache) (r : Reading) (o : Option Known) → known_of cache r.cell.version ≡ o → (remembers (used cache r.cell.version) (reading_left (read_recalled r o)) (next_recalled r o) ≡ recalled_known cache r o) × ShownInvariant (reading_left (read_recalled r o)) (next_recalled r o)
+known_comes : (cache : Cache) (r : Reading) (o : Option Known) → known_of cache r.cell.version ≡ o → (remembers (used cache r.cell.version) (reading_left (read_recalled r o)) (next_recalled r o) ≡ recalled_known cache r o) × ShowsNext (reading_left (read_recalled r o)) (next_recalled r o)
 known_comes cache r None is = (over_cache (Asks r) (used_none cache r.cell.version is), refl)
 known_comes cache r (Some k) is = (reached_comes (used cache r.cell.version) (read_by r (Decides (outcome_known k))) ∙ sym (decided_from (used cache r.cell.version) r (outcome_known k)), reached_shows (read_by r (Decides (outcome_known k))))
 
@@ -93,7 +93,7 @@ known_fewer r (Some k) = reached_fewer r (read_by r (Decides (outcome_known k)))
 -- one turn: what the read comes to stays
 pub record Turned (before now : Cache) (reading reading_now : Option Reading) (next next_now : Next) : Type 0 where
   pub comes : remembers now reading_now next_now ≡ remembers before reading next
-  pub shows : ShownInvariant reading_now next_now
+  pub shows : ShowsNext reading_now next_now
   pub fewer : recalls_left reading_now next_now < recalls_left reading next
 
 turned_by : (before : Cache) (r : Reading) (o : Option Known) (txn : ℕ) → known_of before r.cell.version ≡ o → Turned before (used before r.cell.version) (Some r) (reading_left (read_recalled r o)) (NextRecall txn) (next_recalled r o)
@@ -103,14 +103,14 @@ turned_by before r o txn is = let made = known_comes before r o is in record {
   fewer = known_fewer r o;
 }
 
-pub recall_turns : (before now : Cache) (run run_now : Run) (o : Option Known) (txn : ℕ) (next_now : Next) → ShownInvariant run.reading (NextRecall txn) → known_of before txn ≡ o → now ≡ used before txn → IfSome run.reading (λ (r : Reading). run_now ≡ run_recalled run.learnt r o) → IfSome run.reading (λ (r : Reading). next_now ≡ next_recalled r o) → Turned before now run.reading run_now.reading (NextRecall txn) next_now × (run_now.learnt ≡ run.learnt)
-recall_turns before now run run_now o txn next_now shows known left goes is = (elim run.reading as (λ (reading : Option Reading). ShownInvariant reading (NextRecall txn) → IfSome reading (λ (r : Reading). run_now ≡ run_recalled run.learnt r o) → IfSome reading (λ (r : Reading). next_now ≡ next_recalled r o) → Turned before now reading run_now.reading (NextRecall txn) next_now × (run_now.learnt ≡ run.learnt)) [
+pub recall_turns : (before now : Cache) (run run_now : Run) (o : Option Known) (txn : ℕ) (next_now : Next) → ShowsNext run.reading (NextRecall txn) → known_of before txn ≡ o → now ≡ used before txn → IfSome run.reading (λ (r : Reading). run_now ≡ run_recalled run.learnt r o) → IfSome run.reading (λ (r : Reading). next_now ≡ next_recalled r o) → Turned before now run.reading run_now.reading (NextRecall txn) next_now × (run_now.learnt ≡ run.learnt)
+recall_turns before now run run_now o txn next_now shows known left goes is = (elim run.reading as (λ (reading : Option Reading). ShowsNext reading (NextRecall txn) → IfSome reading (λ (r : Reading). run_now ≡ run_recalled run.learnt r o) → IfSome reading (λ (r : Reading). next_now ≡ next_recalled r o) → Turned before now reading run_now.reading (NextRecall txn) next_now × (run_now.learnt ≡ run.learnt)) [
   | None ↦ λ shown ran next. absurd shown
   | Some r ↦ λ shown ran next. rw (ran, next, left, shown) (turned_by before r o r.cell.version (subst (λ (t : ℕ). known_of before t ≡ o) shown known), refl)
 ]) shows goes is
 
 -- ---- the step of a read that is under way
-pub step_shows : (reading : Option Reading) (run_now : Run) (told : Told) (next : Next) → FitsNext (next_ask reading) told → IfSome reading (λ (r : Reading). run_now ≡ run_told r told) → IfSome reading (λ (r : Reading). next ≡ next_told r told) → ShownInvariant run_now.reading next
+pub step_shows : (reading : Option Reading) (run_now : Run) (told : Told) (next : Next) → FitsNext (next_ask reading) told → IfSome reading (λ (r : Reading). run_now ≡ run_told r told) → IfSome reading (λ (r : Reading). next ≡ next_told r told) → ShowsNext run_now.reading next
 step_shows None run_now told next fits ran is = absurd fits
 step_shows (Some r) run_now told next fits ran is = rw ran (told_comes (cache_new 0) r told (reading_left (read_told r told)) next refl is).1
 
@@ -128,7 +128,7 @@ step_said P cache now reading run_now told next learnt ran is same left p =
     said P (λ r. told_over cache r told) reading (remembers (cache_learnt cache run_now.learnt) run_now.reading next) (rw (left, same) at p) (step_comes cache reading run_now told next ran is)
 
 -- ---- after the recalls
-ends_at : (cache : Cache) (reading : Option Reading) (next : Next) → ShownInvariant reading next → is_recall next ≡ false → (reading ≡ reading_left (remembers cache reading next).0) × (next ≡ next_of (remembers cache reading next).0) × (cache ≡ (remembers cache reading next).1)
+ends_at : (cache : Cache) (reading : Option Reading) (next : Next) → ShowsNext reading next → is_recall next ≡ false → (reading ≡ reading_left (remembers cache reading next).0) × (next ≡ next_of (remembers cache reading next).0) × (cache ≡ (remembers cache reading next).1)
 ends_at cache (Some r) (NextRecall txn) shows none = absurd cc
 ends_at cache (Some r) (NextAsk asked) shows none = (refl, ap NextAsk shows, refl)
 ends_at cache (Some r) (NextDone answer) shows none = absurd shows
@@ -137,5 +137,5 @@ ends_at cache None (NextAsk asked) shows none = absurd shows
 ends_at cache None (NextDone answer) shows none = (refl, refl, refl)
 
 -- ---- a read that was begun
-pub start_comes : (every : Bool) (cache : Cache) (key start epoch : ℕ) (cells : List Cell) (run : Run) (next : Next) → run ≡ run_reached None (read_over every key start epoch cells) → next ≡ next_reached (read_over every key start epoch cells) → (remembers cache run.reading next ≡ recalled_over every key start epoch cells cache) × ShownInvariant run.reading next
+pub start_comes : (every : Bool) (cache : Cache) (key start epoch : ℕ) (cells : List Cell) (run : Run) (next : Next) → run ≡ run_reached None (read_over every key start epoch cells) → next ≡ next_reached (read_over every key start epoch cells) → (remembers cache run.reading next ≡ recalled_over every key start epoch cells cache) × ShowsNext run.reading next
 start_comes every cache key start epoch cells run next is shown = over_comes every key start epoch cells cache run.reading next (ap (λ (r : Run). r.reading) is) shown

@@ -13,11 +13,11 @@ turn_shown None (NextDone answer) = Answers answer
 turn_shown None _ = Answers found_none
 
 -- what is said to be next is so
-abbrev pub ShownInvariant : Option Reading → Next → Type 0
-ShownInvariant (Some r) (NextRecall txn) = txn ≡ r.cell.version
-ShownInvariant (Some r) (NextAsk asked) = asked ≡ read_ask r
-ShownInvariant None (NextDone answer) = Unit {0}
-ShownInvariant _ _ = ⊥
+abbrev pub ShowsNext : Option Reading → Next → Type 0
+ShowsNext (Some r) (NextRecall txn) = txn ≡ r.cell.version
+ShowsNext (Some r) (NextAsk asked) = asked ≡ read_ask r
+ShowsNext None (NextDone answer) = Unit {0}
+ShowsNext _ _ = ⊥
 
 -- what the read comes to over what is remembered: where a recall is next, by what is kept of the cell
 abbrev pub remembers : Cache → Option Reading → Next → Remembering

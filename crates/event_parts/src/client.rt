@@ -8,7 +8,7 @@ ghost use Rattle.machine.specs.Events.Write.{client_wrote, write_refused};
 ghost use Rattle.machine.specs.Events.Fetch.{client_read, client_recalled, client_put_fresh, client_fetched, keeps_read, reads_refusal, fetch_refused};
 ghost use Rattle.machine.specs.Events.Heal.{offer_of};
 ghost use Rattle.event_parts.specs.Parts.{way_of};
-ghost use Rattle.event_parts.specs.Recalling.{ShownInvariant, remembers};
+ghost use Rattle.event_parts.specs.Recalling.{ShowsNext, remembers};
 
 use crate::recalling::recall_all;
 use client_txn::{Session, check_key};
@@ -316,7 +316,7 @@ impl Client {
     /// then.
     pub fn reads(&mut self, run: ReadRun, next: Next) -> Next
         requires recalls { run.recalls ≡ is_recall next }
-        requires shows { ShownInvariant run.reading next }
+        requires shows { ShowsNext run.reading next }
         ensures client { self.new ≡ client_recalled self.old (remembers self.old.cache run.reading next) }
         ensures next { result ≡ next_of (remembers self.old.cache run.reading next).0 }
     {

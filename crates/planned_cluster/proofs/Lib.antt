@@ -1,4 +1,4 @@
-mod NextAction
+mod FatesAhead
 mod TakeFlags
 pub mod Clocks
 pub mod Making

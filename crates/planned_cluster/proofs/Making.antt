@@ -17,7 +17,7 @@ use Rattle.script_data.specs.Data.{ScriptData}
 use Rattle.command_semantics.specs.Runs.{Played, calls_on, step_of}
 use Rattle.cluster_core.specs.ClusterModel.{ClusterModel, MakesStep, step_under}
 use Rattle.planned_cluster.specs.Standing.{StandsAt, OpensFor, PlaysOn, clock_made}
-use Rattle.planned_cluster.proofs.NextAction.{moves_on, step_planned, stands_on}
+use Rattle.planned_cluster.proofs.FatesAhead.{moves_on, step_planned, stands_on}
 
 stopped : (script : ScriptData) (p : Played) (e : Event) (old : ClusterModel) (clock : ℕ) (before : Store → ℕ → Fate) (end : Option Stop) → StandsAt script p old clock before → (step_under before old.state e).stop ≡ end → (step_of script p e).stop ≡ end
 stopped script p e old clock before end at is = sym (ap (λ (s : Step). s.stop) (step_planned script p old.state before e at.state at.weather)) ∙ is
