@@ -84,19 +84,28 @@ abbrev pub onward : Item → Item → ℕ → Bar → Bar
 onward (item.Begin session start) x place bar = goes_to session start x place bar
 onward _ x place bar = record bar { to = place + 1 }
 
--- an item ends the bar, or tells only that nothing more will come of it
-abbrev pub ended : BarKind → ℕ → Bar → Bar
-ended kind.Open place bar = bar
-ended found place bar = record { to = place; kind = found }
+-- behind another begin of its session only its own items and its commit tell of the transaction t
+unfoldable pub own_to : ℕ → ℕ → Bar → ℕ → List Item → Bar
+own_to s t bar place [] = bar
+own_to s t bar place (x ∷ xs) = own_to s t (goes_to s t x place bar) (place + 1) xs
 
-abbrev pub bar_or : Option BarKind → ℕ → Bar → Bar → Bar
-bar_or None place bar rest = rest
-bar_or (Some found) place bar rest = ended found place bar
+abbrev pub left_to : Item → Bar → ℕ → List Item → Bar
+left_to (item.Begin session start) bar place xs = own_to session start bar place xs
+left_to _ bar place xs = bar
+
+-- an item ends the bar, or tells that another transaction has the session; behind it stand these
+abbrev pub ended : Item → BarKind → ℕ → Bar → List Item → Bar
+ended opener kind.Open place bar xs = left_to opener bar (place + 1) xs
+ended opener found place bar xs = record { to = place; kind = found }
+
+abbrev pub bar_or : Item → Option BarKind → ℕ → Bar → List Item → Bar → Bar
+bar_or opener None place bar xs rest = rest
+bar_or opener (Some found) place bar xs rest = ended opener found place bar xs
 
 -- the bar so far, and on over these items, the first of which stands at the place
 unfoldable pub bar_to : Item → Bar → ℕ → List Item → Bar
 bar_to opener bar place [] = bar
-bar_to opener bar place (x ∷ xs) = bar_or (closing opener x) place bar (bar_to opener (onward opener x place bar) (place + 1) xs)
+bar_to opener bar place (x ∷ xs) = bar_or opener (closing opener x) place bar xs (bar_to opener (onward opener x place bar) (place + 1) xs)
 
 -- the bar that the item at the place opens, where it opens one
 abbrev pub bar_of : List Item → ℕ → Item → Option Bar

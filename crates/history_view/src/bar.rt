@@ -1,6 +1,6 @@
 // The bars that items open.
 ghost use Rattle.std.specs.Prelude.{◌≡◌, ◌+◌, ◌<◌, ◌≤◌, ◌^◌, Some, IfSome, length, drop, slice_get};
-ghost use Rattle.history_view.specs.Bars.{bar_of, bar_to, closing, ended, ends_for, ends_lease, ends_transaction, goes_to, is_of_session, is_own, kind_of, onward, places};
+ghost use Rattle.history_view.specs.Bars.{bar_of, bar_to, closing, ended, ends_for, ends_lease, ends_transaction, goes_to, is_of_session, is_own, kind_of, left_to, onward, own_to, places};
 
 use history_book::{Actor, Cause, Ending, Item};
 use stamp_base::{NodeNo, SessionNo, TxnId};
@@ -49,7 +49,7 @@ fn bar_from(items: &[Item], opened: usize, opener: &Item, kind: BarKind) -> Bar
     let mut place = opened + 1;
     while place < items.len() {
         if let Some(kind) = closing(opener, &items[place]) {
-            return ended(kind, place, bar);
+            return ended(items, opener, kind, place, bar);
         }
         bar = onward(opener, &items[place], place, bar);
         place += 1;
@@ -57,15 +57,41 @@ fn bar_from(items: &[Item], opened: usize, opener: &Item, kind: BarKind) -> Bar
     bar
 }
 
-/// An item ends the bar, or tells only that nothing more will come of it.
-fn ended(kind: BarKind, place: usize, bar: Bar) -> Bar
-    ensures bar { result ≡ ended kind place bar }
-    ensures within { (bar.to ≤ place) → (result.to ≤ place) }
+/// The item at the place ends the bar, or tells that another transaction has the session.
+fn ended(items: &[Item], opener: &Item, kind: BarKind, place: usize, bar: Bar) -> Bar
+    requires { place < length items.now }
+    ensures bar { result ≡ ended opener.now kind place bar (drop (place + 1) items.now) }
+    ensures within { (bar.to ≤ place) → (result.to ≤ length items.now) }
 {
     match kind {
-        BarKind::Open => bar,
+        BarKind::Open => left_to(items, opener, place + 1, bar),
         _ => Bar { to: place, kind },
     }
+}
+
+fn left_to(items: &[Item], opener: &Item, from: usize, bar: Bar) -> Bar
+    requires { from ≤ length items.now }
+    ensures bar { result ≡ left_to opener.now bar from (drop from items.now) }
+    ensures within { (bar.to ≤ from) → (result.to ≤ length items.now) }
+{
+    match *opener {
+        Item::Begin { session, start } => own_to(items, session, start, from, bar),
+        _ => bar,
+    }
+}
+
+/// The bar on over a transaction's own items and its commit, from a place on.
+#[tactic(auto, unfolding(crate::specs::Bars::own_to))]
+fn own_to(items: &[Item], session: SessionNo, start: TxnId, from: usize, bar: Bar) -> Bar
+    requires { from ≤ length items.now }
+    ensures bar { result ≡ own_to session start bar from (drop from items.now) }
+    ensures within { (bar.to ≤ from) → (result.to ≤ length items.now) }
+{
+    let mut reached = bar;
+    for place in from..items.len() {
+        reached = goes_to(session, start, &items[place], place, reached);
+    }
+    reached
 }
 
 /// The bar so far, behind one more item that does not end it.
