@@ -34,7 +34,7 @@ use Rattle.cause_laws.proofs.ShownAtFirst.{shown_at_first}
 use Rattle.cause_laws.proofs.LongerHistories.{each_longer}
 
 -- ---- one event
--- what holds after each deed holds of what the step leaves
+-- what holds after each node transition holds of what the step leaves
 after_deed : (w : State) (h : List Item) (P : List (Option InstanceEntry) → List Item → Type 0) (nodes : List (Option InstanceEntry)) (items : List Item) → (by : NodeTransitionOf w nodes items) → P (nodes_by w by.deed) (h ++ items_by w by.deed) → P nodes (h ++ items)
 after_deed w h P nodes items by holds = subst (λ xs. P xs (h ++ items)) (sym by.leaves) (subst (λ xs. P (nodes_by w by.deed) (h ++ xs)) (sym by.tells) holds)
 

@@ -1,4 +1,4 @@
--- Each deed keeps what the history tells of the requests that are held.
+-- Each node transition keeps what the history tells of the requests that are held.
 use Rattle.std.proofs.Common.{◌≡◌, ◌≢◌, ℕ, ◌+◌, Bool, true, false, List, [], ◌∷◌, ◌++◌, Option, None, Some, inl, inr, refl, sym, ◌∙◌, subst}
 use Rattle.std.specs.Prelude.{slice_set}
 use Rattle.history_book.specs.declared.item.Actor.TheVariants.{Node}
@@ -27,7 +27,7 @@ use Rattle.cause_laws.proofs.NodeTransitionsMute.{one_mute, always_mute, took_mu
 use Rattle.cause_laws.proofs.RequestsTold.{Told, AllTold, all_told, asked_by_told, faulted_by_told, put_by_told, told_mute, told_ask, told_accept, told_draw, told_settled}
 use Rattle.cause_laws.proofs.RequestsWere.{AllWere, were_same, were_put, were_ended, was_told, Alone, serving_alone, serving_own, asked_unheld, unheld_alone, IsNow, now_or_was}
 
--- ---- deeds that change no request, and tell nothing of any
+-- ---- node transitions that change no request, and tell nothing of any
 kept : (direct : Bool) (nodes new : List (Option InstanceEntry)) (h items : List Item) → AllTold direct nodes h → AllWere nodes new → ((s : ℕ) → AllMute s items) → AllTold direct new (h ++ items)
 kept direct nodes new h items all were mute n s i request p at holds =
     told_mute direct h items n s i.term request p (mute s) (was_told direct nodes h n s i.term request p all (were n s i request p at holds))
@@ -47,7 +47,7 @@ told_same w k s request p holds = elim (heldby_changed k.it.i k.it.session s k.t
   | inr other ↦ other.1
 ]
 
--- ---- deeds that change one request
+-- ---- node transitions that change one request
 told_now : (direct : Bool) (g : List Item) (n s term : ℕ) (now : Held) (m r other : ℕ) (request : Request) (p : Progress) → IsNow n s term now m r other request p → Told direct g n s term now.request now.progress → Told direct g m r other request p
 told_now direct g n s term now m r other request p is told =
     subst (λ (x : ℕ). Told direct g x r other request p) (sym is.node)
@@ -110,7 +110,7 @@ by_settle w h k stands shows all =
     (subst (λ (q : Request). Told w.setup.direct (h ++ items) it.node it.session it.i.term q (progress.Settled k.commit k.by)) (sym k.request_is)
     (told_settled w.setup.direct h k.effects it.node it.session it.i.term k.asker k.start k.commit k.keys k.by (settled_mute w k it.session) (λ is. shows.marked.marked k.start (k.found is)) before))
 
--- ---- every deed
+-- ---- every node transition
 told_by : (w : State) (h : List Item) (d : NodeTransition w) → ReachedInvariant w h → ShownInvariant w h → AllTold w.setup.direct w.nodes h → AllTold w.setup.direct (nodes_by w d) (h ++ items_by w d)
 told_by w h (OfRested k) stands shows all = kept w.setup.direct w.nodes w.nodes h k.items all (were_same w.nodes) (λ s. silent_mute s k.items k.silent)
 told_by w h (OfTook k) stands shows all = kept w.setup.direct w.nodes (granted_nodes w k k.failed) h (took_items w k) all (were_took w k k.failed) (took_mute w k)

@@ -1,4 +1,4 @@
--- How many requests of a session are held at a node after a deed, by what its items do to the asks that are open there.
+-- How many requests of a session are held at a node after a node transition, by what its items do to the asks that are open there.
 use Rattle.std.proofs.Common.{◌≡◌, ◌≢◌, ℕ, ◌<◌, ◌==◌, Bool, true, false, if◌then◌else◌, is_some, length, List, ◌++◌, Option, None, Some, ◌⊎◌, inl, inr, refl, sym, ◌∙◌, ap, subst}
 use Rattle.std.specs.Prelude.{slice_get, slice_set, All}
 use Rattle.std.specs.List.{fold}

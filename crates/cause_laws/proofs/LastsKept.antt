@@ -1,4 +1,4 @@
--- Each deed keeps what the history shows of ranges: their ends were given, and last stamps were drawn.
+-- Each node transition keeps what the history shows of ranges: their ends were given, and last stamps were drawn.
 use Rattle.std.proofs.Common.{◌≡◌, ℕ, ◌+◌, ◌<◌, ◌≤◌, List, [], ◌∷◌, ◌++◌, Some, None, ◌⊎◌, inl, inr, refl, arith}
 use Rattle.system_parts.specs.Record.{granted}
 use Rattle.history_book.specs.declared.item.Item.{Item}

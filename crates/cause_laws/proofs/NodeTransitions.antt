@@ -1,4 +1,4 @@
--- What an event does to the nodes and their instances, a short view of its outcome. Each deed is a record of what was the case, with
+-- What an event does to the nodes and their instances, a short view of its outcome. Each node transition is a record of what was the case, with
 -- the nodes that it leaves and the items that tell it.
 use Rattle.std.proofs.Common.{[], ◌≡◌, ◌≢◌, ℕ, ◌+◌, false, List, ◌∷◌, Option, None, Some, ◌⊎◌, ◌++◌}
 use Rattle.std.specs.Prelude.{IsTrue, slice_set, All}
@@ -25,7 +25,7 @@ pub use Rattle.machine.specs.Outcome.OutcomesOfStamps.{fault_of}
 use Rattle.system_parts.specs.InstanceSteps.{without_request, moved, just_asked, decide_drawn, instance_widened, instance_renewed, instance_stopped}
 use Rattle.machine.specs.Events.Decide.{draw_item}
 
--- ---- the deeds
+-- ---- the node transitions
 -- the nodes stay as they were
 pub record Rested (w : State) : Type 0 where
   pub items : List Item
@@ -141,7 +141,7 @@ pub record Learned (w : State) : Type 0 where
   pub last : Item
   pub ends : EndsFor session last
 
--- ---- all deeds
+-- ---- all node transitions
 pub data NodeTransition (w : State) : Type 0 where
   OfRested : Rested w → NodeTransition w
   OfTook : Granted w → NodeTransition w
@@ -157,7 +157,7 @@ pub data NodeTransition (w : State) : Type 0 where
   OfEnded : Ended w → NodeTransition w
   OfLearned : Learned w → NodeTransition w
 
--- ---- what a deed leaves of the nodes
+-- ---- what a node transition leaves of the nodes
 -- the node has this instance from now on
 abbrev pub now_at : State → ℕ → InstanceEntry → List (Option InstanceEntry)
 now_at w node i = slice_set w.nodes node (Some i)
@@ -193,7 +193,7 @@ items_by w (OfTold k) = k.items
 items_by w (OfEnded k) = k.last ∷ []
 items_by w (OfLearned k) = k.steps ++ k.last ∷ []
 
--- a step of the machine does to the nodes what a deed does, and tells it
+-- a step of the machine does to the nodes what a node transition does, and tells it
 pub record NodeTransitionOf (w : State) (nodes : List (Option InstanceEntry)) (items : List Item) : Type 0 where
   pub deed : NodeTransition w
   pub leaves : nodes ≡ nodes_by w deed

@@ -1,4 +1,4 @@
--- Each outcome of an event, as a deed to the nodes.
+-- Each outcome of an event, as a node transition to the nodes.
 use Rattle.std.proofs.Common.{[], ◌≡◌, ℕ, ◌+◌, Bool, true, false, List, ◌∷◌, ◌++◌, Option, None, Some, inl, inr, refl, sym, ◌∙◌, ap}
 use Rattle.std.specs.Prelude.{slice_set}
 use Rattle.stamp_base.specs.declared.stores.Mark.{Mark}

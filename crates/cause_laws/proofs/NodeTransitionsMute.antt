@@ -1,4 +1,4 @@
--- The items of the deeds that tell nothing of a session's request, each with its reason.
+-- The items of the node transitions that tell nothing of a session's request, each with its reason.
 use Rattle.std.proofs.Common.{ℕ, Bool, true, false, IsTrue, [], ◌∷◌, ◌++◌, refl}
 use Rattle.std.proofs.lemmas.List.Elements.{All-nil, All-cons, All-append, All-weaker}
 use Rattle.stamp_base.specs.declared.stores.Store.TheVariants.{Master, Table}

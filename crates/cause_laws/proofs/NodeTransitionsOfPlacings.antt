@@ -1,4 +1,4 @@
--- What is told last of a commit, and the placing of a session as a deed to the nodes, which it leaves alone.
+-- What is told last of a commit, and the placing of a session as a node transition to the nodes, which it leaves alone.
 use Rattle.std.proofs.Common.{[], ℕ, List, ◌∷◌, ◌++◌, inr, refl}
 use Rattle.stamp_base.specs.declared.stores.Store.TheVariants.{Table}
 use Rattle.history_book.specs.declared.item.Actor.TheVariants.{Session}

@@ -1,4 +1,4 @@
--- Each deed keeps that a session's asks at a node are open exactly where the node holds its request.
+-- Each node transition keeps that a session's asks at a node are open exactly where the node holds its request.
 use Rattle.std.proofs.Common.{◌≡◌, ◌≢◌, ℕ, ◌+◌, suc, ◌<◌, Bool, true, false, ◌&&◌, List, [], ◌∷◌, ◌++◌, length, Option, None, Some, inl, inr, refl, sym, ◌∙◌, ap, subst}
 use Rattle.std.specs.Prelude.{slice_get, slice_set, All}
 use Rattle.std.specs.List.{fold}
@@ -134,7 +134,7 @@ came_learned w h k stands =
 shaped_request_put : (w : State) (n : ℕ) (i : InstanceEntry) (r : ℕ) (now : Option Held) → InstanceAt w.nodes n i → AllShaped w.setup w.nodes → AllShaped w.setup (slice_set w.nodes n (Some (with_request i r now)))
 shaped_request_put w n i r now at all = shaped_put w.setup w.nodes n (with_request i r now) all (shape_request w.setup i r now (all n i at))
 
--- ---- every deed
+-- ---- every node transition
 came_by : (w : State) (h : List Item) (d : NodeTransition w) → ReachedInvariant w h → length w.clients ≡ 16 → AllShaped w.setup w.nodes → AllCame w.nodes (items_by w d) (nodes_by w d)
 came_by w h (OfRested k) stands sixteen shaped = came_all w.nodes k.items (λ m. calm_stays w.nodes k.items m (λ s. all_silent_calm m s k.items k.silent))
 came_by w h (OfTook k) stands sixteen shaped = came_took w k k.failed

@@ -1,4 +1,4 @@
--- What each deed does to posts: the items that it tells of them, and which instances stand afterwards.
+-- What each node transition does to posts: the items that it tells of them, and which instances stand afterwards.
 use Rattle.std.proofs.Common.{◌≡◌, ◌≢◌, ℕ, ◌+◌, Bool, true, false, List, [], ◌∷◌, ◌++◌, Option, Some, None, inl, inr, refl, sym, ◌∙◌, ap, subst, All, ne_eqb}
 use Rattle.std.specs.Prelude.{slice_get, slice_set}
 use Rattle.std.proofs.lemmas.Option.{same_Some, none-some}
@@ -23,7 +23,7 @@ use Rattle.cause_laws.proofs.NodeTransitions.{NodeTransition, OfRested, OfTook, 
 use Rattle.cause_laws.proofs.PostWords.{NoTakes, NoCrashes}
 use Rattle.cause_laws.proofs.PostItems.{is_calm, AllCalm, calm_no_takes, calm_no_crashes, calm_one, silent_calm, crash_no_takes, crash_no_crashes}
 
--- ---- the items of deeds that are neither takes nor crashes
+-- ---- the items of node transitions that are neither takes nor crashes
 ask_calm : (node : ℕ) (request : Request) → is_calm (ask_item node request) ≡ true
 ask_calm node (Begin session) = refl
 ask_calm node (Commit session start keys) = refl
@@ -56,7 +56,7 @@ settled_calm w k = All-append (λ (x : Item). is_calm x ≡ true) k.effects (fau
 learned_calm : (w : State) (k : Learned w) → AllCalm (k.steps ++ k.last ∷ [])
 learned_calm w k = All-append (λ (x : Item). is_calm x ≡ true) k.steps (k.last ∷ []) (silent_calm k.steps k.silent) (calm_one k.last (last_calm k.session k.last k.ends))
 
--- the deed is neither a take nor a crash
+-- the node transition is neither a take nor a crash
 abbrev pub is_calm_deed : {w : State} → NodeTransition w → Bool
 is_calm_deed (OfTook k) = false
 is_calm_deed (OfCrashed k) = false
@@ -85,9 +85,9 @@ take_no_takes w k m other = All-cons (λ (x : Item). takes_for m x ≡ false) _ 
 pub take_no_crashes : (w : State) (k : Granted w) (m : ℕ) → NoCrashes m (took_items w k)
 take_no_crashes w k m = All-cons (λ (x : Item). crashes_for m x ≡ false) _ (fault_if k.failed k.node) refl (calm_no_crashes m (fault_if k.failed k.node) (faults_calm k.failed k.node))
 
--- ---- the instances that stand after a deed
+-- ---- the instances that stand after a node transition
 -- how what holds of an instance is kept: where the items tell nothing of its node, where its requests change, and at the
--- instances that a deed moves or makes
+-- instances that a node transition moves or makes
 pub record KeptBy (w : State) (P : List Item → ℕ → InstanceEntry → Type 0) : Type 0 where
   pub told : (items : List Item) (m : ℕ) (i : InstanceEntry) → InstanceAt w.nodes m i → NoTakes m items → NoCrashes m items → P items m i
   pub requests : (items : List Item) (m : ℕ) (i : InstanceEntry) (now : List (Option Held)) → P items m i → P items m (record i { requests = now })

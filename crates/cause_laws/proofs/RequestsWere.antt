@@ -1,4 +1,4 @@
--- Where the requests come from that are held after a deed: they were held before, or the deed changed one of them.
+-- Where the requests come from that are held after a node transition: they were held before, or the node transition changed one of them.
 use Rattle.std.proofs.Common.{◌≡◌, ◌≢◌, ℕ, Bool, List, Option, None, Some, ◌⊎◌, inl, inr, refl, sym, ◌∙◌, ap, subst}
 use Rattle.std.specs.Prelude.{slice_set}
 use Rattle.history_book.specs.declared.item.Item.{Item}

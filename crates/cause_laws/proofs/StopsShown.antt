@@ -1,4 +1,4 @@
--- Each deed keeps that the refusals which instances keep are shown: a later term was taken, or the ceiling is spent.
+-- Each node transition keeps that the refusals which instances keep are shown: a later term was taken, or the ceiling is spent.
 use Rattle.std.proofs.Common.{◌≡◌, ℕ, ◌+◌, ◌^◌, List, ◌++◌, Option, Some, None, inl, inr, refl, sym, subst}
 use Rattle.std.specs.Option.{option_or}
 use Rattle.std.proofs.lemmas.Bool.{ltb-true}

@@ -1,4 +1,4 @@
--- Each deed keeps what the history shows of instances: their last take, their lease, and that they have not crashed.
+-- Each node transition keeps what the history shows of instances: their last take, their lease, and that they have not crashed.
 use Rattle.std.proofs.Common.{◌≡◌, ℕ, ◌+◌, ◌≤◌, max, Bool, true, false, List, [], ◌∷◌, ◌++◌, inl, inr, refl, sym, subst, arith}
 use Rattle.std.proofs.lemmas.List.Elements.{All-nil}
 use Rattle.system_parts.specs.Record.{granted}

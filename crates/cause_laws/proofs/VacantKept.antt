@@ -1,4 +1,4 @@
--- Each deed keeps that a node without an instance has taken no term since its last crash, or that its last take failed.
+-- Each node transition keeps that a node without an instance has taken no term since its last crash, or that its last take failed.
 use Rattle.std.proofs.Common.{◌≡◌, ◌≢◌, ℕ, Bool, true, false, List, [], ◌∷◌, ◌++◌, Some, None, inl, inr, refl, sym, subst}
 use Rattle.std.specs.Prelude.{slice_get, slice_set}
 use Rattle.std.proofs.lemmas.Bool.{cases_eq}

@@ -1,4 +1,4 @@
--- For isolation_laws, read_sets and si_judge too.
+-- For isolation_laws, read_sets, si_judge and trace_items too.
 -- The last write of a transaction, and the part before an ask, after one more item.
 use Rattle.std.proofs.Common.{◌≡◌, ℕ, Bool, true, false, ◌||◌, not, if◌then◌else◌, List, [], ◌∷◌, ◌++◌, Option, Some, None, inl, inr, refl, ap, ◌∙◌}
 use Rattle.std.specs.Option.{option_or}

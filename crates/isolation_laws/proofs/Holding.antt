@@ -1,4 +1,4 @@
--- For cluster_core and request_completion too.
+-- For cause_laws, cluster_core and request_completion too.
 -- What outcomes leave alone, what histories have, and what follows.
 pub mod Frames
 pub mod Framed

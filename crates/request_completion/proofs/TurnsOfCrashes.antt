@@ -1,4 +1,4 @@
--- The turn of each session where an instance crashes.
+-- The transition of each session where an instance crashes.
 use Rattle.std.proofs.Common.{◌≡◌, ℕ, List, ◌∷◌, Option, None, Some, inl, inr, refl, sym, ◌∙◌, ap, subst}
 use Rattle.std.proofs.lemmas.Option.{none-some}
 use Rattle.history_book.specs.Members.{◌∈◌}

@@ -1,4 +1,4 @@
--- The turn of each session, by the outcome of an event.
+-- The transition of each session, by the outcome of an event.
 use Rattle.std.proofs.Common.{ℕ, List, [], ◌∷◌, inl, refl, sym, ap, subst}
 use Rattle.history_book.specs.declared.item.Item.{Item}
 use Rattle.history_book.specs.declared.item.Item.TheVariants as item

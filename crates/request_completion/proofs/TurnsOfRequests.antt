@@ -1,4 +1,4 @@
--- The turn of a session whose request ends at a node.
+-- The transition of a session whose request ends at a node.
 use Rattle.std.proofs.Common.{◌≡◌, ℕ, true, List, [], ◌∷◌, refl, subst}
 use Rattle.history_book.specs.declared.cause.Cause.{Cause}
 use Rattle.history_book.specs.declared.cause.Cause.TheVariants as cause

@@ -1,4 +1,4 @@
--- The turn of a session that places its commit, resolves it, or completes its transaction.
+-- The transition of a session that places its commit, resolves it, or completes its transaction.
 use Rattle.std.proofs.Common.{◌≡◌, ℕ, List, [], ◌∷◌, ◌++◌, append_assoc, Option, None, Some, inl, inr, refl, sym, ◌∙◌, ap, subst}
 use Rattle.std.proofs.lemmas.List.Elements.{All-append}
 use Rattle.history_book.specs.declared.item.Ending.TheVariants.{Dead as DeadEnd}

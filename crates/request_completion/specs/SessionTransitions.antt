@@ -69,7 +69,7 @@ MayFree state = (state ≡ phase.Open) ⊎ ((undo : Bool) × (state ≡ phase.Co
 abbrev pub IsUndone : SessionEntry → SessionEntry → Type 0
 IsUndone old new = ((new.state ≡ phase.Completing true) × (new.start ≡ old.start)) ⊎ (new.state ≡ phase.Free)
 
--- ---- the turn of a session: the history before, its client before and after, and what is told
+-- ---- the transition of a session: the history before, its client before and after, and what is told
 pub data SessionTransition (h : List Item) (s : ℕ) (c : Client) (items : List Item) (d : Client) : Type 0 where
   -- its transaction stays as it was
   Rests : d.entry ≡ c.entry → NoneEnds s items → SessionTransition h s c items d

@@ -1,4 +1,4 @@
--- For cause_laws, request_completion and grant_laws too.
+-- For cause_laws, request_completion, grant_laws and run_board too.
 -- Laws for the crates above: whose request a call changes, and that no more requests are held than there are slots.
 use Rattle.std.proofs.Common.{◌≡◌, ◌≢◌, ℕ, ◌+◌, ◌<◌, ◌≤◌, ◌==◌, Bool, true, false, cond, is_some, count_by, List, length, slice_set, Option, Some, None, Ok, inl, inr, refl, sym, ap, ◌∙◌, arith, if◌then◌else◌}
 use Rattle.std.specs.Prelude.{slice_index_or}

@@ -128,7 +128,7 @@ joins seats id v other w s h at apart there =
           (nothing_drawn h.last other 0) (λ j u away away' e. h.each j u e);
     }
 
--- a seat with every part has drawn all ticks up to the word
+-- a handle with every part has drawn all ticks up to the word
 pub tells : (seats id : ℕ) (v : TickView) (s : State ℕ TickView) → v.parts ≡ seats → Seen (AreDrawn seats) id v s → (weight : ℕ → ℕ) → sum_by weight v.drawn ≡ sum_by weight (ticks_to (slice_index s.words 0))
 tells seats id v s every seen weight =
     let h = seen.0 in

@@ -1,4 +1,4 @@
--- What seats have drawn of a tick word.
+-- What handles have drawn of a tick word.
 use Rattle.std.specs.Prelude.{◌≡◌, ℕ, zero, suc, ◌+◌, ◌-◌, ◌*◌, ◌≤◌, List, [], ◌∷◌, ◌++◌, length, All, sum_by}
 use mathlib.Core.Option.{some}
 use lib.ListN.{get_elem?}
@@ -6,7 +6,7 @@ use Rattle.atomic_table.specs.Table.{State, Me}
 use Rattle.tick_word.specs.declared.word.TheConstants.{SEAT_LIMIT, PART_LIMIT}
 use Rattle.tick_word.specs.declared.rule.TickView.{TickView}
 
--- so many ticks can be drawn through one seat
+-- so many ticks can be drawn through one handle
 abbrev pub seat_limit : ℕ
 seat_limit = SEAT_LIMIT
 
@@ -44,12 +44,12 @@ with_tick v tick = view_with v.parts (v.drawn ++ tick ∷ [])
 abbrev pub AllUpTo : ℕ → List ℕ → Type 0
 AllUpTo most xs = All (λ x. x ≤ most) xs
 
--- a seat has drawn at most the limit for each of its parts, and nothing above the word
+-- a handle has drawn at most the limit for each of its parts, and nothing above the word
 pub record Fits (word seat : ℕ) (v : TickView) : Type 0 where
   pub few : length v.drawn ≤ v.parts * seat_limit
   pub below : AllUpTo word v.drawn
 
--- the seats have drawn the ticks from 1 to the word, however ticks are weighed
+-- the handles have drawn the ticks from 1 to the word, however ticks are weighed
 pub record AreDrawn (seats : ℕ) (s : State ℕ TickView) : Type 0 where
   pub last : ℕ
   pub word : s.words ≡ last ∷ []
@@ -59,7 +59,7 @@ pub record AreDrawn (seats : ℕ) (s : State ℕ TickView) : Type 0 where
   pub each : (seat : ℕ) (v : TickView) → get_elem? s.views seat ≡ some v → Fits last seat v
 
 -- ---- the steps
--- the tick drawn is one above the word that was found, and so above all that the seat has drawn
+-- the tick drawn is one above the word that was found, and so above all that the handle has drawn
 pub record DrawsOne (v : TickView) (found : ℕ) (w : TickView) : Type 0 where
   pub drawn : w ≡ with_tick v (found + 1)
   pub above : AllUpTo found v.drawn

@@ -1,14 +1,14 @@
--- A tick word and its seats as their contracts see them.
+-- A tick word and its handles as their contracts see them.
 use Rattle.std.specs.Prelude.{◌≡◌, ℕ, List, sum_by}
 use Rattle.atomic_table.specs.Seated.{TableId}
 use Rattle.tick_word.specs.Rule.{ticks_to}
 
--- which word it is, and for how many seats
+-- which word it is, and for how many handles
 pub record Ticks : Type 0 where
   pub id : TableId
   pub seats : ℕ
 
--- of which word the seat is, its parts, and what was drawn through it
+-- of which word the handle is, its parts, and what was drawn through it
 pub record Seated : Type 0 where
   pub word : TableId
   pub parts : ℕ

@@ -3,7 +3,7 @@ use atomic_table::{Join, Play, Seat, Split, Table, TableRule};
 use std::alloc::Global;
 use std::collections::LinkedList;
 
-/// What a seat has drawn, and its parts of the right to know all that was drawn. No value of it is made.
+/// What a handle has drawn, and its parts of the right to know all that was drawn. No value of it is made.
 pub struct TickView {
     pub parts: u64,
     pub drawn: LinkedList<u64>,
@@ -13,7 +13,7 @@ pub type Word = Table<u64, TickView, u64, Drawn, Global>;
 
 pub type WordSeat = Seat<u64, TickView>;
 
-/// All seats together have drawn the numbers from 1 to the word's, each once. The key is the number of parts.
+/// All handles together have drawn the numbers from 1 to the word's, each once. The key is the number of parts.
 pub struct Drawn;
 
 impl TableRule<u64, TickView, u64> for Drawn {
@@ -33,7 +33,7 @@ impl Play<u64, TickView> for Draw {
     ghost then = { λ step old found new. Draws old found new };
 }
 
-/// A seat with one part is cut off.
+/// A handle with one part is cut off.
 pub struct Cut;
 
 impl Split<TickView> for Cut {
@@ -44,7 +44,7 @@ impl Split<TickView> for Cut {
     ghost right = { λ v. one_part };
 }
 
-/// Two seats become one.
+/// Two handles become one.
 pub struct Together;
 
 impl Join<TickView> for Together {

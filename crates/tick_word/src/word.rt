@@ -8,7 +8,7 @@ use stamp_base::NoMemory;
 use std::alloc::Global;
 use std::marker::Model;
 
-/// So many ticks can be drawn through one seat, 2^40, so that no word ever overflows.
+/// So many ticks can be drawn through one handle, 2^40, so that no word ever overflows.
 pub const SEAT_LIMIT: u64 = 1_099_511_627_776;
 
 /// A word has at most so many parts, each a thread's right to draw.
@@ -49,7 +49,7 @@ impl Model for TickHandle {
 }
 
 impl TickWord {
-    /// A word of which nothing was drawn, and a seat with all its parts, at most `PART_LIMIT`.
+    /// A word of which nothing was drawn, and a handle with all its parts, at most `PART_LIMIT`.
     pub fn open(alloc: Global, seats: u64) -> Result<(TickWord, TickHandle), NoMemory>
         requires { seats ≤ PART_LIMIT }
         ensures word { IfOk result (λ made. made.0.seats ≡ seats) }
@@ -59,7 +59,7 @@ impl TickWord {
         Ok((TickWord { table }, TickHandle { seat }))
     }
 
-    /// A seat with one part, which a seat that has drawn nothing gives away.
+    /// A handle with one part, which a handle that has drawn nothing gives away.
     pub fn split(&self, seat: &mut TickHandle) -> TickHandle
         requires word { seat.old.word ≡ self.now.id }
         requires parts { (0 < seat.old.parts) × (seat.old.drawn ≡ []) }
@@ -71,7 +71,7 @@ impl TickWord {
         }
     }
 
-    /// Draws the next tick: no other draw gives it, and it is above all that the seat has drawn. A seat draws at most
+    /// Draws the next tick: no other draw gives it, and it is above all that the handle has drawn. A handle draws at most
     /// `SEAT_LIMIT` ticks.
     pub fn draw(&self, seat: &mut TickHandle) -> u64
         requires word { seat.old.word ≡ self.now.id }
@@ -83,7 +83,7 @@ impl TickWord {
         self.table.shared.fetch_add::<Draw>(&mut seat.seat, 0, 1) + 1
     }
 
-    /// Two seats become one, which has drawn what both have.
+    /// Two handles become one, which has drawn what both have.
     pub fn join(&self, seat: TickHandle, other: TickHandle) -> TickHandle
         requires { (seat.word ≡ self.now.id) × (other.word ≡ self.now.id) }
         ensures { result ≡ seated self.now.id (seat.parts + other.parts) (seat.drawn ++ other.drawn) }
@@ -94,7 +94,7 @@ impl TickWord {
         TickHandle { seat: mine }
     }
 
-    /// The last tick. The seat, which has every part, has drawn all ticks from 1 to it, each once.
+    /// The last tick. The handle, which has every part, has drawn all ticks from 1 to it, each once.
     pub fn close(self, seat: TickHandle) -> u64
         requires word { seat.word ≡ self.id }
         requires parts { seat.parts ≡ self.seats }

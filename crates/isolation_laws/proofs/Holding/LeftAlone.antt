@@ -1,4 +1,4 @@
--- For request_completion too.
+-- For cause_laws too.
 -- What each outcome leaves alone: a row for each that has no frame, and the frame of the others.
 use Rattle.std.proofs.Common.{◌≡◌, ℕ, ◌+◌, Bool, true, false, List, [], ◌∷◌, ◌++◌, Option, Some, inl, inr, max, refl, sym, ap, subst, arith}
 use Rattle.std.specs.Prelude.{slice_set}

@@ -1,4 +1,4 @@
--- For isolation_laws, and through it for cause_laws, cause_laws, request_completion and grant_laws.
+-- For isolation_laws, and through it for cause_laws, request_completion and grant_laws.
 -- What each outcome makes so, each event makes so: a table over outcomes names those that matter, and has a catch-all for the others.
 use Rattle.std.proofs.Common.{List, sym, subst}
 use Rattle.port_io.specs.declared.weather.Fate.{Fate}

@@ -1,6 +1,6 @@
 -- What an event of the machine comes to at the master record, or where nothing changes that a fact reads. Each outcome is a
 -- record of what was the case, with the state that it leaves and the items that it appends, so that no proof about the facts
--- has to look into the machine's definitions. The deeds of cause_laws are a view of the same outcomes.
+-- has to look into the machine's definitions. The node transitions of cause_laws are a view of the same outcomes.
 use Rattle.std.specs.Prelude.{◌≡◌, ◌≢◌, ℕ, ◌+◌, ◌≤◌, max, Bool, true, false, List, [], ◌∷◌, Option, None, Some, ◌⊎◌, slice_get, slice_set}
 use Rattle.stamp_base.specs.declared.stores.Store.TheVariants.{Master}
 use Rattle.history_book.specs.declared.cause.Cause.{Cause}
