@@ -24,7 +24,7 @@ use Rattle.isolation_laws.proofs.OnceEach.{begun_once}
 use Rattle.isolation_laws.proofs.Stores.CellsMove.{erase_cases, put_cases}
 use Rattle.isolation_laws.proofs.Stores.CellsStay.{shadow_cases}
 use Rattle.isolation_laws.proofs.Stores.CompletionSteps.{finish_first, undo_first}
-use Rattle.own_writes.proofs.OpenRows.{has_begun, bare_row}
+use Rattle.service_laws.proofs.OpenRows.{has_begun, bare_row}
 
 -- ---- calls that leave the row
 gone_not_there : (found : Option Cell) (cell : Cell) → found ≡ Some cell → found ≡ None → ⊥

@@ -2,19 +2,13 @@
 use Rattle.std.proofs.Common.{◌≡◌, ℕ, List, [], ◌∷◌, None, inl, inr, refl, ap, arith}
 use Rattle.std.proofs.lemmas.Option.{same_Some}
 use Rattle.stamp_base.specs.declared.stores.Store.TheVariants.{Cells, Table}
-use Rattle.history_book.specs.Members.{◌∈◌, AtEach}
+use Rattle.history_book.specs.Members.{◌∈◌}
 use Rattle.history_book.specs.Isolation.{last_write}
 use Rattle.history_book.specs.declared.item.Found.{Found}
-use Rattle.history_book.specs.declared.item.Item.{Item}
-use Rattle.history_book.specs.declared.item.Item.TheVariants.{Write, Read}
-use Rattle.history_book.proofs.MemberLemmas.{AtEach-push}
-use Rattle.own_writes.specs.OwnWrites.{ReadsOwn, OwnWritesStand}
-use Rattle.own_writes.specs.Worked.{p, q, written_twice, found_of_own, missed_behind, erases, lists, sweep_fails, session_fails, written_elsewhere, written_anew}
-
-three : (x y z : Item) → ReadsOwn [] x → ReadsOwn (x ∷ []) y → ReadsOwn (x ∷ y ∷ []) z → OwnWritesStand (x ∷ y ∷ z ∷ [])
-three x y z one two last =
-    let none : AtEach ReadsOwn [] = record { at = λ place item found. absurd (cc) } in
-    AtEach-push ReadsOwn (x ∷ y ∷ []) z (AtEach-push ReadsOwn (x ∷ []) y (AtEach-push ReadsOwn [] x none one) two) last
+use Rattle.history_book.specs.declared.item.Item.TheVariants.{Read}
+use Rattle.service_rules.specs.OwnWrites.{ReadsOwn, OwnWritesStand}
+use Rattle.service_rules.proofs.Walks.{Walks, walked}
+use Rattle.service_rules.specs.WorkedOwn.{p, q, written_twice, found_of_own, missed_behind, erases, lists, sweep_fails, session_fails, written_elsewhere, written_anew}
 
 -- ---- the last write is read
 abbrev first_of : List ℕ → ℕ
@@ -22,8 +16,8 @@ first_of [] = 0
 first_of (x ∷ xs) = x
 
 pub last_read : OwnWritesStand (written_twice (found_of_own q))
-unfolding last_write
-last_read = three (Write 0 1 0 p) (Write 0 1 0 q) (Read 0 1 0 (found_of_own q)) tt tt (inl refl)
+unfolding Walks last_write
+last_read = walked ReadsOwn (written_twice (found_of_own q)) (tt, (tt, (inl refl, tt)))
 
 values_differ : found_of_own p ≡ found_of_own q → ⊥
 values_differ same =
@@ -47,18 +41,17 @@ nothing_wrong is = elim (is.at 2 (Read 0 1 0 None) refl) [
 
 -- ---- it is missed behind an erase of the cell
 pub erased_right : OwnWritesStand (missed_behind (erases 0))
-unfolding last_write ◌∈◌
-erased_right = three (Write 0 1 0 p) (erases 0) (Read 0 1 0 None) tt tt (inr (inl (inl refl)))
+unfolding Walks last_write ◌∈◌
+erased_right = walked ReadsOwn (missed_behind (erases 0)) (tt, (tt, (inr (inl (inl refl)), tt)))
 
 pub failed_right : OwnWritesStand (missed_behind (sweep_fails Cells))
-unfolding last_write ◌∈◌
-failed_right = three (Write 0 1 0 p) (sweep_fails Cells) (Read 0 1 0 None) tt tt (inr (inr (inl refl)))
+unfolding Walks last_write ◌∈◌
+failed_right = walked ReadsOwn (missed_behind (sweep_fails Cells)) (tt, (tt, (inr (inr (inl refl)), tt)))
 
 -- also where another key was written since
 pub later_right : OwnWritesStand written_elsewhere
-unfolding last_write ◌∈◌
-later_right =
-    AtEach-push ReadsOwn (Write 0 1 0 p ∷ erases 0 ∷ Write 0 1 1 q ∷ []) (Read 0 1 0 None) (three (Write 0 1 0 p) (erases 0) (Write 0 1 1 q) tt tt tt) (inr (inl (inl refl)))
+unfolding Walks last_write ◌∈◌
+later_right = walked ReadsOwn written_elsewhere (tt, (tt, (tt, (inr (inl (inl refl)), tt))))
 
 -- and behind nothing else
 pub other_key_wrong : OwnWritesStand (missed_behind (erases 1)) → ⊥

@@ -21,7 +21,7 @@ use Rattle.isolation_laws.proofs.Pushed.{not_true}
 use Rattle.isolation_laws.proofs.Stores.Calm.{last_write-other}
 use Rattle.cause_rules.specs.Since.{since}
 use Rattle.cause_laws.proofs.SinceWords.{since-more}
-use Rattle.own_writes.specs.OwnWrites.{writes_at, ErasedIn, ErasedSince, OwnStands}
+use Rattle.service_rules.specs.OwnWrites.{writes_at, ErasedIn, ErasedSince, OwnStands}
 
 abbrev pub IsUnwritten : ℕ → ℕ → Item → Type 0
 IsUnwritten t k x = writes_at t k x ≡ false

@@ -17,8 +17,8 @@ use Rattle.isolation_laws.proofs.Requests.OpenAfter.{open_answered_begin}
 use Rattle.isolation_laws.proofs.Requests.RequestsOfBegins.{start_unbegun}
 use Rattle.isolation_laws.proofs.Requests.WrittenKeys.{last_write-none}
 use Rattle.isolation_laws.proofs.Stores.CellsMove.{put_cases}
-use Rattle.own_writes.proofs.OpenRows.{bare_row}
-use Rattle.own_writes.proofs.Unwritten.{Unwritten, quiet_unwritten, all_unwritten, one_unwritten, then_unwritten, draw_unwritten, turn_unwritten, write_unwritten, last_write-past}
+use Rattle.service_laws.proofs.OpenRows.{bare_row}
+use Rattle.service_laws.proofs.Unwritten.{Unwritten, quiet_unwritten, all_unwritten, one_unwritten, then_unwritten, draw_unwritten, turn_unwritten, write_unwritten, last_write-past}
 
 -- ---- all but a write write nothing
 pub nothing_written : (w : State) (h : List Item) (o : Outcome w) (t k : ℕ) → IsolationInvariant w h → (changes o).writes ≡ false → Unwritten t k (told_by_outcome w o)

@@ -25,13 +25,13 @@ use Rattle.isolation_laws.proofs.Pushed.{not_true}
 use Rattle.isolation_laws.proofs.OnceEach.{begun_once}
 use Rattle.isolation_laws.proofs.Requests.ClientsIdle.{FewerReading, nothing_reads, idle_reads}
 use Rattle.isolation_laws.proofs.Requests.RequestsOfMoves.{opens}
-use Rattle.own_writes.proofs.OpenRows.{has_begun}
-use Rattle.own_writes.proofs.ReadTurns.{IsTurnOf, fetched_of, told_of}
-use Rattle.own_writes.specs.OwnWrites.{ErasedSince, OwnStands, ReadsOwn, OwnWritesStand}
-use Rattle.own_writes.specs.Laws.{OwnInvariant}
-use Rattle.own_writes.proofs.Unwritten.{Unwritten, quiet_unwritten, one_unwritten, write_unwritten, last_write-past, erased_past, own_past}
-use Rattle.own_writes.proofs.WritesBefore.{nothing_written}
-use Rattle.own_writes.proofs.OwnCells.{AnswersOwn, fetched_owns}
+use Rattle.service_laws.proofs.OpenRows.{has_begun}
+use Rattle.service_laws.proofs.ReadTurns.{IsTurnOf, fetched_of, told_of}
+use Rattle.service_rules.specs.OwnWrites.{ErasedSince, OwnStands, ReadsOwn, OwnWritesStand}
+use Rattle.service_laws.specs.OwnWrites.{OwnInvariant}
+use Rattle.service_laws.proofs.Unwritten.{Unwritten, quiet_unwritten, one_unwritten, write_unwritten, last_write-past, erased_past, own_past}
+use Rattle.service_laws.proofs.WritesBefore.{nothing_written}
+use Rattle.service_laws.proofs.OwnCells.{AnswersOwn, fetched_owns}
 
 -- ---- reads under way
 reads_same : (r x : Reading) → Reads r ≡ Reads x → r ≡ x

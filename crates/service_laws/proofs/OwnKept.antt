@@ -10,10 +10,10 @@ use Rattle.machine.specs.Machine.{Step, stepped, Move, state_after, items_after,
 use Rattle.isolation_laws.specs.Words.{ClientAt}
 use Rattle.isolation_laws.specs.Sound.{ReachedInvariant}
 use Rattle.isolation_laws.proofs.AlwaysHolds.{each_outcome, facts_stay, steady_now, steady_stays, stands_at_first}
-use Rattle.own_writes.specs.OwnWrites.{ErasedSince, OwnWritesStand}
-use Rattle.own_writes.specs.Laws.{OwnInvariant, OwnAtFirst, EventsKeepOwn, OwnAlways}
-use Rattle.own_writes.proofs.OwnCells.{cells_erased}
-use Rattle.own_writes.proofs.OwnReads.{reads_erased, stands_still}
+use Rattle.service_rules.specs.OwnWrites.{ErasedSince, OwnWritesStand}
+use Rattle.service_laws.specs.OwnWrites.{OwnInvariant, OwnAtFirst, EventsKeepOwn, OwnAlways}
+use Rattle.service_laws.proofs.OwnCells.{cells_erased}
+use Rattle.service_laws.proofs.OwnReads.{reads_erased, stands_still}
 
 -- ---- at first
 none_written : (t k : ℕ) (own : List ℕ) → Wrote [] t k own → ⊥

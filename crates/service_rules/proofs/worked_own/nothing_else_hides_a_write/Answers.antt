@@ -1,5 +1,5 @@
-use Rattle.own_writes.proofs.WorkedReads as lemmas
-use Rattle.own_writes.proofs.worked.nothing_else_hides_a_write.Goals as goal
+use Rattle.service_rules.proofs.WorkedOwn as lemmas
+use Rattle.service_rules.proofs.worked_own.nothing_else_hides_a_write.Goals as goal
 
 pub returns : goal.returns
 returns c = record {

@@ -23,8 +23,8 @@ use Rattle.machine.proofs.PartsKept.{leaves_parts}
 use Rattle.isolation_laws.specs.Words.{OpenAt}
 use Rattle.isolation_laws.specs.Sound.{ReachedInvariant}
 use Rattle.isolation_laws.proofs.AlwaysHolds.{each_outcome}
-use Rattle.own_writes.specs.OwnWrites.{ErasedIn}
-use Rattle.own_writes.proofs.ErasedRows.{IsSweptAway, gone_swept}
+use Rattle.service_rules.specs.OwnWrites.{ErasedIn}
+use Rattle.service_laws.proofs.ErasedRows.{IsSweptAway, gone_swept}
 
 -- a sweep that is to erase the cell tells it
 erase_tells : (s : Sweeping) (fate : Fate) (rows : List Row) (pairs : Pairs) (k t : ℕ) → ErasedIn (sweep_met s (ask.Erase k t) (met Janitor (ask.Erase k t) fate rows pairs)).items t k

@@ -11,7 +11,7 @@ use Rattle.machine.specs.State.{Reads, Client, State, opening}
 use Rattle.machine.specs.Machine.{Move, Steady, stepped, history_after}
 use Rattle.isolation_laws.specs.Words.{ClientAt, OpenAt}
 use Rattle.isolation_laws.specs.Sound.{ReachedInvariant}
-use Rattle.own_writes.specs.OwnWrites.{ErasedSince, OwnWritesStand}
+use Rattle.service_rules.specs.OwnWrites.{ErasedSince, OwnWritesStand}
 
 -- the state w is reached with the history h
 pub record OwnInvariant (w : State) (h : List Item) : Type 0 where

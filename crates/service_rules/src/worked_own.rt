@@ -1,8 +1,8 @@
 // Small histories beside the definition: what it allows, and what it refuses.
 ghost use Rattle.stamp_base.specs.declared.stores.Store.TheVariants.{Cells, Table};
 ghost use Rattle.std.specs.Prelude.{None};
-ghost use Rattle.own_writes.specs.OwnWrites.{OwnWritesStand};
-ghost use Rattle.own_writes.specs.Worked.{p, q, written_twice, found_of_own, missed_behind, erases, lists, sweep_fails, session_fails, written_elsewhere, written_anew};
+ghost use Rattle.service_rules.specs.OwnWrites.{OwnWritesStand};
+ghost use Rattle.service_rules.specs.WorkedOwn.{p, q, written_twice, found_of_own, missed_behind, erases, lists, sweep_fails, session_fails, written_elsewhere, written_anew};
 
 /// Of two own writes the last is read, neither the first nor nothing.
 pub fn last_writes_are_read()

@@ -22,12 +22,12 @@ use Rattle.isolation_laws.specs.Words.{OpenAt, epoch_or_none}
 use Rattle.isolation_laws.specs.IsolationInvariant.{IsolationInvariant}
 use Rattle.isolation_laws.specs.Sound.{ReachedInvariant}
 use Rattle.isolation_laws.proofs.AlwaysHolds.{each_outcome}
-use Rattle.own_writes.specs.OwnWrites.{ErasedSince}
-use Rattle.own_writes.specs.Laws.{OwnInvariant}
-use Rattle.own_writes.proofs.Unwritten.{erased_past, erased_now}
-use Rattle.own_writes.proofs.OpenRows.{own_cell}
-use Rattle.own_writes.proofs.SweptRows.{gone_told}
-use Rattle.own_writes.proofs.WritesBefore.{WasWritten, was_written}
+use Rattle.service_rules.specs.OwnWrites.{ErasedSince}
+use Rattle.service_laws.specs.OwnWrites.{OwnInvariant}
+use Rattle.service_laws.proofs.Unwritten.{erased_past, erased_now}
+use Rattle.service_laws.proofs.OpenRows.{own_cell}
+use Rattle.service_laws.proofs.SweptRows.{gone_told}
+use Rattle.service_laws.proofs.WritesBefore.{WasWritten, was_written}
 
 -- ---- after an event
 abbrev CellsErased : State → List Item → Type 0

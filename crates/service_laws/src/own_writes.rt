@@ -1,5 +1,5 @@
 // Own writes stand, in every history of the machine.
-ghost use Rattle.own_writes.specs.Laws.{OwnAtFirst, EventsKeepOwn, OwnAlways};
+ghost use Rattle.service_laws.specs.OwnWrites.{OwnAtFirst, EventsKeepOwn, OwnAlways};
 
 /// Before the first event nothing is written.
 pub fn own_writes_at_first()
