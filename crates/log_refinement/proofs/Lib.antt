@@ -22,5 +22,7 @@ mod CommitAsks
 mod KeptKeys
 mod CommitItems
 mod AskPlaces
+mod DueRequests
+mod ShownRequests
 mod ServedItems
 mod ServedEntries

@@ -9,4 +9,4 @@ pub use laws::{
     served_histories_answer, settled_logs_answer, settled_logs_are_planned,
     settled_logs_keep_service, settled_logs_serve,
 };
-pub use owed::Owed;
+pub use owed::{Due, Owed};
