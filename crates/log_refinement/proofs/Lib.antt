@@ -26,3 +26,5 @@ mod DueRequests
 mod ShownRequests
 mod ServedItems
 mod ServedEntries
+mod ServedOutcomes
+mod WorkedDues

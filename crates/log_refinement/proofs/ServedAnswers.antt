@@ -54,7 +54,7 @@ unfolding Answered
 read_on actor key h lines x xs true is not walks = inl (ends_is actor key x is, walks)
 read_on actor key h lines x xs false is not walks = inr (not, walks)
 
-walk_answers : (script : ScriptData) (actor : Actor) (h : List Item) (begun : Begun) (lines : List Line) (xs : List Item) → AnsweredServed script actor h begun lines xs → Answered asks_last actor h (read_of begun) lines xs
+walk_answers : (script : ScriptData) (actor : Actor) (h : List Item) (begun : Begun) (lines : List Line) (xs : List Item) → AnsweredServed (HasEnded script) actor h begun lines xs → Answered asks_last actor h (read_of begun) lines xs
 unfolding AnsweredServed Answered
 walk_answers script actor h begun lines [] served = (none_read script h begun served.0, served.1)
 walk_answers script actor h Nothing [] (x ∷ xs) served = (served.0, walk_answers script actor (h ++ x ∷ []) Nothing [] xs served.1)

@@ -73,9 +73,9 @@ keys_open laws _ v line st moved kept = tt
 -- what the rest of the entries serves, from a state where this is begun and owed
 abbrev pub Serves : ScriptData → Actor → List Entry → List Entry → Played → Type 0
 Serves script actor own es p =
-    Ends p.state p.items → (st : Standing) (begun : Begun) (lines : List Line) → AreOwn script.setup actor lines → FollowsOpened actor st lines own → KeysKept actor p.state st.written → ComesTo script actor p.state p.items st begun → AnsweredServed script actor p.items begun lines (kept_items es)
+    Ends p.state p.items → (st : Standing) (begun : Begun) (lines : List Line) → AreOwn script.setup actor lines → FollowsOpened actor st lines own → KeysKept actor p.state st.written → ComesTo script actor p.state p.items st begun → AnsweredServed (HasEnded script) actor p.items begun lines (kept_items es)
 
-at_end : (script : ScriptData) (actor : Actor) (p : Played) (begun : Begun) (st : Standing) (lines : List Line) → ComesTo script actor p.state p.items st begun → FollowsOpened actor st lines [] → AnsweredServed script actor p.items begun lines []
+at_end : (script : ScriptData) (actor : Actor) (p : Played) (begun : Begun) (st : Standing) (lines : List Line) → ComesTo script actor p.state p.items st begun → FollowsOpened actor st lines [] → AnsweredServed (HasEnded script) actor p.items begun lines []
 unfolding AnsweredServed FollowsOpened
 at_end script actor p begun st lines comes follows = (has_ended script actor p.state p.items st begun comes follows.1, follows.0)
 
@@ -101,9 +101,9 @@ moved_of laws a at ends = record {
 }
 
 -- the items of one entry, and those of the rest
-walk_past : (a : WalkAt) (begun : Begun) (lines : List Line) → IsReplayed a.script a.played a.entry → AllNot a.actor (items_of (move_of a)) → AnsweredServed a.script a.actor (played_after a).items (begun_over a.actor begun (items_of (move_of a))) lines (kept_items a.entries) → AnsweredServed a.script a.actor a.played.items begun lines (left_of a)
+walk_past : (a : WalkAt) (begun : Begun) (lines : List Line) → IsReplayed a.script a.played a.entry → AllNot a.actor (items_of (move_of a)) → AnsweredServed (HasEnded a.script) a.actor (played_after a).items (begun_over a.actor begun (items_of (move_of a))) lines (kept_items a.entries) → AnsweredServed (HasEnded a.script) a.actor a.played.items begun lines (left_of a)
 walk_past a begun lines here none later =
-    subst (λ (xs : List Item). AnsweredServed a.script a.actor a.played.items begun lines (xs ++ kept_items a.entries)) (sym here) (walks_over a.script a.actor a.played.items begun lines (items_of (move_of a)) (kept_items a.entries) none later)
+    subst (λ (xs : List Item). AnsweredServed (HasEnded a.script) a.actor a.played.items begun lines (xs ++ kept_items a.entries)) (sym here) (walks_over a.script a.actor a.played.items begun lines (items_of (move_of a)) (kept_items a.entries) none later)
 
 -- an event of another's log leaves what the node shows
 leaves_shown : (a : WalkAt) → IsApart a.script a.actor a.entry.event → LeavesShown a.script a.actor (move_of a)
@@ -140,7 +140,7 @@ other_step laws a at other ends st begun lines are_own follows kept comes =
     (keys_past laws a.actor v st.written moved none kept)
     (comes_past laws a.script a.actor v st begun moved (leaves_shown a other) none comes))
 
-go_step : MachineLaws → (a : WalkAt) (st : Standing) (begun : Begun) (lines : List Line) → Stands a → HasBegun a st begun → AreOwn a.script.setup a.actor lines → opener a.entry.event ≡ None → FollowsOpened a.actor (gone_on a.actor st a.entry) lines a.own → AnsweredServed a.script a.actor a.played.items begun lines (left_of a)
+go_step : MachineLaws → (a : WalkAt) (st : Standing) (begun : Begun) (lines : List Line) → Stands a → HasBegun a st begun → AreOwn a.script.setup a.actor lines → opener a.entry.event ≡ None → FollowsOpened a.actor (gone_on a.actor st a.entry) lines a.own → AnsweredServed (HasEnded a.script) a.actor a.played.items begun lines (left_of a)
 go_step laws a st begun lines at come are_own opens follows =
     let v : Move = move_of a in
     let items : List Item = items_of v in
@@ -154,21 +154,21 @@ go_step laws a st begun lines at come are_own opens follows =
     (comes_on laws a.script a.actor (replayed a) st begun moved (takes_on a at moved opens) none come.comes))
 
 -- the item with which a line opens, and those behind it
-walk_open : (a : WalkAt) (begun : Begun) (line : Line) (lines : List Line) → IsReplayed a.script a.played a.entry → (b : Begins (IsAnswer (asks_last a.played.items) line.actor line.verb) a.entry.kept.items) → HasEnded a.script a.played.items begun → AnsweredServed a.script a.actor (played_after a).items (begun_over a.actor (begun_by line.verb b.first) b.rest) lines (kept_items a.entries) →
-    AnsweredServed a.script a.actor a.played.items begun (line ∷ lines) (left_of a)
+walk_open : (a : WalkAt) (begun : Begun) (line : Line) (lines : List Line) → IsReplayed a.script a.played a.entry → (b : Begins (IsAnswer (asks_last a.played.items) line.actor line.verb) a.entry.kept.items) → HasEnded a.script a.played.items begun → AnsweredServed (HasEnded a.script) a.actor (played_after a).items (begun_over a.actor (begun_by line.verb b.first) b.rest) lines (kept_items a.entries) →
+    AnsweredServed (HasEnded a.script) a.actor a.played.items begun (line ∷ lines) (left_of a)
 unfolding AnsweredServed
 walk_open a begun line lines here b ended later =
     let actor : Actor = a.actor in
     let h : List Item = a.played.items in
     let rest : List Item = kept_items a.entries in
     let is : items_of (move_of a) ≡ b.first ∷ b.rest = sym here ∙ b.is in
-    let at : AnsweredServed a.script actor (h ++ b.first ∷ b.rest) (begun_over actor (begun_by line.verb b.first) b.rest) lines rest = subst (λ (xs : List Item). AnsweredServed a.script actor (h ++ xs) (begun_over actor (begun_by line.verb b.first) b.rest) lines rest) is later in
-    let walks : AnsweredServed a.script actor (h ++ b.first ∷ []) (begun_by line.verb b.first) lines (b.rest ++ rest) =
+    let at : AnsweredServed (HasEnded a.script) actor (h ++ b.first ∷ b.rest) (begun_over actor (begun_by line.verb b.first) b.rest) lines rest = subst (λ (xs : List Item). AnsweredServed (HasEnded a.script) actor (h ++ xs) (begun_over actor (begun_by line.verb b.first) b.rest) lines rest) is later in
+    let walks : AnsweredServed (HasEnded a.script) actor (h ++ b.first ∷ []) (begun_by line.verb b.first) lines (b.rest ++ rest) =
     walks_over a.script actor (h ++ b.first ∷ []) (begun_by line.verb b.first) lines b.rest rest (plain_not actor b.rest b.plain) (shift a.script actor h (begun_over actor (begun_by line.verb b.first) b.rest) lines b.first b.rest rest at) in
-    subst (λ (xs : List Item). AnsweredServed a.script actor h begun (line ∷ lines) (xs ++ rest)) (sym b.is) (inl (ended, b.answers, walks))
+    subst (λ (xs : List Item). AnsweredServed (HasEnded a.script) actor h begun (line ∷ lines) (xs ++ rest)) (sym b.is) (inl (ended, b.answers, walks))
 
 open_step : MachineLaws → (a : WalkAt) (st : Standing) (begun : Begun) (line : Line) (lines : List Line) → Stands a → HasBegun a st begun → OwnLine a.script.setup a.actor line → AreOwn a.script.setup a.actor lines → is_paid st ≡ true → first_event a.actor line.verb ≡ Some a.entry.event → FollowsOpened a.actor (opened a.actor line.verb st a.entry.kept.items) lines a.own →
-    AnsweredServed a.script a.actor a.played.items begun (line ∷ lines) (left_of a)
+    AnsweredServed (HasEnded a.script) a.actor a.played.items begun (line ∷ lines) (left_of a)
 open_step laws a st begun line lines at come mine are_own paid first follows =
     let actor : Actor = a.actor in
     let p : Played = a.played in

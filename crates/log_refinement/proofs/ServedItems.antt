@@ -51,13 +51,13 @@ unfoldable pub begun_over : Actor → Begun → List Item → Begun
 begun_over actor begun [] = begun
 begun_over actor begun (x ∷ xs) = begun_over actor (begun_after actor begun x) xs
 
-pub shift : (script : ScriptData) (actor : Actor) (h : List Item) (begun : Begun) (lines : List Line) (x : Item) (xs later : List Item) → AnsweredServed script actor (h ++ x ∷ xs) begun lines later → AnsweredServed script actor ((h ++ x ∷ []) ++ xs) begun lines later
-shift script actor h begun lines x xs later walks = subst (λ (before : List Item). AnsweredServed script actor before begun lines later) (sym (append_assoc h (x ∷ []) xs)) walks
+pub shift : (script : ScriptData) (actor : Actor) (h : List Item) (begun : Begun) (lines : List Line) (x : Item) (xs later : List Item) → AnsweredServed (HasEnded script) actor (h ++ x ∷ xs) begun lines later → AnsweredServed (HasEnded script) actor ((h ++ x ∷ []) ++ xs) begun lines later
+shift script actor h begun lines x xs later walks = subst (λ (before : List Item). AnsweredServed (HasEnded script) actor before begun lines later) (sym (append_assoc h (x ∷ []) xs)) walks
 
 -- items that open no line of the actor
-pub walks_over : (script : ScriptData) (actor : Actor) (h : List Item) (begun : Begun) (lines : List Line) (xs later : List Item) → AllNot actor xs → AnsweredServed script actor (h ++ xs) (begun_over actor begun xs) lines later → AnsweredServed script actor h begun lines (xs ++ later)
+pub walks_over : (script : ScriptData) (actor : Actor) (h : List Item) (begun : Begun) (lines : List Line) (xs later : List Item) → AllNot actor xs → AnsweredServed (HasEnded script) actor (h ++ xs) (begun_over actor begun xs) lines later → AnsweredServed (HasEnded script) actor h begun lines (xs ++ later)
 unfolding AllNot AnsweredServed begun_over
-walks_over script actor h begun lines [] later none walks = subst (λ (before : List Item). AnsweredServed script actor before begun lines later) (append-nil h) walks
+walks_over script actor h begun lines [] later none walks = subst (λ (before : List Item). AnsweredServed (HasEnded script) actor before begun lines later) (append-nil h) walks
 walks_over script actor h begun [] (x ∷ xs) later none walks = (none.0, walks_over script actor (h ++ x ∷ []) (begun_after actor begun x) [] xs later none.1 (shift script actor h (begun_over actor (begun_after actor begun x) xs) [] x xs later walks))
 walks_over script actor h begun (line ∷ lines) (x ∷ xs) later none walks = inr (none.0, walks_over script actor (h ++ x ∷ []) (begun_after actor begun x) (line ∷ lines) xs later none.1 (shift script actor h (begun_over actor (begun_after actor begun x) xs) (line ∷ lines) x xs later walks))
 

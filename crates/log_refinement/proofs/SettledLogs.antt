@@ -27,7 +27,7 @@ use Rattle.split_stores.specs.Merging.{logs_of}
 use Rattle.split_stores.specs.Orders.{rises_in, without_lines, SettledByPlans, IsOrdered, SettledIsOrdered, SettledIsPlanned}
 use Rattle.log_refinement.specs.Laws.{AllRise, IsCarried, SettledLogsAnswer, SettledLogsArePlanned, SettledLogsKeepService, SettledLogsServe}
 use Rattle.log_refinement.specs.Owed.{first_standing}
-use Rattle.log_refinement.specs.Served.{Nothing, AnsweredServed}
+use Rattle.log_refinement.specs.Served.{HasEnded, Nothing, AnsweredServed}
 use Rattle.log_refinement.proofs.AskFacts.{MachineLaws}
 use Rattle.log_refinement.proofs.ActorLogs.{WovenLog, woven_log}
 use Rattle.log_refinement.proofs.ClockTicks.{rises_as_lines, ticks_most}
@@ -90,6 +90,6 @@ settled_logs_serve laws law by_plans script logs whole carried follow_all rise s
     let follow : AllOpened script (actors_of script) logs = all_opened script (actors_of script) logs carried.masters follow_all in
     let k : WovenLog script actor settled.merged = woven_log script actor logs settled.merged carried.lines follow rise settled.in_order in
     let made : AllMade script settled.merged (opening_played script) = all_settled law by_plans script logs whole carried follow rise settled in
-    let serves : AnsweredServed script actor [] Nothing (filter (is_of actor) script.lines) (kept_items settled.merged) =
+    let serves : AnsweredServed (HasEnded script) actor [] Nothing (filter (is_of actor) script.lines) (kept_items settled.merged) =
     entries_serve laws script actor k.entries settled.merged (opening_played script) made k.woven (laws.first script.setup) first_standing Nothing (filter (is_of actor) script.lines) (own_lines script.setup actor script.lines carried.lines) k.follows (keys_first script actor carried) tt in
-    subst (λ (h : List Item). AnsweredServed script actor [] Nothing (filter (is_of actor) script.lines) h) (sym (by_plans script (logs_of logs) whole settled).history) serves
+    subst (λ (h : List Item). AnsweredServed (HasEnded script) actor [] Nothing (filter (is_of actor) script.lines) h) (sym (by_plans script (logs_of logs) whole settled).history) serves

@@ -105,15 +105,27 @@ HasEnded script h (Reads key) = ⊥
 HasEnded script h (Asks session ask since) = IsLeft script session ask.node since ⊎ HasCome h session ask since
 
 -- ---- the lines of an actor
--- Walks the history along the actor's lines, behind the part of it before. Each item answers the next line, once what was begun is
--- over, or opens no line of the actor. At the end no line is left, and nothing that was begun.
-unfoldable pub AnsweredServed : ScriptData → Actor → List Item → Begun → List Line → List Item → Type 0
-AnsweredServed script actor before begun lines [] = HasEnded script before begun × (lines ≡ [])
-AnsweredServed script actor before begun [] (x ∷ xs) = (Opens actor x → ⊥) × AnsweredServed script actor (before ++ x ∷ []) (begun_after actor begun x) [] xs
-AnsweredServed script actor before begun (line ∷ lines) (x ∷ xs) =
-    (HasEnded script before begun × IsAnswer (asks_last before) line.actor line.verb x × AnsweredServed script actor (before ++ x ∷ []) (begun_by line.verb x) lines xs)
-    ⊎ ((Opens actor x → ⊥) × AnsweredServed script actor (before ++ x ∷ []) (begun_after actor begun x) (line ∷ lines) xs)
+-- Walks the history along the actor's lines, behind the part of it before. Each item answers the next line, once what was begun has
+-- ended, or opens no line of the actor. At the end no line is left, and what was begun has ended.
+unfoldable pub AnsweredServed : (List Item → Begun → Type 0) → Actor → List Item → Begun → List Line → List Item → Type 0
+AnsweredServed Ended actor before begun lines [] = Ended before begun × (lines ≡ [])
+AnsweredServed Ended actor before begun [] (x ∷ xs) = (Opens actor x → ⊥) × AnsweredServed Ended actor (before ++ x ∷ []) (begun_after actor begun x) [] xs
+AnsweredServed Ended actor before begun (line ∷ lines) (x ∷ xs) =
+    (Ended before begun × IsAnswer (asks_last before) line.actor line.verb x × AnsweredServed Ended actor (before ++ x ∷ []) (begun_by line.verb x) lines xs)
+    ⊎ ((Opens actor x → ⊥) × AnsweredServed Ended actor (before ++ x ∷ []) (begun_after actor begun x) (line ∷ lines) xs)
 
 -- each line of each actor is answered, and served
 abbrev pub Served : ScriptData → List Item → Type 0
-Served script h = (actor : Actor) → AnsweredServed script actor [] Nothing (filter (is_of actor) script.lines) h
+Served script h = (actor : Actor) → AnsweredServed (HasEnded script) actor [] Nothing (filter (is_of actor) script.lines) h
+
+-- ---- by outcomes
+-- it has ended, and where nobody else may serve what the session asks and the node has not crashed since, an ask by its outcome, unless
+-- the node could not reach its record
+abbrev pub HasOutcome : ScriptData → List Item → Begun → Type 0
+HasOutcome script h Nothing = Unit {0}
+HasOutcome script h (Reads key) = ⊥
+HasOutcome script h (Asks session ask since) = others_serve script session ≡ false → (HasCrashed ask.node since → ⊥) → (item.Fault (Node ask.node) Master ∈ since) ⊎ HasCome h session ask since
+
+-- so it is with each line of each actor
+abbrev pub IsServedByOutcomes : ScriptData → List Item → Type 0
+IsServedByOutcomes script h = (actor : Actor) → AnsweredServed (HasOutcome script) actor [] Nothing (filter (is_of actor) script.lines) h

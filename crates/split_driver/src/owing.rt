@@ -112,7 +112,8 @@ fn due_after(due: Due, item: &Item) -> Due
         (
             Due::Decide,
             Item::Draw {
-                commit: Some(_), ..
+                commit: Some(_),
+                ..
             },
         ) => Due::Put,
         (Due::Put, Item::Placed { .. } | Item::Step { .. } | Item::Fault { .. }) => Due::Answer,
