@@ -1,5 +1,5 @@
 -- What the ask of a begin has come to, by what its actor's log owes of it.
-use Rattle.std.proofs.Common.{◌≡◌, ℕ, ◌==◌, Bool, true, false, ◌&&◌, if◌then◌else◌, List, [], ◌∷◌, ◌++◌, None, Some, ◌⊎◌, inl, inr, refl, sym, ◌∙◌, ap, subst}
+use Rattle.std.proofs.Common.{◌≡◌, ℕ, ◌==◌, Bool, true, false, ◌&&◌, if◌then◌else◌, List, [], ◌∷◌, None, Some, ◌⊎◌, inl, inr, refl, sym, ◌∙◌, ap, subst}
 use Rattle.std.proofs.lemmas.Option.{same_Some, none-some}
 use Rattle.history_book.specs.Members.{◌∈◌}
 use Rattle.history_book.specs.declared.cause.Cause.{Cause}
@@ -20,7 +20,7 @@ use Rattle.log_refinement.specs.declared.owed.Due.{Due}
 use Rattle.log_refinement.specs.declared.owed.Owed.{Owed}
 use Rattle.log_refinement.specs.declared.owed.Owed.TheVariants.{Nothing, Read, Answer, Denied, Removal, Erasure, Quiet}
 use Rattle.log_refinement.specs.Owed.{leaves_cells, leaves_nothing, after_own_refusal, is_lost, after_refusal, fails_record, after_asking, ends_completion, removes, is_idle, owed_after, Standing, with_item, with_items, is_settled}
-use Rattle.log_refinement.specs.Served.{IsOver, WasDenied, HasCome}
+use Rattle.log_refinement.specs.Served.{IsOver, WasDenied}
 use Rattle.log_refinement.proofs.AskFacts.{MachineLaws, Passed, stays_over, closes_ask, loses_ask, if_either, lost_is, nothing_left, leaving_closes, opening_closes, crashing_closes, failed_at, EndsBy}
 use Rattle.log_refinement.proofs.ItemLists.{in_split}
 use Rattle.log_refinement.proofs.Moves.{items_of, history_after, AskMove, since_after}

@@ -29,7 +29,6 @@ use Rattle.cause_laws.specs.ShownInvariant.{ExplainedInvariant}
 use Rattle.command_semantics.proofs.Walks.{AllNot}
 use Rattle.request_completion.specs.Ends.{IsHeld, IsToAsk, HasVanished, Comes, Made, Failed, Vanished, Left, Ends}
 use Rattle.request_completion.specs.SessionTransitions.{EndsCommit, NoneEnds, SessionTransition}
-use Rattle.log_refinement.specs.declared.owed.Due.{Due}
 use Rattle.log_refinement.specs.declared.owed.Owed.{Owed}
 use Rattle.log_refinement.specs.declared.owed.Owed.TheVariants.{Nothing, Read, Answer, Denied, Removal, Erasure, Quiet}
 use Rattle.log_refinement.specs.Owed.{leaves_cells}

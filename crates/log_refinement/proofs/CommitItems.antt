@@ -26,7 +26,7 @@ use Rattle.log_refinement.specs.declared.owed.Due.{Due}
 use Rattle.log_refinement.specs.declared.owed.Owed.{Owed}
 use Rattle.log_refinement.specs.declared.owed.Owed.TheVariants.{Nothing, Read, Answer, Denied, Removal, Erasure, Quiet}
 use Rattle.log_refinement.specs.Owed.{leaves_cells, leaves_nothing, after_own_refusal, is_lost, after_refusal, fails_record, after_asking, ends_completion, removes, is_idle, owed_after, written_after, without_key, unerased_after, Standing, with_item, with_items, is_nil, is_settled}
-use Rattle.log_refinement.specs.Served.{WasDenied, HasCome}
+use Rattle.log_refinement.specs.Served.{HasCome}
 use Rattle.log_refinement.proofs.AskFacts.{MachineLaws, Passed, closes_ask, loses_ask, if_either, lost_is, nothing_left, leaving_closes, opening_closes, failed_at, EndsBy}
 use Rattle.log_refinement.proofs.CommitAsks.{CommitAsk, ask_of, asked_upto, Place, PlaceBefore, PlaceBehind, now_asked, turn_of, passed_of, Settled, Erasing, CommitComes, removed_now, settled_at_rest}
 use Rattle.log_refinement.proofs.CommitTrails.{after_open, is_committing, clashes, not_begin, leaves_ends, IsRefused, refused_turn, IsOpened, opened_turn}

@@ -1,6 +1,6 @@
 -- How far the request that a node holds has come, and that the event which is due takes it on: none that is due is refused since there
 -- is no request.
-use Rattle.std.proofs.Common.{◌≡◌, ℕ, ◌+◌, ◌==◌, ◌<◌, ◌&&◌, Bool, true, false, if◌then◌else◌, List, [], ◌∷◌, ◌++◌, Option, None, Some, Result, Ok, Err, inl, inr, refl, sym, ◌∙◌, ap, subst, length, arith}
+use Rattle.std.proofs.Common.{◌≡◌, ℕ, ◌+◌, ◌==◌, ◌<◌, ◌&&◌, Bool, true, false, if◌then◌else◌, List, [], ◌∷◌, Option, None, Some, Ok, inl, inr, refl, sym, ◌∙◌, ap, subst, length}
 use Rattle.std.specs.Prelude.{nat_lt, nat_le, slice_get, slice_set, ◌⊎◌}
 use Rattle.std.proofs.lemmas.Bool.{cases_lt, cases_Bool, and_parts, eqb-true}
 use Rattle.std.proofs.lemmas.List.{get_or_past}
@@ -24,7 +24,7 @@ use Rattle.system_parts.specs.declared.instance.Request.TheVariants as request
 use Rattle.system_parts.specs.declared.instance.Settled.{Settled as How}
 use Rattle.system_parts.specs.declared.instance.Settled.TheVariants as how
 use Rattle.system_parts.specs.Instance.{InstanceEntry, held_of, with_request, unsettled_by, least_unsettled, stamps_by, stamps_of_held, stamps_at, was_told_not_yet}
-use Rattle.system_parts.specs.InstanceSteps.{InstanceStep, moved, accept_refusal, epoch_refusal, accept_unless, accept_if_asked, accept_held, out_of_stamps, decide_drawn, drawn_as, decide_by as verdict_by, settle_if_drawn, settle_held, instance_settle, answer_begin, answer_if_ready, answer_held, reply_of}
+use Rattle.system_parts.specs.InstanceSteps.{InstanceStep, moved, epoch_refusal, accept_unless, accept_if_asked, accept_held, out_of_stamps, decide_drawn, drawn_as, decide_by as verdict_by, settle_if_drawn, settle_held, instance_settle, answer_begin, answer_if_ready, answer_held, reply_of}
 use Rattle.system_parts.proofs.InstanceRequests.{held_of-with_request_same}
 use Rattle.system_parts.specs.Pairs.{Pairs, mark_of}
 use Rattle.machine.specs.State.{Client, State}
@@ -36,7 +36,7 @@ use Rattle.machine.proofs.Lookups.{set_found}
 use Rattle.machine.specs.Fits.{StopOf}
 use Rattle.machine.specs.Effect.{Effect, refused}
 use Rattle.machine.specs.Events.Accept.{accept_by, accept_request, accept_on}
-use Rattle.machine.specs.Events.Decide.{both_verdict, both_held, both_if_accepted, draw_item, decide_both, decide_by, decide_request, decide_on}
+use Rattle.machine.specs.Events.Decide.{both_verdict, both_held, both_if_accepted, draw_item, decide_by, decide_request, decide_on}
 use Rattle.machine.specs.Events.Put.{to_place, to_place_by, put_by, put_commit, put_on}
 use Rattle.machine.specs.Events.Answer.{answer_by, answer_request, answer_on}
 use Rattle.split_parts.specs.declared.event.Event.{Event}

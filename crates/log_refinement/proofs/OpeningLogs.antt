@@ -1,6 +1,6 @@
 -- The log of an actor, which follows all lines of the actor, follows those that have an opening item.
 use Rattle.std.proofs.Common.{◌≡◌, ◌⊎◌, Bool, true, false, cond, ◌&&◌, List, [], ◌∷◌, Option, Some, None, inl, inr, refl, sym, ◌∙◌, ap, subst}
-use Rattle.std.specs.Prelude.{filter, is_some, All}
+use Rattle.std.specs.Prelude.{filter, is_some}
 use Rattle.std.specs.List.{AllZip}
 use Rattle.std.proofs.lemmas.List.Elements.{All-head, All-tail}
 use Rattle.std.proofs.lemmas.Option.{none-some}
@@ -11,7 +11,7 @@ use Rattle.script_data.specs.declared.line.Target.TheVariants as target
 use Rattle.script_data.specs.declared.line.Verb.{Verb}
 use Rattle.script_data.specs.declared.line.Verb.TheVariants as verb
 use Rattle.script_data.specs.Data.{ScriptData}
-use Rattle.command_semantics.specs.Answers.{same_actor, has_opening, is_of}
+use Rattle.command_semantics.specs.Answers.{has_opening, is_of}
 use Rattle.command_semantics.proofs.ScriptWalks.{actor_same}
 use Rattle.split_parts.specs.declared.event.Event.{Event}
 use Rattle.split_parts.specs.declared.event.Event.TheVariants as event

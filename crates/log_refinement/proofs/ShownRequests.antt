@@ -1,8 +1,8 @@
 -- What a session has asked stands at its node as far as its log shows it, where nobody else serves it and the node has not crashed.
-use Rattle.std.proofs.Common.{◌≡◌, ℕ, ◌==◌, ◌&&◌, ◌||◌, Bool, true, false, cond, if◌then◌else◌, List, [], ◌∷◌, ◌++◌, Option, None, Some, Result, Ok, Err, ◌⊎◌, inl, inr, refl, sym, ◌∙◌, ap, subst, ◌<◌, length}
+use Rattle.std.proofs.Common.{◌≡◌, ℕ, ◌==◌, ◌&&◌, ◌||◌, Bool, true, false, cond, if◌then◌else◌, List, [], ◌∷◌, Option, None, Some, Ok, ◌⊎◌, inl, inr, refl, sym, ◌∙◌, ap, subst, ◌<◌, length}
 use Rattle.std.specs.Prelude.{slice_get, slice_set, filter}
 use Rattle.std.specs.List.{list_any}
-use Rattle.std.proofs.lemmas.Bool.{cases_Bool, cases_eq, and_parts, eqb-true}
+use Rattle.std.proofs.lemmas.Bool.{cases_eq, eqb-true}
 use Rattle.std.proofs.lemmas.Option.{same_Some, none-some}
 use Rattle.stamp_base.specs.SetupNumbers.{SetupNumbers}
 use Rattle.port_io.specs.declared.weather.Fate.{Fate}
@@ -10,47 +10,42 @@ use Rattle.history_book.specs.Members.{◌∈◌}
 use Rattle.history_book.specs.declared.cause.Cause.{Cause}
 use Rattle.history_book.specs.declared.cause.Cause.TheVariants as cause
 use Rattle.history_book.specs.declared.item.Actor.{Actor}
-use Rattle.history_book.specs.declared.item.Actor.TheVariants.{Clock, Node, Session, Janitor}
+use Rattle.history_book.specs.declared.item.Actor.TheVariants.{Node, Session, Janitor}
 use Rattle.history_book.specs.declared.item.Item.{Item}
 use Rattle.history_book.specs.declared.item.Item.TheVariants as item
-use Rattle.history_book.proofs.MemberLemmas.{in_front, in_back}
 use Rattle.system_parts.specs.SessionSteps.{begin_refusal, work_refusal}
 use Rattle.system_parts.specs.declared.instance.Request.{Request}
 use Rattle.system_parts.specs.declared.instance.Request.TheVariants as request
 use Rattle.system_parts.specs.Instance.{InstanceEntry, held_of, with_request, in_flight, session_of}
-use Rattle.system_parts.specs.InstanceSteps.{InstanceStep, stays, just_asked, instance_ask}
+use Rattle.system_parts.specs.InstanceSteps.{InstanceStep, stays, just_asked}
 use Rattle.machine.specs.State.{Client, State}
 use Rattle.machine.specs.Clients.{is_reading}
-use Rattle.machine.specs.declared.event.Event as timed
 use Rattle.machine.specs.declared.event.Event.TheVariants as made
 use Rattle.machine.specs.Machine.{Step, stepped}
-use Rattle.machine.specs.Effect.{Effect}
 use Rattle.machine.specs.Events.AskBegin.{asked_by, ask_begin_by}
 use Rattle.machine.specs.Events.AskCommit.{commit_of, ask_commit_by}
 use Rattle.machine.proofs.Lookups.{set_found}
 use Rattle.system_parts.proofs.InstanceRequests.{held_of-with_request_same}
-use Rattle.machine.proofs.LookedUp.{of_post, of_both}
+use Rattle.machine.proofs.LookedUp.{of_both}
 use Rattle.script_data.specs.declared.line.Line.{Line}
 use Rattle.script_data.specs.declared.line.Verb.{Verb}
 use Rattle.script_data.specs.declared.line.Verb.TheVariants as verb
 use Rattle.script_data.specs.Data.{ScriptData}
-use Rattle.cause_laws.specs.ShownInvariant.{ExplainedInvariant}
 use Rattle.split_parts.specs.declared.event.Event.{Event}
 use Rattle.split_parts.specs.declared.event.Event.TheVariants as event
 use Rattle.split_stores.specs.declared.seat.Entry.{Entry}
 use Rattle.split_stores.specs.Merged.{timed_at}
 use Rattle.grant_laws.specs.Turns.{touches}
-use Rattle.grant_laws.proofs.CalledRequests.{Has, the_post}
 use Rattle.log_refinement.specs.declared.owed.Due.{Due}
 use Rattle.log_refinement.specs.declared.owed.Due.TheVariants as due
 use Rattle.log_refinement.specs.declared.owed.Owed.{Owed}
 use Rattle.log_refinement.specs.declared.owed.Owed.TheVariants.{Nothing, Read, Answer, Denied, Removal, Erasure, Quiet}
-use Rattle.log_refinement.specs.Owed.{Standing, with_item, with_items, owed_after, after_due, repeats, after_repeat, is_step, gone_on, opened}
-use Rattle.log_refinement.specs.Follows.{opener, first_event, plain_event, IsLater, Follows, is_own}
+use Rattle.log_refinement.specs.Owed.{Standing, with_item, with_items, after_due, repeats, after_repeat, is_step, gone_on, opened}
+use Rattle.log_refinement.specs.Follows.{opener, plain_event, IsLater, Follows}
 use Rattle.log_refinement.specs.Served.{is_stage_for, others_serve, HasCrashed}
 use Rattle.log_refinement.proofs.DueRequests.{HeldAt, NodeShows, CanDecide, IsRest, shows_rest, shows_past, owed_over, rest_over, due_rest, own_answer}
 use Rattle.log_refinement.proofs.FirstEvents.{first_own}
-use Rattle.log_refinement.proofs.OtherLogs.{OpensOther, IsOther}
+use Rattle.log_refinement.proofs.OtherLogs.{IsOther}
 use Rattle.log_refinement.proofs.Weaving.{Woven}
 
 -- ---- the session's own log
