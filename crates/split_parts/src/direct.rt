@@ -25,7 +25,7 @@ ghost use Rattle.cluster_core.specs.Required.{CanMake};
 ghost use Rattle.port_io.specs.declared.weather.Fate.{Fate};
 ghost use Rattle.split_parts.specs.Acts.{Acts, asked_of};
 ghost use Rattle.split_parts.specs.Agrees.{CallsFit, HasSession};
-ghost use Rattle.split_parts.specs.Direct.{HasAll, HasPost, lent_effect, MakesOfCells, MakesOfNode, MakesOfSession, MakesOfStores, MakesOfTable, on_both, on_rows, on_table_too, turned};
+ghost use Rattle.split_parts.specs.Direct.{HasAll, HasPost, lent_effect, MakesOfCells, MakesOfNode, MakesOfSession, MakesOfTable, StepsOfSession, on_both, on_rows, on_table_too, turned};
 ghost use Rattle.split_parts.specs.Making.{called_after};
 ghost use Rattle.split_parts.specs.Parts.{LeasesBySetup, behind, cells_of, fate_of, filled, lent_pairs, lent_rows, node_of, seen, session_of, sessions_seen, table_of};
 
@@ -111,28 +111,28 @@ impl<'a> Lent<'a> {
         ensures { IsTrue result → HasAll (seen self.now) event.now }
     {
         match event {
-            Event::Write { session, .. } => self.client(*session).is_some() && self.cells.is_some(),
-            Event::Abort { session } => self.client(*session).is_some(),
-            Event::Vanish { session } => self.client(*session).is_some(),
+            Event::Write { session, .. } => self.has_session(*session) && self.cells.is_some(),
+            Event::Abort { session } => self.has_session(*session),
+            Event::Vanish { session } => self.has_session(*session),
             Event::AskBegin { session, node } => {
-                self.client(*session).is_some() && self.has_post(*node)
+                self.has_session(*session) && self.has_post(*node)
             }
             Event::AskCommit { session, node } => {
-                self.client(*session).is_some() && self.has_post(*node)
+                self.has_session(*session) && self.has_post(*node)
             }
             Event::Decide { node, session } => {
-                self.client(*session).is_some() && self.has_post(*node)
+                self.has_session(*session) && self.has_post(*node)
             }
             Event::Answer { node, session } => {
-                self.client(*session).is_some() && self.has_post(*node)
+                self.has_session(*session) && self.has_post(*node)
             }
             Event::Accept { node, session, .. } => {
-                self.client(*session).is_some() && self.has_post(*node)
+                self.has_session(*session) && self.has_post(*node)
             }
             Event::Put { node, .. } => self.has_post(*node) && self.table.is_some(),
-            Event::Step { session } => self.client(*session).is_some(),
-            Event::Fetch { session, .. } => self.client(*session).is_some() && self.cells.is_some(),
-            Event::Heal { session } => self.client(*session).is_some() && self.cells.is_some(),
+            Event::Step { session } => self.has_session(*session),
+            Event::Fetch { session, .. } => self.has_session(*session) && self.cells.is_some(),
+            Event::Heal { session } => self.has_session(*session) && self.cells.is_some(),
             Event::Take { node, .. } => self.has_post(*node) && self.master.is_some(),
             Event::Renew { node, .. } => self.has_post(*node) && self.master.is_some(),
             Event::Extend { node } => self.has_post(*node) && self.master.is_some(),
@@ -142,12 +142,22 @@ impl<'a> Lent<'a> {
         }
     }
 
+    /// Whether the session is lent.
+    fn has_session(&self, session: SessionNo) -> bool
+        ensures { IsTrue result → HasSession (seen self.now) session }
+    {
+        match self.session(session) {
+            Some(part) => part.number == session,
+            None => false,
+        }
+    }
+
     /// Whether the node is lent, and is one of the setup's.
     fn has_post(&self, node: NodeNo) -> bool
         ensures { IsTrue result → HasPost (seen self.now) node }
     {
         match &self.node {
-            Some(part) => part.node == node && part.node.value() < part.setup.nodes,
+            Some(part) => part.node == node && node.value() < self.plan.setup.nodes,
             None => false,
         }
     }
@@ -233,7 +243,7 @@ fn write_to(
     key: KeyNo,
     value: Value,
 ) -> Result<(), Stopped>
-    requires { IfSome (behind session_of own.old) (λ c. IfSome (behind cells_of cells.old) (λ part. write_refused c key ≡ None → IfSome c.entry.start (λ start. IsBare part.rows key start))) }
+    requires { IfSome (behind session_of own.old) (λ own. IfSome (behind cells_of cells.old) (λ part. write_refused own.client key ≡ None → IfSome own.client.entry.start (λ start. IsBare part.rows key start))) }
     ensures { MakesOfCells (λ c rows. write_on session key value weather.old.fate c rows) (behind session_of own.old) (behind cells_of cells.old) (behind session_of own.new) (behind cells_of cells.new) book.old.items book.new.items result }
 {
     match (own, cells) {
@@ -294,7 +304,7 @@ fn ask_begin_to(
     session: SessionNo,
     node: NodeNo,
 ) -> Result<(), Stopped>
-    requires { IfSome (behind session_of own.old) (λ c. IfSome (behind node_of post.old) (λ part. begin_refusal c.entry.state ≡ None → HoldsNone part.instance session)) }
+    requires { IfSome (behind session_of own.old) (λ own. IfSome (behind node_of post.old) (λ part. begin_refusal own.client.entry.state ≡ None → HoldsNone part.instance session)) }
     ensures { MakesOfNode (λ c i. ask_begin_on session node c i) (behind session_of own.old) (behind node_of post.old) (behind session_of own.new) (behind node_of post.new) book.old.items book.new.items result }
 {
     match (own, post) {
@@ -314,7 +324,7 @@ fn ask_commit_to(
     session: SessionNo,
     node: NodeNo,
 ) -> Result<(), Stopped>
-    requires { IfSome (behind session_of own.old) (λ c. IfSome (behind node_of post.old) (λ part. work_refusal c.entry.state (is_reading c) ≡ None → HoldsNone part.instance session)) }
+    requires { IfSome (behind session_of own.old) (λ own. IfSome (behind node_of post.old) (λ part. work_refusal own.client.entry.state (is_reading own.client) ≡ None → HoldsNone part.instance session)) }
     ensures { MakesOfNode (λ c i. ask_commit_on session node c i) (behind session_of own.old) (behind node_of post.old) (behind session_of own.new) (behind node_of post.new) book.old.items book.new.items result }
 {
     match (own, post) {
@@ -335,7 +345,7 @@ fn decide_to(
     session: SessionNo,
     node: NodeNo,
 ) -> Result<(), Stopped>
-    requires { IfSome (behind session_of own.old) (λ c. IfSome (behind node_of post.old) (λ part. WaitsAt part.instance session c.entry)) }
+    requires { IfSome (behind session_of own.old) (λ own. IfSome (behind node_of post.old) (λ part. WaitsAt part.instance session own.client.entry)) }
     ensures { MakesOfNode (λ c i. turned (decide_on node session i c)) (behind session_of own.old) (behind node_of post.old) (behind session_of own.new) (behind node_of post.new) book.old.items book.new.items result }
 {
     book.reserve(1)?;
@@ -357,7 +367,7 @@ fn answer_to(
     session: SessionNo,
     node: NodeNo,
 ) -> Result<(), Stopped>
-    requires { IfSome (behind session_of own.old) (λ c. IfSome (behind node_of post.old) (λ part. WaitsAt part.instance session c.entry)) }
+    requires { IfSome (behind session_of own.old) (λ own. IfSome (behind node_of post.old) (λ part. WaitsAt part.instance session own.client.entry)) }
     ensures { MakesOfNode (λ c i. turned (answer_on node session i c)) (behind session_of own.old) (behind node_of post.old) (behind session_of own.new) (behind node_of post.new) book.old.items book.new.items result }
 {
     book.reserve(1)?;
@@ -380,7 +390,7 @@ fn accept_to(
     node: NodeNo,
     reading: u64,
 ) -> Result<(), Stopped>
-    requires { IfSome (behind session_of own.old) (λ c. IfSome (behind node_of post.old) (λ part. WaitsAt part.instance session c.entry)) }
+    requires { IfSome (behind session_of own.old) (λ own. IfSome (behind node_of post.old) (λ part. WaitsAt part.instance session own.client.entry)) }
     ensures { MakesOfNode (λ c i. turned (accept_on node session reading i c)) (behind session_of own.old) (behind node_of post.old) (behind session_of own.new) (behind node_of post.new) book.old.items book.new.items result }
 {
     let mut places = Table::new(alloc);
@@ -446,8 +456,8 @@ fn step_to(
     table: &mut Option<&mut TablePart>,
     session: SessionNo,
 ) -> Result<(), Stopped>
-    requires { IfSome (behind session_of own.old) (λ c. MayStep c → handed_commit c.entry ≡ None → KeepsShadowNext (next_of (work_of c)) (lent_rows [] (behind cells_of cells.old))) }
-    ensures { MakesOfStores (λ c rows pairs. step_on session (fate_ahead (step_asks c) (λ store n. weather.old.fate)) c rows pairs) (behind session_of own.old) (behind cells_of cells.old) (behind table_of table.old) (behind session_of own.new) (behind cells_of cells.new) (behind table_of table.new) book.old.items book.new.items result }
+    requires { IfSome (behind session_of own.old) (λ own. MayStep own.client → handed_commit own.client.entry ≡ None → KeepsShadowNext (next_of (work_of own.client)) (lent_rows [] (behind cells_of cells.old))) }
+    ensures { StepsOfSession (λ c rows pairs. step_on session (fate_ahead (step_asks c) (λ store n. weather.old.fate)) c rows pairs) (behind session_of own.old) (behind cells_of cells.old) (behind table_of table.old) (behind session_of own.new) (behind cells_of cells.new) (behind table_of table.new) book.old.items book.new.items result }
 {
     match own {
         Some(place) => {
@@ -575,7 +585,7 @@ fn heal_to(
     cells: &mut Option<&mut CellsPart>,
     session: SessionNo,
 ) -> Result<(), Stopped>
-    requires { IfSome (behind session_of own.old) (λ c. IfSome (behind cells_of cells.old) (λ part. IfSome (offer_of c) (λ offer. HasOnly part.rows offer.0 offer.1 offer.2))) }
+    requires { IfSome (behind session_of own.old) (λ own. IfSome (behind cells_of cells.old) (λ part. IfSome (offer_of own.client) (λ offer. HasOnly part.rows offer.0 offer.1 offer.2))) }
     ensures { MakesOfCells (λ c rows. heal_on session weather.old.fate c rows map.empty) (behind session_of own.old) (behind cells_of cells.old) (behind session_of own.new) (behind cells_of cells.new) book.old.items book.new.items result }
 {
     match (own, cells) {

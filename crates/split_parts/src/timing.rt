@@ -1,7 +1,8 @@
-// The event of the machine that an entry of a log stands for.
-ghost use Rattle.std.specs.Prelude.{◌≡◌, ◌≤◌, ◌+◌, ◌^◌, All};
-ghost use Rattle.split_stores.specs.Logs.{rise_of};
-ghost use Rattle.split_stores.specs.Merged.{reading_of, timed_at};
+// The event of the machine that an event of the parts stands for.
+ghost use Rattle.std.specs.Prelude.{◌≡◌, ◌≤◌, ◌^◌, All};
+ghost use Rattle.split_parts.specs.Acts.{timed_at};
+ghost use Rattle.split_parts.specs.Agrees.{ClockAllows};
+ghost use Rattle.split_parts.specs.Parts.{reading_of};
 
 use crate::Event;
 use machine::Event as TimedEvent;
@@ -9,8 +10,8 @@ use stamp_base::NodeNo;
 
 /// The event of the machine at this base clock: a tick goes up to the base clock with its rise, and a reading is the base clock
 /// with the node's lead.
-pub(crate) fn timed(base: u64, leads: &[u64], event: &Event) -> TimedEvent
-    requires rise { base + rise_of event.now ≤ 2 ^ 60 }
+pub fn timed(base: u64, leads: &[u64], event: &Event) -> TimedEvent
+    requires clock { ClockAllows base event.now }
     requires leads { All (λ lead. lead ≤ 2 ^ 60) leads.now }
     ensures { result ≡ timed_at base leads.now event.now }
 {
