@@ -2,12 +2,14 @@
 //! them.
 #![tactic(auto)]
 
+mod accessing;
 mod acting;
 mod agreeing;
 mod deciding;
 mod direct;
 mod event;
 mod fates;
+mod leaving;
 mod lending;
 mod lent;
 mod making;
@@ -15,8 +17,11 @@ mod noting;
 mod parts;
 mod plan;
 mod recording;
+mod requesting;
+mod stepping;
 mod swapping;
 mod sweeping;
+mod taking;
 mod timing;
 
 pub use acting::{Acted, act};

@@ -2,10 +2,11 @@
 ghost use Rattle.std.specs.Prelude.{◌≡◌, [], None};
 ghost use Rattle.machine.specs.State.{client_new};
 ghost use Rattle.session_script.specs.PostedNames.{is_posted};
+ghost use Rattle.split_parts.specs.Parts.{session_of};
 
 use cell_store::Cells;
 use commit_table::Table;
-use event_parts::Client;
+use event_parts::{Client, Stopped};
 use invalidator::Sweep;
 use master_record::Master;
 use session_script::PostedNames;
@@ -18,6 +19,8 @@ use takeover_core::Post;
 pub struct SessionPart {
     pub(crate) number: SessionNo,
     pub(crate) client: Client,
+    // Where its request can be looked for first. No clause says that it stands there.
+    pub(crate) asked: Option<NodeNo>,
 }
 
 impl SessionPart {
@@ -29,6 +32,7 @@ impl SessionPart {
         SessionPart {
             number,
             client: Client::without_cache(),
+            asked: None,
         }
     }
 
@@ -44,6 +48,20 @@ impl SessionPart {
         ensures { result.now ≡ self.now.client }
     {
         &self.client
+    }
+
+    /// The node that the session has asked last, if it has asked one.
+    pub fn asked(&self) -> Option<NodeNo> {
+        self.asked
+    }
+
+    /// The session has asked the node, unless it was refused.
+    pub(crate) fn remember(&mut self, node: NodeNo, made: &Result<(), Stopped>)
+        ensures { session_of self.new ≡ session_of self.old }
+    {
+        if made.is_ok() {
+            self.asked = Some(node);
+        }
     }
 }
 

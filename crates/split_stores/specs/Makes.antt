@@ -78,6 +78,12 @@ pub record MadeOfParts (plan : ScriptData) (e : Event) (answer : Made) (before a
   pub has : IsInPlace old e → HasParts old e
   pub inside : Inside e old new before after answer
 
+-- so it is with an event that was logged
+abbrev pub MadeOf : ScriptData → Event → Made → Logged → Logged → Type 0
+MadeOf plan e made.Did old new = MadeOfParts plan e made.Did old new
+MadeOf plan e (made.Stopped stopped) old new = MadeOfParts plan e (made.Stopped stopped) old new
+MadeOf plan e _ old new = Unit {0}
+
 -- ---- the parts behind their locks
 -- which word gives their ticks, for how many seats, and what the script sets
 pub record Shared : Type 0 where

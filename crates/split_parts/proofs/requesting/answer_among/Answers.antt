@@ -5,7 +5,7 @@ use Rattle.machine.specs.declared.event.Event.TheVariants as event
 use Rattle.split_parts.specs.Direct.{turned}
 use Rattle.split_parts.specs.Parts.{Parts, behind, node_of, seen, session_of}
 use Rattle.split_parts.proofs.Directly.{among_nodes, node_moved, node_made, may_serve}
-use Rattle.split_parts.proofs.direct.answer_among.Goals as goal
+use Rattle.split_parts.proofs.requesting.answer_among.Goals as goal
 
 pub answer_to-made-requires : goal.answer_to-made-requires
 answer_to-made-requires c = may_serve (seen c.args.lent.now) c.args.session c.args.node _ _ (grind arith) (c.take_session-own.ensures.part ∙ ap (λ n. slice_index_or (seen c.args.lent.now).sessions n None) c.index.ensures.value) (ap (λ (p : Parts). p.node) c.take_session-own.ensures.parts) c.requires.all.1 c.requires.can

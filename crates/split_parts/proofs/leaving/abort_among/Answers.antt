@@ -4,7 +4,7 @@ use Rattle.machine.specs.Events.Abort.{abort_on}
 use Rattle.machine.specs.declared.event.Event.TheVariants as event
 use Rattle.split_parts.specs.Parts.{behind, seen, session_of}
 use Rattle.split_parts.proofs.Directly.{among_sessions, session_moved, session_made}
-use Rattle.split_parts.proofs.direct.abort_among.Goals as goal
+use Rattle.split_parts.proofs.leaving.abort_among.Goals as goal
 
 pub returns : goal.returns
 returns c = λ fate.

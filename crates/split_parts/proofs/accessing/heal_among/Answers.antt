@@ -5,7 +5,7 @@ use Rattle.machine.specs.Events.Heal.{heal_on}
 use Rattle.machine.specs.declared.event.Event.TheVariants as event
 use Rattle.split_parts.specs.Parts.{Parts, behind, cells_of, seen, session_of}
 use Rattle.split_parts.proofs.Directly.{among, made_moved, cells_made, heal_is, may_heal}
-use Rattle.split_parts.proofs.direct.heal_among.Goals as goal
+use Rattle.split_parts.proofs.accessing.heal_among.Goals as goal
 
 pub heal_to-made-requires : goal.heal_to-made-requires
 heal_to-made-requires c = may_heal (seen c.args.lent.now) c.args.session _ _ (grind arith) (c.take_session-own.ensures.part ∙ ap (λ n. slice_index_or (seen c.args.lent.now).sessions n None) c.index.ensures.value) (ap (λ (p : Parts). p.cells) c.take_session-own.ensures.parts) c.requires.can

@@ -4,7 +4,7 @@ use Rattle.machine.specs.Events.Write.{write_on}
 use Rattle.machine.specs.declared.event.Event.TheVariants as event
 use Rattle.split_parts.specs.Parts.{Parts, behind, cells_of, seen, session_of}
 use Rattle.split_parts.proofs.Directly.{among, made_moved, cells_made, may_write_of}
-use Rattle.split_parts.proofs.direct.write_among.Goals as goal
+use Rattle.split_parts.proofs.accessing.write_among.Goals as goal
 
 pub write_to-made-requires : goal.write_to-made-requires
 write_to-made-requires c = may_write_of (seen c.args.lent.now) c.args.session c.args.key _ _ (grind arith) (c.take_session-own.ensures.part ∙ ap (λ n. slice_index_or (seen c.args.lent.now).sessions n None) c.index.ensures.value) (ap (λ (p : Parts). p.cells) c.take_session-own.ensures.parts) c.requires.can

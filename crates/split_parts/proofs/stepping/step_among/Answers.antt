@@ -5,7 +5,7 @@ use Rattle.machine.specs.Events.Step.{step_asks, step_on}
 use Rattle.machine.specs.declared.event.Event.TheVariants as event
 use Rattle.split_parts.specs.Parts.{Parts, behind, cells_of, seen, session_of, table_of}
 use Rattle.split_parts.proofs.Directly.{among_stores, stores_moved, stores_made, step_is, may_step}
-use Rattle.split_parts.proofs.direct.step_among.Goals as goal
+use Rattle.split_parts.proofs.stepping.step_among.Goals as goal
 
 pub step_to-made-requires : goal.step_to-made-requires
 step_to-made-requires c = may_step (seen c.args.lent.now) c.args.session _ _ (grind arith) (c.take_session-own.ensures.part ∙ ap (λ n. slice_index_or (seen c.args.lent.now).sessions n None) c.index.ensures.value) (ap (λ (p : Parts). p.cells) c.take_session-own.ensures.parts) c.requires.can
