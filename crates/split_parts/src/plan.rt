@@ -1,8 +1,7 @@
 // What a script sets, without its lines.
-ghost use Rattle.std.specs.Prelude.{◌≡◌, ◌≤◌, [], All, IfOk, false};
+ghost use Rattle.std.specs.Prelude.{◌≡◌, [], false};
 ghost use Rattle.stamp_base.specs.Setups.{numbers_of};
 ghost use Rattle.script_data.specs.Data.{IsSound};
-ghost use Rattle.split_parts.specs.Plans.{plan_data, planned_by};
 
 use port_io::Fate;
 use session_script::Script;
@@ -23,6 +22,9 @@ pub struct Plan {
 }
 
 impl Plan {
+    ghost use Rattle.std.specs.Prelude.{◌≤◌, All, IfOk};
+    ghost use Rattle.split_parts.specs.Plans.{plan_data, planned_by};
+
     /// What the script sets.
     pub fn new(alloc: Global, script: &Script) -> Result<Plan, NoMemory>
         requires cache { script.now.setup.cache ≡ 0 }

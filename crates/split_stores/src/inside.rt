@@ -45,8 +45,13 @@ impl<R: Wait, G: PartGate> Turn<'_, R, G> {
         ensures adds { Adds self.now.event acted.items.items seat.old seat.new }
         ensures answers { result ≡ made_of acted.stopped }
     {
-        let Acted { items, stopped } = acted;
-        seat.log(word, self.event, items);
+        let Acted {
+            items: mut kept,
+            stopped,
+        } = acted;
+        // An entry stays to the end of the run, and most keep one item.
+        kept.shrink_to_fit();
+        seat.log(word, self.event, kept);
         match stopped {
             None => Made::Did,
             Some(why) => Made::Stopped(why),
