@@ -137,7 +137,9 @@ impl Split {
     {
         let mut post = self.nodes[node.index()].lock(turn.rt);
         let mut master = self.master.lock(turn.rt);
-        let mut lent = Lent::none(&self.plan).with_node(&mut post).with_master(&mut master);
+        let mut lent = Lent::none(&self.plan)
+            .with_node(&mut post)
+            .with_master(&mut master);
         turn.inside(self, seat, &mut lent)
     }
 
@@ -260,7 +262,9 @@ impl Split {
     {
         let mut post = self.nodes[node.index()].lock(turn.rt);
         let mut table = self.table.lock(turn.rt);
-        let mut lent = Lent::none(&self.plan).with_node(&mut post).with_table(&mut table);
+        let mut lent = Lent::none(&self.plan)
+            .with_node(&mut post)
+            .with_table(&mut table);
         turn.inside(self, seat, &mut lent)
     }
 
@@ -295,7 +299,9 @@ impl Split {
     {
         let mut janitor = self.janitor.lock(turn.rt);
         let mut post = self.nodes[node.index()].lock(turn.rt);
-        let mut lent = Lent::none(&self.plan).with_janitor(&mut janitor).with_node(&mut post);
+        let mut lent = Lent::none(&self.plan)
+            .with_janitor(&mut janitor)
+            .with_node(&mut post);
         turn.inside(self, seat, &mut lent)
     }
 
