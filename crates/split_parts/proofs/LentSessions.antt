@@ -25,7 +25,7 @@ kept_below l m n same has = record { all = ap length same ∙ has.all; each = λ
 pub none_below : (plan : ScriptData) → LendsBelow 0 (no_parts plan)
 none_below plan = record { all = refl; each = λ session less. absurd (omega (arith, less)) }
 
-session_is : (n s : ℕ) → s < n + 1 → (s ≡ n) ⊎ (s < n)
+pub session_is : (n s : ℕ) → s < n + 1 → (s ≡ n) ⊎ (s < n)
 session_is zero zero less = inl refl
 session_is zero (suc s) less = absurd (omega (arith, less))
 session_is (suc n) zero less = inr (omega arith)

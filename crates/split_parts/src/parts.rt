@@ -51,7 +51,9 @@ impl SessionPart {
     }
 
     /// The node that the session has asked last, if it has asked one.
-    pub fn asked(&self) -> Option<NodeNo> {
+    pub fn asked(&self) -> Option<NodeNo>
+        ensures { result ≡ self.now.asked }
+    {
         self.asked
     }
 

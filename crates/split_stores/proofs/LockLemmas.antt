@@ -1,5 +1,5 @@
 -- Parts that are locked are those that an event has to do with.
-use Rattle.std.proofs.Common.{◌≡◌, ℕ, ◌<◌, List, length, None, Option, Some, refl, sym, ap, ◌∙◌, subst, arith, rules}
+use Rattle.std.proofs.Common.{◌≡◌, ℕ, ◌+◌, ◌<◌, ◌⊎◌, ⊎_elim, List, length, None, Option, Some, refl, sym, ap, ◌∙◌, subst, arith, rules}
 use Rattle.std.specs.Prelude.{IfSome, IsSome, IsSomeAnd, option_map, slice_index_or, slice_set}
 use Rattle.std.proofs.lemmas.List.{get_or-set_same}
 use Rattle.stamp_base.specs.declared.stores.Store.{Store}
@@ -18,6 +18,7 @@ use Rattle.split_parts.specs.Lookups.{session_at}
 use Rattle.split_parts.specs.Parts.{Node, Parts, Session, or_else}
 use Rattle.split_stores.specs.Locks.{IsInPlace, IsNode, IsSession}
 use Rattle.split_parts.proofs.FoundParts.{client_there}
+use Rattle.split_parts.proofs.LentSessions.{session_is}
 
 -- ---- the node
 node_is : (found : Option Node) (node : ℕ) → IsSome found → IfSome found (λ n. n.node ≡ node) → IsSomeAnd found (λ n. n.node ≡ node)
@@ -28,18 +29,21 @@ pub has_node : (l : Parts) (node : ℕ) → IsSome l.node → IsNode l node → 
 has_node l node some at = node_is l.node node some at
 
 -- ---- the session
-session_is : (found : Option Session) (session : ℕ) → IsSome found → IfSome found (λ own. own.number ≡ session) → IsSomeAnd found (λ own. own.number ≡ session)
-session_is None session some at = search rules
-session_is (Some own) session some at = search rules
+own_is : (found : Option Session) (session : ℕ) → IsSome found → IfSome found (λ own. own.number ≡ session) → IsSomeAnd found (λ own. own.number ≡ session)
+own_is None session some at = search rules
+own_is (Some own) session some at = search rules
 
 pub has_session : (l : Parts) (session : ℕ) → LendsSession l session → IsSession l session → HasSession l session
-has_session l session some at = session_is (session_at l session) session some at
+has_session l session some at = own_is (session_at l session) session some at
+
+pub next_session : (l : Parts) (n k : ℕ) → k ≡ n → ((s : ℕ) → s < n → IsSession l s) → IsSession l k → (s : ℕ) → s < n + 1 → IsSession l s
+next_session l n k same before here s less = ⊎_elim (λ (e : s ≡ n). subst (IsSession l) (same ∙ sym e) here) (λ (h : s < n). before s h) (session_is n s less)
 
 -- ---- the store of a step
 step_asked : (l : Parts) (s : ℕ) (own : Session) → s < 16 → session_at l s ≡ Some own → asked_of l (timed.Step s) ≡ step_asks own.client
 step_asked l s own less at = ap (λ found. asks_at_client found step_asks) (client_there l s own.client less (ap (option_map (λ (o : Session). o.client)) at))
 
-step_holds : (l : Parts) (s : ℕ) (own : Session) → s < 16 → session_at l s ≡ Some own → own.number ≡ s → HasStore l (step_asks own.client) → HasParts l (event.Step s)
+pub step_holds : (l : Parts) (s : ℕ) (own : Session) → s < 16 → session_at l s ≡ Some own → own.number ≡ s → HasStore l (step_asks own.client) → HasParts l (event.Step s)
 step_holds l s own less at is has = (subst (λ (o : Option Session). IsSomeAnd o (λ x. x.number ≡ s)) (sym at) is, subst (HasStore l) (sym (step_asked l s own less at)) has)
 
 -- the session is lent, and the store that its step asks

@@ -11,6 +11,7 @@ use Rattle.split_stores.specs.declared.made.Made.{Made}
 use Rattle.split_stores.specs.declared.made.Made.TheVariants as made
 use Rattle.split_stores.specs.declared.seat.Entry.{Entry}
 use Rattle.split_parts.specs.Acts.{Acts, timed_by}
+pub use Rattle.split_parts.specs.Plans.{planned_by}
 use Rattle.split_parts.specs.Agrees.{Agrees, HasParts}
 use Rattle.split_stores.specs.Locks.{IsInPlace}
 use Rattle.split_stores.specs.Logs.{Logged, SameLog, Adds}

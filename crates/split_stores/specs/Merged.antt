@@ -7,7 +7,7 @@ use Rattle.script_data.specs.Data.{ScriptData}
 use Rattle.command_semantics.specs.Runs.{Played, played, opening_played, step_of}
 use Rattle.cluster_core.specs.ClusterModel.{ClusterModel}
 use Rattle.split_parts.specs.declared.event.Event.{Event}
-use Rattle.split_parts.specs.Acts.{timed_at}
+pub use Rattle.split_parts.specs.Acts.{timed_at}
 use Rattle.split_stores.specs.declared.seat.Entry.{Entry}
 use Rattle.split_stores.specs.declared.settling.SettleStop.{SettleStop}
 use Rattle.split_stores.specs.declared.settling.SettleStop.TheVariants.{Missing, Torn, NoMemory}
