@@ -1,6 +1,7 @@
 #!/usr/bin/env python3
 """Measures the program `omid` beside `sort`, its strict reads and audits, its caches and its direct commits beside the others, and its
-compactions and its threads beside its replay, and prints one table of each.
+compactions and its threads beside its replay, and prints one table of each. Over split stores the last table tells what a committed
+transaction costs, on one processor and on more.
 
 usage: bench/bench.py [--program PATH] [--runs N] [--only WORD] [--quick] [--ordinary]
 
@@ -149,6 +150,17 @@ def transactions(lines, sessions, nodes=1, takeovers=0, by_master=False):
                            f"s{session} commit {asked}"]
             if chunk + 1 < chunks:
                 script.append(f"s{session} post d{chunk + 1}-{session}")
+    return behind_the_take(script)
+
+
+def going_on(lines, sessions, hot=False):
+    """Sessions side by side, each over and over: begin, read, write, commit, of a key of its own, or all of one key. A `collect` behind each
+    begin goes on with one that was told to wait, of this turn or of an earlier one: so none is left busy for the rest of its lines."""
+    script = [*HEAD]
+    for session in range(sessions):
+        key = 0 if hot else session
+        for turn in range((lines - 3) // sessions // 5):
+            script += [f"s{session} begin a", f"s{session} collect", f"s{session} read k{key}", f"s{session} write k{key} v{turn}", f"s{session} commit a"]
     return behind_the_take(script)
 
 
@@ -417,6 +429,45 @@ def over_split_stores(program, work, runs, loads):
               f"{together:9.1%} {busy / len(script):6.1%}", flush=True)
 
 
+def on_processors(count):
+    """Has the calling process run on so many of its processors alone."""
+    os.sched_setaffinity(0, sorted(os.sched_getaffinity(0))[:count])
+
+
+def committed_in(history):
+    """How many of a history's transactions are committed: their records were placed."""
+    with open(history) as it:
+        return sum(line.startswith("placed ") for line in it)
+
+
+def a_transaction(program, work, runs, loads):
+    """What a committed transaction costs over split stores, on one processor and on more, beside run and replay."""
+    print(f"{'load that goes on':28} {'lines':>7} {'on':>4} {'wall':>7} {'processor':>9} {'committed':>9} {'a commit, us':>12} {'of run':>9} {'of replay':>9} "
+          f"{'commits/s':>9} {'of 1':>6}", flush=True)
+    for name, script in loads:
+        given, history = os.path.join(work, "script"), os.path.join(work, "history")
+        with open(given, "w") as it:
+            it.write("\n".join(script) + "\n")
+        alone = None
+        for count in (1, 2, 4):
+            if count > len(os.sched_getaffinity(0)):
+                break
+            costs, each = {words: [] for words in ("run split", "run", "replay")}, {words: [] for words in ("run split", "run", "replay")}
+            placed = []
+            for _ in range(runs):
+                for words, those in costs.items():
+                    those.append(ran([program, *words.split()], given, history, lambda: on_processors(count)))
+                    made = committed_in(history)
+                    each[words].append(those[-1].wall / max(made, 1))
+                    if words == "run split":
+                        placed.append(made)
+            split, one = costs["run split"], {words: statistics.median(those) for words, those in each.items()}
+            alone = alone or one["run split"]
+            print(f"{name:28} {len(script):7} {count:4} {median(split, 'wall'):7.3f} {median(split, 'processor'):9.3f} {statistics.median(placed):9.0f} "
+                  f"{one['run split'] * 1e6:12.1f} {one['run split'] / one['run']:9.2f} {one['run split'] / one['replay']:9.2f} {1 / one['run split']:9.0f} "
+                  f"{alone / one['run split']:6.2f}", flush=True)
+
+
 @contextlib.contextmanager
 def beside(count):
     """So many processes are busy meanwhile, at ordinary priority."""
@@ -468,6 +519,12 @@ def on_threads(lines):
             ("9 takeovers, by master", transactions(lines, 16, 3, 9, True)), ("posts and awaits", posts(lines))]
 
 
+def goes_on(lines):
+    """The loads that are counted by their committed transactions."""
+    return [("1 session that goes on", going_on(lines, 1)), ("4 sessions that go on", going_on(lines, 4)), ("16 sessions that go on", going_on(lines, 16)),
+            ("4 of one hot key go on", going_on(lines, 4, hot=True)), ("16 of one hot key go on", going_on(lines, 16, hot=True))]
+
+
 def main():
     words = argparse.ArgumentParser(description=__doc__, formatter_class=argparse.RawDescriptionHelpFormatter)
     words.add_argument("--program", default=os.path.join(ROOT, "crates/omid/out/omid"))
@@ -502,6 +559,9 @@ def main():
         if picked[1]:
             threads(said.program, work, max(3, said.runs // 3), picked[1])
             over_split_stores(said.program, work, max(3, said.runs // 3), picked[1][:3])
+        going = [load for load in goes_on(lines) if said.only in load[0]]
+        if going:
+            a_transaction(said.program, work, max(3, said.runs // 3), going)
 
 
 if __name__ == "__main__":
