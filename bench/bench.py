@@ -3,7 +3,7 @@
 compactions and its threads beside its replay, and prints one table of each. Over split stores the last table tells what a committed
 transaction costs, on one processor and on more.
 
-usage: bench/bench.py [--program PATH] [--runs N] [--only WORD] [--quick] [--ordinary]
+usage: bench/bench.py [--program PATH] [--runs N] [--only WORD] [--quick] [--ordinary | --instructions]
 
 The program is crates/omid/out/omid, which stands there behind a green gate. Every figure is a median of N runs that
 take turns with the runs they are compared with, so that a loaded machine slows both. User and system time are the kernel's
@@ -12,8 +12,11 @@ own count of the child; `switches` are its voluntary context switches. Compare r
 With `--ordinary` one other table is printed in place of these: replays and runs of the loads on threads at ordinary priority, whatever
 that of this script, at rest and beside four processes that never wait, which are started and ended here. It has an eighth of the lines,
 since a run beside others may take many times as long.
+
+With `--instructions` one table of instructions an item is printed in their place, counted by valgrind's callgrind over an eighth of the
+lines. It is the same on a busy machine, and from one run to the next but for some thousands in all.
 """
-import argparse, contextlib, os, random, re, statistics, subprocess, sys, tempfile, time
+import argparse, contextlib, os, random, re, shutil, statistics, subprocess, sys, tempfile, time
 from dataclasses import dataclass
 
 ROOT = os.path.dirname(os.path.dirname(os.path.abspath(__file__)))
@@ -70,6 +73,17 @@ def ran(words, given, taken, first=None):
     if child.returncode not in (0, 7):
         sys.exit(f"bench: {words} ended with {child.returncode}")
     return Cost(wall, used.ru_utime, used.ru_stime, used.ru_nvcsw)
+
+
+def instructions(words, given, taken):
+    """How many instructions the words take, with standard input from a file and standard output to one."""
+    with open(given, "rb") as source, open(taken, "wb") as sink:
+        said = subprocess.run(["valgrind", "--tool=callgrind", "--callgrind-out-file=/dev/null", *words], stdin=source, stdout=sink,
+                              stderr=subprocess.PIPE, text=True)
+    found = re.search(r"Collected : (\d+)", said.stderr)
+    if said.returncode not in (0, 7) or not found:
+        sys.exit(f"bench: {words} under valgrind ended with {said.returncode}\n{said.stderr}")
+    return int(found[1])
 
 
 def median(costs, field="user"):
@@ -218,6 +232,21 @@ def beside_sort(program, work, runs, loads):
         back = f"{at['json audit']:10.3f} {at['json audit'] / at['audit']:8.2f}" if "json audit" in at else f"{'too long':>10}"
         print(f"{name:28} {items:9} {at['replay']:8.3f} {at['replay'] / at['sort']:8.2f} {at['audit']:8.3f} {at['audit'] / at['sort']:8.2f} "
               f"{at['json']:8.3f} {at['json'] / at['replay']:8.2f} {back}", flush=True)
+
+
+def counted(program, work, loads):
+    """Instructions an item: of replays, of audits of what they print, and of the same in JSON."""
+    print(f"{'instructions an item':28} {'items':>9} {'replay':>8} {'summary':>8} {'json':>8} {'audit':>8} {'json audit':>10}")
+    for name, script in loads:
+        given, text, json, other = (os.path.join(work, it) for it in ("script", "text", "json", "other"))
+        with open(given, "w") as it:
+            it.write("\n".join(script) + "\n")
+        took = [instructions([program, *words], source, taken)
+                for words, source, taken in ((["replay"], given, text), (["replay", "summary"], given, other), (["replay", "json"], given, json),
+                                             (["audit"], text, other), (["audit"], json, other))]
+        with open(text, "rb") as it:
+            items = sum(1 for _ in it)
+        print(f"{name:28} {items:9} " + " ".join(f"{it / items:{wide}.0f}" for it, wide in zip(took, (8, 8, 8, 8, 10))), flush=True)
 
 
 def compactions(program, work, runs, loads):
@@ -532,10 +561,13 @@ def main():
     words.add_argument("--only", default="", help="loads whose name has this word")
     words.add_argument("--quick", action="store_true", help="an eighth of the lines, for a look")
     words.add_argument("--ordinary", action="store_true", help="replays and runs at ordinary priority alone, at rest and beside busy processes")
+    words.add_argument("--instructions", action="store_true", help="instructions an item alone, counted by callgrind")
     said = words.parse_args()
     if not os.access(said.program, os.X_OK):
         sys.exit(f"bench: {said.program} is not there: run `rt ci` first, or name one by --program")
-    lines = LINES // 8 if said.quick else LINES
+    if said.instructions and not shutil.which("valgrind"):
+        sys.exit("bench: valgrind is not installed here, and counts the instructions")
+    lines = LINES // 8 if said.quick or said.instructions else LINES
     files = [("whole lines", whole_lines(lines)), ("hot key", hot_key(lines)), ("single steps", single_steps(lines)),
              ("16 sessions at random", at_random(lines)), ("at random, by master", at_random_by_master(lines))]
     runs = on_threads(lines)
@@ -543,6 +575,9 @@ def main():
     with tempfile.TemporaryDirectory(prefix="omid-bench-") as work:
         if said.ordinary:
             ordinary(said.program, work, max(3, said.runs // 3), [load for load in on_threads(lines // 8) if said.only in load[0]])
+            return
+        if said.instructions:
+            counted(said.program, work, picked[0])
             return
         if picked[0]:
             beside_sort(said.program, work, said.runs, picked[0])
