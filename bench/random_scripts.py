@@ -1,7 +1,8 @@
 #!/usr/bin/env python3
 """Makes scripts at random, has `omid run` or `omid run split` carry each out over and over, and audits every history.
 
-usage: bench/random_scripts.py [--program PATH] [--words "run split"] [--scripts N] [--runs N] [--seed N] [--pinned] [--show] [FILE ..]
+usage: bench/random_scripts.py [--program PATH] [--words "run split"] [--scripts N] [--runs N] [--seed N] [--pinned] [--show]
+                               [FILE ..]
 
 No script waits for ever by itself: an actor awaits what stands further up, and while a node holds a stage it waits for nobody who
 needs that stage. So a run that has not ended after twenty seconds is stuck. A run is wrong, too, where it ends with another status
@@ -9,8 +10,8 @@ than 0, where the audit of its history (a strict one behind `reads strict`) ends
 many ticks and notes as the script has lines of these, or where a store has more faults than are planned for it. The first such
 script is kept under the name that is printed, and the status is 1.
 
-With FILE .. these scripts are run in place of random ones. `--pinned` has a run take a single processor, `--show` prints the scripts
-and runs none. The same seed makes the same scripts."""
+With FILE .. these scripts are run in place of random ones. `--pinned` has a run take a single processor, `--show` prints the
+scripts and runs none. The same seed makes the same scripts."""
 import argparse
 import os
 import random
