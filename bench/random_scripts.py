@@ -1,15 +1,17 @@
 #!/usr/bin/env python3
 """Makes scripts at random, has `omid run` or `omid run split` carry each out over and over, and audits every history.
 
-usage: bench/random_scripts.py [--program PATH] [--words "run split"] [--scripts N] [--runs N] [--seed N] [--pinned] [--show] [FILE ..]
+usage: bench/random_scripts.py [--program PATH] [--words "run split"] [--scripts N] [--runs N] [--seed N] [--pinned] [--show]
+                               [FILE ..]
 
-No script waits for ever by itself: an actor awaits what stands further up, and while a node holds a stage it waits for nobody who needs
-that stage. So a run that has not ended after twenty seconds is stuck. A run is wrong, too, where it ends with another status than 0,
-where the audit of its history (a strict one behind `reads strict`) ends with another than 0, or where the history has not as many ticks
-and notes as the script has lines of these. The first such script is kept under the name that is printed, and the status is 1.
+No script waits for ever by itself: an actor awaits what stands further up, and while a node holds a stage it waits for nobody who
+needs that stage. So a run that has not ended after twenty seconds is stuck. A run is wrong, too, where it ends with another status
+than 0, where the audit of its history (a strict one behind `reads strict`) ends with another than 0, where the history has not as
+many ticks and notes as the script has lines of these, or where a store has more faults than are planned for it. The first such
+script is kept under the name that is printed, and the status is 1.
 
-With FILE .. these scripts are run in place of random ones. `--pinned` has a run take a single processor, `--show` prints the scripts and
-runs none. The same seed makes the same scripts."""
+With FILE .. these scripts are run in place of random ones. `--pinned` has a run take a single processor, `--show` prints the
+scripts and runs none. The same seed makes the same scripts."""
 import argparse
 import os
 import random
@@ -88,8 +90,7 @@ class Maker:
                 if lines[-1] == "skew 5":
                     lines.append(f"lead {self.node()} {draw.randrange(6)}")
         if not self.split:
-            lines += [line for line, chance in ((f"cache {draw.choice((1, 8))}", 0.3), ("commits direct", 0.3), ("reads strict", 0.3))
-                      if self.likely(chance)]
+            lines += [line for line in (f"cache {draw.choice((1, 8))}", "commits direct", "reads strict") if self.likely(0.3)]
         if self.likely(0.4):
             planned = {(draw.choice(STORES), draw.randrange(1, 40)) for _ in range(draw.randrange(1, 6))}
             lines += [f"fault {store} {call} {draw.choice(('unchanged', 'applied'))}" for store, call in sorted(planned)]
@@ -200,6 +201,11 @@ class Maker:
         return "".join(line + "\n" for line in self.lines)
 
 
+def faults(lines, place):
+    """How many faults each store has, which is the word at this place of a line."""
+    return [sum(line.startswith("fault ") and line.split()[place] == store for line in lines) for store in STORES]
+
+
 def told(script):
     """How many ticks and notes a whole run of the script tells of."""
     words = [line.split() for line in script.split("\n") if line]
@@ -226,6 +232,9 @@ def judged(program, words, script, pinned):
     seen = tuple(sum(line.startswith(word + " ") for line in lines) for word in ("tick", "note"))
     if seen != told(script):
         raise Wrong(f"{seen} ticks and notes in place of {told(script)}")
+    planned = faults(script.split("\n"), 1)
+    if any(more > most for more, most in zip(faults(lines, 2), planned)):
+        raise Wrong(f"{faults(lines, 2)} faults in place of {planned}")
     strictly = ["strict"] if re.search(r"(?m)^reads strict$", script) else []
     audit = subprocess.run([program, "audit", *strictly], input=ran.stdout, capture_output=True)
     if audit.returncode != 0:
