@@ -1,6 +1,5 @@
-//! plain_check snapshot|serializable: judges a trace by the algorithm of omid_check, as a plain program of std alone. It is here to be
-//! timed beside omid_check, and says no more than its verdict: no anomaly, no cycle. Nothing of it is proved.
-//! rustc -O bench/plain_check.rs
+//! plain_check snapshot|serializable: judges a trace by the algorithm of omid_check, as a plain program of std alone. It is here to
+//! be timed beside omid_check (bench/time_traces.py), and says no more than its verdict: no anomaly, no cycle. It is not proved.
 
 use std::collections::HashMap;
 use std::io::Read;
