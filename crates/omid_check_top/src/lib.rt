@@ -7,6 +7,9 @@ mod judged;
 mod levels;
 mod limit;
 mod made;
+#[cfg(test)]
+mod stamp_tests;
+mod stamps;
 mod status;
 mod steps;
 #[cfg(test)]

@@ -1,5 +1,5 @@
 -- Why verdicts are right.
-use Rattle.std.proofs.Common.{◌≡◌, ◌≢◌, ℕ, ◌<◌, ◌≤◌, ◌&&◌, Bool, true, List, [], ◌∷◌, Option, None, Some, length, slice_get, refl, subst, ap, ◌∙◌, arith}
+use Rattle.std.proofs.Common.{◌≡◌, ◌≢◌, ℕ, ◌<◌, ◌≤◌, ◌&&◌, Bool, true, List, [], ◌∷◌, Option, None, Some, length, slice_get, refl, sym, subst, ap, ◌∙◌, arith}
 use Rattle.std.specs.Option.{IfSome}
 use Rattle.std.specs.List.{Contains}
 use Rattle.std.specs.List.Sorted.{IsPermutation}
@@ -12,7 +12,7 @@ use Rattle.trace_rules.specs.declared.wanted.Times.{Times}
 use Rattle.trace_rules.specs.declared.wanted.Wanted.{Wanted}
 use Rattle.trace_rules.specs.declared.wanted.Wanted.TheVariants.{Nothing, Sessions, RealTime}
 use Rattle.trace_rules.specs.Trace.{Trace, Writer}
-use Rattle.trace_rules.specs.Stamping.{Asked, Point, Stampable}
+use Rattle.trace_rules.specs.Stamping.{Asked, IsolatedBy, Keeps, Point, Stampable}
 use Rattle.trace_rules.specs.Wants.{Moments, asked_of, in_time, moments_of, of_done}
 use Rattle.trace_rules.proofs.Forced.{wrong_outer, wrong_own}
 use Rattle.rising_numbers.specs.declared.Edge.{Edge}
@@ -21,14 +21,22 @@ use Rattle.outer_reads.specs.declared.writings.Writing.{Writing}
 use Rattle.outer_reads.specs.declared.readings.Reading.{Reading}
 use Rattle.outer_reads.specs.Sources.{AreKnown, IsWrong, NotOwn, NoVersion, trace_of}
 use Rattle.trace_edges.specs.Edges.{starts_of}
+use Rattle.asked_orders.specs.Keeps.{stamping_of}
 use Rattle.asked_orders.specs.Joins.{AreJoined, Joins, moments_for, no_moments, place_of}
 use Rattle.asked_orders.proofs.JoinLemmas.{joins_round, joins_then, points_join}
 use Rattle.version_orders.specs.Orders.{AreSure, RiseAlong, stamp_at}
-use Rattle.trace_judge.specs.Verdicts.{IsShared, IsTried, NoStamps, Refuses}
+use Rattle.trace_judge.specs.Verdicts.{AreStamps, IsShared, IsTried, NoStamps, Refuses}
 
 pub wrong_refuses : (level : Level) (asked : Asked) (trace : Trace) (place : ℕ) → IsWrong trace place → NoStamps level asked trace
 wrong_refuses level asked trace place (NotOwn t k own answer read other) = wrong_own level asked trace place t k own answer read other
 wrong_refuses level asked trace place (NoVersion t k found read none) = wrong_outer level asked trace t k found (record { place = place; read = read }) none
+
+-- the numbers make stamps at the level that the trace is judged by
+pub stamps_at : (level other : Level) (asked : Asked) (trace : Trace) (numbers : List ℕ) → level ≡ other → IsolatedBy other (stamping_of other (length trace.transactions) numbers) trace → Keeps asked (stamping_of level (length trace.transactions) numbers) → AreStamps level asked trace numbers
+stamps_at level other asked trace numbers same isolated keeps = record {
+  isolated = subst (λ (l : Level). IsolatedBy l (stamping_of l (length trace.transactions) numbers) trace) (sym same) isolated;
+  keeps = keeps;
+}
 
 -- what is surely so by the moments that count is asked for
 no_time : (x y : Point) → in_time no_moments x y ≡ true → ⊥

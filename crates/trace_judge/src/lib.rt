@@ -4,13 +4,12 @@
 ghost use Rattle.std.specs.Prelude.{◌≡◌, ◌≤◌, true, List, IfOk, IfSome, length, slice_get};
 ghost use Rattle.std.specs.List.Sorted.{IsPermutation};
 ghost use Rattle.trace_rules.specs.declared.trace.Operation.{Operation};
-ghost use Rattle.trace_rules.specs.Stamping.{Stampable};
 ghost use Rattle.trace_rules.specs.Wants.{asked_of, no_wants};
 ghost use Rattle.outer_reads.specs.Sources.{AreKnown, trace_of};
 ghost use Rattle.trace_edges.specs.Edges as edges_of;
 ghost use Rattle.rising_numbers.specs.Rises.{AreWithin};
 ghost use Rattle.version_orders.specs.Orders.{AreSure};
-ghost use Rattle.trace_judge.specs.Verdicts.{IsShared, IsVerdict, NoStamps, Refuses};
+ghost use Rattle.trace_judge.specs.Verdicts.{AreStamps, IsShared, IsVerdict, NoStamps, Refuses};
 
 mod hints;
 
@@ -339,7 +338,7 @@ fn are_right(
 ) -> bool
     requires { nodes.starts ≡ edges_of.starts_of level (length transactions.now) }
     ensures { result ≡ true → (operations : List Operation) → AreKnown (trace_of transactions.now operations) readings.now order.now →
-        Stampable level (asked_of wanted level times.now (trace_of transactions.now operations)) (trace_of transactions.now operations) }
+        AreStamps level (asked_of wanted level times.now (trace_of transactions.now operations)) (trace_of transactions.now operations) numbers.now }
 {
     if !keep_asked(wanted, level, transactions, times, plan, nodes, numbers) {
         return false;
