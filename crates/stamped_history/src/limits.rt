@@ -4,7 +4,7 @@ use std::alloc::{AllocError, AllocFailed};
 /// What a history has no more of, or none of.
 #[derive(Clone, Copy, Debug, PartialEq, Eq)]
 pub enum Limit {
-    /// More than sixteen transactions are open at once.
+    /// A session is none of the sixteen.
     Sessions,
     /// More than 4,096 keys are read or written.
     Keys,

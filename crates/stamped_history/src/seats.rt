@@ -1,21 +1,19 @@
 // A session for each transaction.
-ghost use Rattle.std.specs.Prelude.{◌<◌, IfSome};
+ghost use Rattle.std.specs.Prelude.{◌<◌};
 
-use crate::limits::{Limit, NoHistory};
-use std::alloc::Global;
+use std::alloc::{AllocError, Global};
 
 /// How many sessions a history has.
 const SESSIONS: usize = 16;
 
-/// For each transaction a session that no other has between its start and its commit, where there are enough of them.
-pub fn seats_of(alloc: Global, count: usize, nodes: &[usize]) -> Result<Vec<usize>, NoHistory> {
+/// For each transaction a session that no other has between its start and its commit, as long as there is one. What a history means
+/// does not rest on it: each start is asked for just before its begin.
+pub fn seats_of(alloc: Global, count: usize, nodes: &[usize]) -> Result<Vec<usize>, AllocError> {
     let mut seats = vec![in alloc; 0; count]?;
     let mut taken = [false; SESSIONS];
     for node in nodes {
         if *node < count {
-            let Some(seat) = free_seat(&taken) else {
-                return Err(NoHistory::Past(Limit::Sessions));
-            };
+            let seat = free_seat(&taken, *node);
             taken[seat] = true;
             seats[*node] = seat;
         } else {
@@ -25,15 +23,16 @@ pub fn seats_of(alloc: Global, count: usize, nodes: &[usize]) -> Result<Vec<usiz
     Ok(seats)
 }
 
-fn free_seat(taken: &[bool; SESSIONS]) -> Option<usize>
-    ensures { IfSome result (λ seat. seat < SESSIONS) }
+/// A seat that is not taken, or where all are, any one.
+fn free_seat(taken: &[bool; SESSIONS], node: usize) -> usize
+    ensures { result < SESSIONS }
 {
     for seat in 0..SESSIONS {
         if !taken[seat] {
-            return Some(seat);
+            return seat;
         }
     }
-    None
+    node % SESSIONS
 }
 
 /// Frees the transaction's seat.
