@@ -168,13 +168,21 @@ def transactions(lines, sessions, nodes=1, takeovers=0, by_master=False):
 
 
 def going_on(lines, sessions, hot=False):
-    """Sessions side by side, each over and over: begin, read, write, commit, of a key of its own, or all of one key. A `collect` behind each
-    begin goes on with one that was told to wait, of this turn or of an earlier one: so none is left busy for the rest of its lines."""
+    """Sessions side by side, each over and over: begin, read, write, commit, of a key of its own, or all of one key. Behind its begin each waits
+    for its neighbour's commit of the turn before, so that none runs ahead of one that others wait for, and a `collect` goes on with a begin that
+    was told to wait: so none is left busy for the rest of its lines."""
     script = [*HEAD]
-    for session in range(sessions):
-        key = 0 if hot else session
-        for turn in range((lines - 3) // sessions // 5):
-            script += [f"s{session} begin a", f"s{session} collect", f"s{session} read k{key}", f"s{session} write k{key} v{turn}", f"s{session} commit a"]
+    alone = sessions == 1
+    turns = (lines - 3) // sessions // (5 if alone else 7)
+    for turn in range(turns):
+        for session in range(sessions):
+            key = 0 if hot else session
+            script.append(f"s{session} begin a")
+            if turn and not alone:
+                script.append(f"s{session} await t{turn - 1}-{(session + 1) % sessions}")
+            script += [f"s{session} collect", f"s{session} read k{key}", f"s{session} write k{key} v{turn}", f"s{session} commit a"]
+            if not alone:
+                script.append(f"s{session} post t{turn}-{session}")
     return behind_the_take(script)
 
 

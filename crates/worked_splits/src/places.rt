@@ -1,7 +1,7 @@
 // Events lock the parts of their own session and node, and what is looked at is theirs.
 use crate::reading::read;
 use cluster_core::Cluster;
-use history_book::Item;
+use history_book::{Actor, Item, StoreStep};
 use split_driver::{SplitStop, run_split};
 use split_stores::OpenPartGate;
 use std::test::Fail;
@@ -20,6 +20,8 @@ s3 post p2
 s5 await p2
 s5 begin b
 s5 read k0
+s5 write k1 w
+s5 abort
 ";
 
 fn is_take(item: &Item) -> bool {
@@ -33,12 +35,22 @@ fn is_read(item: &Item) -> bool {
     }
 }
 
-/// The node took its record at the reading of its own clock, and the last line has read.
+fn is_erased(item: &Item) -> bool {
+    match item {
+        Item::Step {
+            actor: Actor::Session(session),
+            what: StoreStep::Erase { .. },
+        } => session.value() == 5,
+        _ => false,
+    }
+}
+
+/// The node took its record at the reading of its own clock, the other session has read, and what it wrote is erased.
 fn is_whole(split: &Result<Cluster, SplitStop>) -> bool {
     match split {
         Ok(cluster) => {
             let items = cluster.history();
-            items.iter().any(is_take) && items.iter().any(is_read)
+            items.iter().any(is_take) && items.iter().any(is_read) && items.iter().any(is_erased)
         }
         Err(_) => false,
     }
