@@ -10,7 +10,8 @@ ghost use Rattle.outer_reads.specs.Sources.{AreKnown, trace_of};
 ghost use Rattle.trace_edges.specs.Edges as edges_of;
 ghost use Rattle.rising_numbers.specs.Rises.{AreWithin};
 ghost use Rattle.version_orders.specs.Orders.{AreSure};
-ghost use Rattle.trace_judge.specs.Verdicts.{IsShared, IsVerdict, NoStamps, Refuses};
+ghost use Rattle.asked_orders.specs.Joins.{Task, task_of};
+ghost use Rattle.trace_judge.specs.Verdicts.{IsShared, IsVerdict, Refuses};
 
 mod hints;
 
@@ -102,28 +103,22 @@ fn judge_known(
     sort_by(order, &[]);
     let mut edges = sure_edges(
         alloc,
+        level,
+        wanted,
         transactions,
+        times,
+        &plan,
         readings,
         order,
-        nodes.starts,
-        nodes.points,
+        nodes,
     )?;
-    let mut laid = Laid::new(alloc);
-    for round in 0..ROUNDS {
-        if let Some(cycle) = sort_round(
-            alloc,
-            transactions,
-            readings,
-            order,
-            &mut edges,
-            &mut laid,
-            nodes.starts,
-            nodes.points,
-        )? {
+    let mut laid = Laid::new(alloc, ROUNDS);
+    for round in 0..=ROUNDS {
+        if let Some(cycle) = sort_round(alloc, readings, order, &mut edges, &mut laid, nodes)? {
             return Ok(Verdict::Refused(cycle));
         }
     }
-    judge_asked(
+    try_order(
         alloc,
         level,
         wanted,
@@ -137,131 +132,55 @@ fn judge_known(
     )
 }
 
-/// Judges a trace of which edges are sure, with those of the order that is asked for behind them.
-fn judge_asked(
-    alloc: Global,
-    level: Level,
-    wanted: Wanted,
-    transactions: &[Transaction],
-    times: &[Times],
-    plan: &Plan,
-    readings: &[Reading],
-    order: &mut Vec<Writing>,
-    edges: &mut Vec<Edge>,
-    nodes: Nodes,
-) -> Result<Verdict, AllocError>
-    requires starts { nodes.starts ≡ edges_of.starts_of level (length transactions.now) }
-    requires points { nodes.points ≤ nodes.all }
-    requires sure { AreSure transactions.now readings.now order.old.items nodes.starts nodes.points edges.old.items }
-    ensures { IfOk result (λ verdict. (operations : List Operation) → AreKnown (trace_of transactions.now operations) readings.now order.old.items →
-        IsVerdict level (asked_of wanted level times.now (trace_of transactions.now operations)) (trace_of transactions.now operations) verdict) }
-{
-    if let Some(cycle) = sort_asked(
-        alloc,
-        level,
-        wanted,
-        transactions,
-        times,
-        plan,
-        readings,
-        order,
-        edges,
-        nodes,
-    )? {
-        return Ok(Verdict::Refused(cycle));
-    }
-    try_order(
-        alloc,
-        level,
-        wanted,
-        transactions,
-        times,
-        plan,
-        readings,
-        order,
-        edges,
-        nodes,
-    )
-}
-
-/// Lays the edges of the order that is asked for, and sorts the versions by the numbers that all of them allow, or finds a cycle.
-fn sort_asked(
-    alloc: Global,
-    level: Level,
-    wanted: Wanted,
-    transactions: &[Transaction],
-    times: &[Times],
-    plan: &Plan,
-    readings: &[Reading],
-    order: &mut Vec<Writing>,
-    edges: &mut Vec<Edge>,
-    nodes: Nodes,
-) -> Result<Option<Vec<Edge>>, AllocError>
-    requires starts { nodes.starts ≡ edges_of.starts_of level (length transactions.now) }
-    requires points { nodes.points ≤ nodes.all }
-    requires sure { AreSure transactions.now readings.now order.old.items nodes.starts nodes.points edges.old.items }
-    ensures permutation { IfOk result (λ cycle. IsPermutation order.old.items order.new.items) }
-    ensures within { IfOk result (λ cycle. AreWithin nodes.all edges.new.items) }
-    ensures refused { IfOk result (λ cycle. IfSome cycle (λ found. (operations : List Operation) → AreKnown (trace_of transactions.now operations) readings.now order.old.items →
-        NoStamps level (asked_of wanted level times.now (trace_of transactions.now operations)) (trace_of transactions.now operations))) }
-{
-    lay_asked(edges, wanted, level, transactions, times, plan, nodes)?;
-    match numbered(alloc, nodes.all, edges)? {
-        Order::Cycle(places) => {
-            let cycle = edges_at(alloc, edges, &places)?;
-            Ok(Some(cycle))
-        }
-        Order::Rising(numbers) => {
-            sort_by(order, &numbers);
-            Ok(None)
-        }
-    }
-}
-
-/// The edges that hold in all stamps, before any order of versions is known.
+/// The edges that hold in all stamps that keep what is asked for, before any order of versions is known.
 fn sure_edges(
     alloc: Global,
+    level: Level,
+    wanted: Wanted,
     transactions: &[Transaction],
+    times: &[Times],
+    plan: &Plan,
     readings: &[Reading],
     order: &[Writing],
-    starts: usize,
-    nodes: usize,
+    nodes: Nodes,
 ) -> Result<Vec<Edge>, AllocError>
-    ensures { IfOk result (λ edges. AreSure transactions.now readings.now order.now starts nodes edges.items) }
+    requires room { nodes.points ≤ nodes.all }
+    requires starts { nodes.starts ≡ edges_of.starts_of level (length transactions.now) }
+    ensures { IfOk result (λ edges. AreSure (task_of level wanted transactions.now times.now plan.now.moments.items) readings.now order.now nodes edges.items) }
 {
     let hints = hints_of(alloc, readings, order)?;
-    forced_edges(
+    let mut edges = forced_edges(
         alloc,
         transactions,
         readings,
         order,
         &hints.heirs,
-        starts,
-        nodes,
-    )
+        nodes.starts,
+        nodes.points,
+    )?;
+    lay_asked(&mut edges, wanted, level, transactions, times, plan, nodes)?;
+    Ok(edges)
 }
 
 /// Sorts the versions by the numbers that the edges allow, and adds the edges that follow; or finds a cycle of edges, all of which
-/// hold in all stamps. Where no edge was added since the last time, nothing is done.
+/// are sure. Where no edge was added since the last time, nothing is done.
 fn sort_round(
     alloc: Global,
-    transactions: &[Transaction],
     readings: &[Reading],
     order: &mut Vec<Writing>,
     edges: &mut Vec<Edge>,
     laid: &mut Laid,
-    starts: usize,
-    nodes: usize,
+    nodes: Nodes,
 ) -> Result<Option<Vec<Edge>>, AllocError>
-    requires { AreSure transactions.now readings.now order.old.items starts nodes edges.old.items }
+    requires { AreWithin nodes.all edges.old.items }
     ensures permutation { IfOk result (λ cycle. IsPermutation order.old.items order.new.items) }
-    ensures sure { IfOk result (λ cycle. AreSure transactions.now readings.now order.new.items starts nodes edges.new.items) }
-    ensures refused { IfOk result (λ cycle. IfSome cycle (λ found. Refuses transactions.now readings.now order.old.items starts)) }
+    ensures sure { IfOk result (λ cycle. (task : Task) → AreSure task readings.now order.old.items nodes edges.old.items → AreSure task readings.now order.new.items nodes edges.new.items) }
+    ensures refused { IfOk result (λ cycle. IfSome cycle (λ found. (task : Task) → AreSure task readings.now order.old.items nodes edges.old.items → Refuses task readings.now order.old.items nodes)) }
 {
     if !laid.take_news() {
         return Ok(None);
     }
-    match numbered(alloc, nodes, edges)? {
+    match numbered(alloc, nodes.all, edges)? {
         Order::Cycle(places) => {
             let cycle = edges_at(alloc, edges, &places)?;
             Ok(Some(cycle))
@@ -270,7 +189,7 @@ fn sort_round(
             sort_by(order, &numbers);
             let places = places_of(alloc, readings, order)?;
             add_orders(
-                alloc, readings, &places, order, &numbers, edges, laid, starts, nodes,
+                alloc, readings, &places, order, &numbers, edges, laid, nodes,
             )?;
             Ok(None)
         }
