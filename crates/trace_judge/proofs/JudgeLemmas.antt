@@ -1,5 +1,5 @@
 -- Why verdicts are right.
-use Rattle.std.proofs.Common.{◌≡◌, ℕ, List, Option, None, Some, slice_get, subst, ap, ◌∙◌}
+use Rattle.std.proofs.Common.{◌≡◌, ℕ, zero, suc, ◌≤◌, ◌⊎◌, ◌||◌, Bool, true, false, List, [], ◌∷◌, ◌++◌, Option, None, Some, length, slice_get, inl, inr, refl, subst, ap, ◌∙◌}
 use Rattle.std.specs.Option.{IfSome}
 use Rattle.std.specs.List.{Contains}
 use Rattle.std.specs.List.Sorted.{IsPermutation}
@@ -7,19 +7,28 @@ use Rattle.std.proofs.lemmas.List.Sorted.{Contains-permutation, IsPermutation-sy
 use Rattle.std.proofs.lemmas.Option.{slice_get_within, slice_get-get_or, get_or_from_slice_get}
 use Rattle.trace_rules.specs.declared.trace.Operation.{Operation}
 use Rattle.trace_rules.specs.declared.wanted.Level.{Level}
+use Rattle.trace_rules.specs.declared.wanted.Times.{Times}
+use Rattle.trace_rules.specs.declared.wanted.Wanted.{Wanted}
 use Rattle.trace_rules.specs.Trace.{Trace, Writer}
-use Rattle.trace_rules.specs.Stamping.{Asked}
+use Rattle.trace_rules.specs.Stamping.{Asked, Keeps, Point, Start, Commit, Stamping}
+use Rattle.trace_rules.specs.Wants.{asked_of}
 use Rattle.trace_rules.proofs.Forced.{wrong_outer, wrong_own}
 use Rattle.rising_numbers.specs.declared.Edge.{Edge}
-use Rattle.rising_numbers.specs.Rises.{IsCycle}
+use Rattle.rising_numbers.specs.Rises.{AreWithin, IsCycle}
 use Rattle.outer_reads.specs.declared.writings.Writing.{Writing}
 use Rattle.outer_reads.specs.declared.readings.Reading.{Reading}
 use Rattle.outer_reads.specs.Sources.{AreKnown, IsWrong, NotOwn, NoVersion, trace_of}
+use Rattle.trace_edges.specs.Edges.{starts_of}
 use Rattle.asked_orders.specs.declared.edges.Nodes.{Nodes}
-use Rattle.asked_orders.specs.Joins.{Task}
-use Rattle.version_orders.specs.Orders.{AreSure}
-use Rattle.version_orders.proofs.OrderLemmas.{round_refuses}
-use Rattle.trace_judge.specs.Verdicts.{IsShared, IsTried, NoStamps, Refuses}
+use Rattle.asked_orders.specs.Joins.{AreJoined, moments_for}
+use Rattle.asked_orders.specs.Laid.{StillJoined}
+use Rattle.version_ranks.specs.declared.rank.Rank.{Rank}
+use Rattle.version_ranks.specs.Ranks.{asked_with, by_rank}
+use Rattle.version_orders.specs.Orders.{AreSure, Task, asked_by}
+use Rattle.version_orders.proofs.OrderLemmas.{covers_with, joined_still, round_refuses}
+use Rattle.trace_judge.specs.declared.Verdict.{Verdict}
+use Rattle.trace_judge.specs.declared.Verdict.TheVariants.{Holds, WrongRead, Refused, Undecided}
+use Rattle.trace_judge.specs.Verdicts.{IsShared, IsTried, IsVerdict, NoStamps, Refuses}
 
 pub wrong_refuses : (level : Level) (asked : Asked) (trace : Trace) (place : ℕ) → IsWrong trace place → NoStamps level asked trace
 wrong_refuses level asked trace place (NotOwn t k own answer read other) = wrong_own level asked trace place t k own answer read other
@@ -28,7 +37,7 @@ wrong_refuses level asked trace place (NoVersion t k found read none) = wrong_ou
 pub cycle_refuses : (task : Task) (readings : List Reading) (order : List Writing) (nodes : Nodes) (edges : List Edge) (places : List ℕ) →
     AreSure task readings order nodes edges → IsCycle edges places → Refuses task readings order nodes
 cycle_refuses task readings order nodes edges places sure cycle operations count known =
-    round_refuses task.level task.wanted task.times (trace_of task.transactions operations) nodes.starts nodes.points task.chain edges (sure.joined operations count known) places cycle
+    round_refuses task.level task.wanted task.times task.ranks (trace_of task.transactions operations) nodes.starts nodes.points task.chain edges (sure.joined operations count known) places cycle
 
 -- ---- an order of the versions is as good as another
 there : (xs : List Writing) (i : ℕ) (w : Writing) → slice_get xs i ≡ Some w → Contains xs w
@@ -69,3 +78,64 @@ shared_tried trace readings order key known shared = record {
   one = subst (λ (k : ℕ). Writer trace shared.a.txn k shared.a.value) shared.key_a (known.wrote.wrote shared.i shared.a shared.at_a);
   two = subst (λ (k : ℕ). Writer trace shared.b.txn k shared.b.value) shared.key_b (known.wrote.wrote shared.j shared.b shared.at_b);
 }
+
+-- ---- the edges before any order of versions is known
+edge_cases : (xs ys : List Edge) (i : ℕ) (e : Edge) → slice_get (xs ++ ys) i ≡ Some e → (slice_get xs i ≡ Some e) ⊎ ((j : ℕ) × (slice_get ys j ≡ Some e))
+edge_cases [] ys i e at = inr (i, at)
+edge_cases (x ∷ xs) ys zero e at = inl at
+edge_cases (x ∷ xs) ys (suc i) e at = edge_cases xs ys i e at
+
+-- with edges that join behind those that are sure
+pub sure_with : (task : Task) (readings : List Reading) (order : List Writing) (nodes : Nodes) (edges more : List Edge) → AreSure task readings order nodes edges → AreWithin nodes.all more →
+    ((operations : List Operation) → nodes.starts ≡ starts_of task.level (length task.transactions) → AreJoined task.level (asked_of task.wanted task.level task.times (trace_of task.transactions operations)) (moments_for task.wanted task.level task.times) (trace_of task.transactions operations) nodes.starts nodes.points task.chain more) →
+    AreSure task readings order nodes (edges ++ more)
+sure_with task readings order nodes edges more sure within joined = record {
+  room = sure.room;
+  within = record {
+    from = λ place e at. elim (edge_cases edges more place e at) [ inl first ↦ sure.within.from place e first | inr last ↦ within.from last.0 e last.1 ];
+    to = λ place e at. elim (edge_cases edges more place e at) [ inl first ↦ sure.within.to place e first | inr last ↦ within.to last.0 e last.1 ];
+  };
+  joined = λ operations count known place e at. elim (edge_cases edges more place e at) [
+    | inl first ↦ sure.joined operations count known place e first
+    | inr last ↦ joined_still task.level (asked_of task.wanted task.level task.times (trace_of task.transactions operations)) (asked_by task operations) (moments_for task.wanted task.level task.times) (trace_of task.transactions operations)
+        (covers_with task.wanted task.level task.times task.ranks (trace_of task.transactions operations)) nodes.starts nodes.points task.chain more (joined operations count) last.0 e last.1
+  ];
+}
+
+-- and with those that are laid behind them
+pub sure_laid : (task : Task) (readings : List Reading) (order : List Writing) (nodes : Nodes) (old new : List Edge) → AreSure task readings order nodes old → (nodes.points ≤ nodes.all → AreWithin nodes.all old → AreWithin nodes.all new) →
+    StillJoined task.level (asked_with task.wanted task.level task.times task.ranks) (moments_for task.wanted task.level task.times) task.transactions nodes.starts nodes.points task.chain old new → AreSure task readings order nodes new
+sure_laid task readings order nodes old new sure within joined = record {
+  room = sure.room;
+  within = within sure.room sure.within;
+  joined = λ operations count known. joined operations count (sure.joined operations count known);
+}
+
+-- ---- what is kept
+either_parts : (a b : Bool) → a || b ≡ true → (a ≡ true) ⊎ (b ≡ true)
+either_parts true b e = inl refl
+either_parts false b e = inr e
+
+pub keeps_with : (wanted : Wanted) (level : Level) (times : List Times) (ranks : List Rank) (trace : Trace) (st : Stamping) → Keeps (by_rank ranks) st → Keeps (asked_of wanted level times trace) st → Keeps (asked_with wanted level times ranks trace) st
+keeps_with wanted level times ranks trace st one other x y e = elim (either_parts (by_rank ranks x y) (asked_of wanted level times trace x y) e) [ inl first ↦ one x y first | inr last ↦ other x y last ]
+
+-- where no order of versions is told, nothing more is asked for
+none_told : (x y : Point) → by_rank [] x y ≡ false
+none_told (Commit t) (Start u) = refl
+none_told (Commit t) (Commit u) = refl
+none_told (Start t) y = refl
+
+plain_of : (wanted : Wanted) (level : Level) (times : List Times) (trace : Trace) (st : Stamping) → Keeps (asked_with wanted level times [] trace) st → Keeps (asked_of wanted level times trace) st
+plain_of wanted level times trace st keeps x y e = keeps x y (covers_with wanted level times [] trace x y e)
+
+with_none : (wanted : Wanted) (level : Level) (times : List Times) (trace : Trace) (st : Stamping) → Keeps (asked_of wanted level times trace) st → Keeps (asked_with wanted level times [] trace) st
+with_none wanted level times trace st keeps x y e = keeps x y (subst (λ (b : Bool). b || asked_of wanted level times trace x y ≡ true) (none_told x y) e)
+
+no_stamps_plain : (wanted : Wanted) (level : Level) (times : List Times) (trace : Trace) → NoStamps level (asked_with wanted level times [] trace) trace → NoStamps level (asked_of wanted level times trace) trace
+no_stamps_plain wanted level times trace none stampable = none (record { stamps = stampable.stamps; isolated = stampable.isolated; keeps = with_none wanted level times trace stampable.stamps stampable.keeps })
+
+pub verdict_plain : (wanted : Wanted) (level : Level) (times : List Times) (trace : Trace) (verdict : Verdict) → IsVerdict level (asked_with wanted level times [] trace) trace verdict → IsVerdict level (asked_of wanted level times trace) trace verdict
+verdict_plain wanted level times trace (Holds numbers) v = record { stamps = v.stamps; isolated = v.isolated; keeps = plain_of wanted level times trace v.stamps v.keeps }
+verdict_plain wanted level times trace (WrongRead place) v = (v.0, no_stamps_plain wanted level times trace v.1)
+verdict_plain wanted level times trace (Refused cycle) v = no_stamps_plain wanted level times trace v
+verdict_plain wanted level times trace (Undecided key) v = v

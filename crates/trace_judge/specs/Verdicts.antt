@@ -9,7 +9,7 @@ use Rattle.outer_reads.specs.declared.readings.Reading.{Reading}
 use Rattle.outer_reads.specs.Sources.{AreKnown, IsWrong, trace_of}
 use Rattle.trace_edges.specs.Edges.{starts_of}
 use Rattle.asked_orders.specs.declared.edges.Nodes.{Nodes}
-use Rattle.asked_orders.specs.Joins.{Task, asked_by}
+use Rattle.version_orders.specs.Orders.{Task, asked_by}
 use Rattle.trace_judge.specs.declared.Verdict.{Verdict}
 use Rattle.trace_judge.specs.declared.Verdict.TheVariants.{Holds, WrongRead, Refused, Undecided}
 

@@ -9,8 +9,9 @@ ghost use Rattle.trace_rules.specs.Wants.{asked_of, no_wants};
 ghost use Rattle.outer_reads.specs.Sources.{AreKnown, trace_of};
 ghost use Rattle.trace_edges.specs.Edges as edges_of;
 ghost use Rattle.rising_numbers.specs.Rises.{AreWithin};
-ghost use Rattle.version_orders.specs.Orders.{AreSure};
-ghost use Rattle.asked_orders.specs.Joins.{Task, task_of};
+ghost use Rattle.version_orders.specs.Orders.{AreSure, Task, task_of};
+ghost use Rattle.asked_orders.specs.Joins.{AreJoined, moments_for};
+ghost use Rattle.version_ranks.specs.Ranks.{asked_with};
 ghost use Rattle.trace_judge.specs.Verdicts.{IsShared, IsVerdict, Refuses};
 
 mod hints;
@@ -18,12 +19,14 @@ mod hints;
 use asked_orders::{Nodes, Plan, keep_asked, lay_asked, plan_of};
 use hints::{hints_of, number_at, places_of};
 use outer_reads::{Reading, Sources, Writing, sources_of};
+use rank_orders::{keep_ranks, lay_ranks};
 use rising_numbers::{Edge, Order, numbered};
 use stamp_check::{are_serial, are_stamps};
 use std::alloc::{AllocError, Global};
 use trace_edges::{forced_edges, lay_tried};
 use trace_rules::{Level, Operation, Times, Transaction, Wanted};
 use version_orders::{Laid, add_orders};
+use version_ranks::Rank;
 
 /// What is found of a trace.
 #[derive(Drop)]
@@ -68,6 +71,22 @@ pub fn judge_wanted(
 ) -> Result<Verdict, AllocError>
     ensures { IfOk result (λ verdict. IsVerdict level (asked_of wanted level times.now (trace_of transactions.now operations.now)) (trace_of transactions.now operations.now) verdict) }
 {
+    judge_told(alloc, level, wanted, transactions, times, &[], operations)
+}
+
+/// Judges a trace as `judge_wanted` does, where an order of versions is told besides: the ranks of committed transactions, by key
+/// and version.
+pub fn judge_told(
+    alloc: Global,
+    level: Level,
+    wanted: Wanted,
+    transactions: &[Transaction],
+    times: &[Times],
+    ranks: &[Rank],
+    operations: &[Operation],
+) -> Result<Verdict, AllocError>
+    ensures { IfOk result (λ verdict. IsVerdict level (asked_with wanted level times.now ranks.now (trace_of transactions.now operations.now)) (trace_of transactions.now operations.now) verdict) }
+{
     match sources_of(alloc, transactions, operations)? {
         Sources::WrongRead(place) => Ok(Verdict::WrongRead(place)),
         Sources::Known(readings, writings) => {
@@ -78,6 +97,7 @@ pub fn judge_wanted(
                 wanted,
                 transactions,
                 times,
+                ranks,
                 &readings,
                 &mut order,
             )
@@ -92,11 +112,12 @@ fn judge_known(
     wanted: Wanted,
     transactions: &[Transaction],
     times: &[Times],
+    ranks: &[Rank],
     readings: &[Reading],
     order: &mut Vec<Writing>,
 ) -> Result<Verdict, AllocError>
     ensures { IfOk result (λ verdict. (operations : List Operation) → AreKnown (trace_of transactions.now operations) readings.now order.old.items →
-        IsVerdict level (asked_of wanted level times.now (trace_of transactions.now operations)) (trace_of transactions.now operations) verdict) }
+        IsVerdict level (asked_with wanted level times.now ranks.now (trace_of transactions.now operations)) (trace_of transactions.now operations) verdict) }
 {
     let plan = plan_of(alloc, wanted, level, transactions, times)?;
     let nodes = nodes_of(level, transactions.len(), plan.moments.len());
@@ -107,6 +128,7 @@ fn judge_known(
         wanted,
         transactions,
         times,
+        ranks,
         &plan,
         readings,
         order,
@@ -124,6 +146,7 @@ fn judge_known(
         wanted,
         transactions,
         times,
+        ranks,
         &plan,
         readings,
         order,
@@ -139,6 +162,7 @@ fn sure_edges(
     wanted: Wanted,
     transactions: &[Transaction],
     times: &[Times],
+    ranks: &[Rank],
     plan: &Plan,
     readings: &[Reading],
     order: &[Writing],
@@ -146,7 +170,7 @@ fn sure_edges(
 ) -> Result<Vec<Edge>, AllocError>
     requires room { nodes.points ≤ nodes.all }
     requires starts { nodes.starts ≡ edges_of.starts_of level (length transactions.now) }
-    ensures { IfOk result (λ edges. AreSure (task_of level wanted transactions.now times.now plan.now.moments.items) readings.now order.now nodes edges.items) }
+    ensures { IfOk result (λ edges. AreSure (task_of level wanted transactions.now times.now ranks.now plan.now.moments.items) readings.now order.now nodes edges.items) }
 {
     let hints = hints_of(alloc, readings, order)?;
     let mut edges = forced_edges(
@@ -158,6 +182,27 @@ fn sure_edges(
         nodes.starts,
         nodes.points,
     )?;
+    let asked = asked_edges(alloc, level, wanted, transactions, times, plan, nodes)?;
+    edges.extend_from_slice(&asked)?;
+    lay_ranks(&mut edges, transactions, ranks, nodes)?;
+    Ok(edges)
+}
+
+/// The edges of the order that is asked for.
+fn asked_edges(
+    alloc: Global,
+    level: Level,
+    wanted: Wanted,
+    transactions: &[Transaction],
+    times: &[Times],
+    plan: &Plan,
+    nodes: Nodes,
+) -> Result<Vec<Edge>, AllocError>
+    ensures within { IfOk result (λ edges. AreWithin nodes.all edges.items) }
+    ensures joined { IfOk result (λ edges. (operations : List Operation) → nodes.starts ≡ edges_of.starts_of level (length transactions.now) →
+        AreJoined level (asked_of wanted level times.now (trace_of transactions.now operations)) (moments_for wanted level times.now) (trace_of transactions.now operations) nodes.starts nodes.points plan.now.moments.items edges.items) }
+{
+    let mut edges = Vec::new(alloc);
     lay_asked(&mut edges, wanted, level, transactions, times, plan, nodes)?;
     Ok(edges)
 }
@@ -203,6 +248,7 @@ fn try_order(
     wanted: Wanted,
     transactions: &[Transaction],
     times: &[Times],
+    ranks: &[Rank],
     plan: &Plan,
     readings: &[Reading],
     order: &[Writing],
@@ -212,7 +258,7 @@ fn try_order(
     requires starts { nodes.starts ≡ edges_of.starts_of level (length transactions.now) }
     requires within { AreWithin nodes.all edges.old.items }
     ensures { IfOk result (λ verdict. (operations : List Operation) → AreKnown (trace_of transactions.now operations) readings.now order.now →
-        IsVerdict level (asked_of wanted level times.now (trace_of transactions.now operations)) (trace_of transactions.now operations) verdict) }
+        IsVerdict level (asked_with wanted level times.now ranks.now (trace_of transactions.now operations)) (trace_of transactions.now operations) verdict) }
 {
     let hints = hints_of(alloc, readings, order)?;
     let sure = edges.len();
@@ -228,6 +274,7 @@ fn try_order(
                 wanted,
                 transactions,
                 times,
+                ranks,
                 plan,
                 readings,
                 &hints.places,
@@ -249,6 +296,7 @@ fn are_right(
     wanted: Wanted,
     transactions: &[Transaction],
     times: &[Times],
+    ranks: &[Rank],
     plan: &Plan,
     readings: &[Reading],
     places: &[usize],
@@ -258,9 +306,12 @@ fn are_right(
 ) -> bool
     requires { nodes.starts ≡ edges_of.starts_of level (length transactions.now) }
     ensures { result ≡ true → (operations : List Operation) → AreKnown (trace_of transactions.now operations) readings.now order.now →
-        Stampable level (asked_of wanted level times.now (trace_of transactions.now operations)) (trace_of transactions.now operations) }
+        Stampable level (asked_with wanted level times.now ranks.now (trace_of transactions.now operations)) (trace_of transactions.now operations) }
 {
     if !keep_asked(wanted, level, transactions, times, plan, nodes, numbers) {
+        return false;
+    }
+    if !keep_ranks(level, transactions, ranks, nodes.starts, numbers) {
         return false;
     }
     match level {
