@@ -7,6 +7,8 @@ mod judged;
 mod levels;
 mod limit;
 mod made;
+#[cfg(test)]
+mod order_tests;
 mod status;
 mod steps;
 #[cfg(test)]

@@ -82,7 +82,12 @@ ranked_by ranks t u e =
     let more = and_parts (two.1.txn == u) (is_lower one.1 two.1) two.3 in
     let last = and_parts (one.1.key == two.1.key) (nat_lt one.1.version two.1.version) more.1 in
     record {
-      i = one.0; j = two.0; a = one.1; b = two.1; at_a = one.2; at_b = two.2;
+      i = one.0;
+      j = two.0;
+      a = one.1;
+      b = two.1;
+      at_a = one.2;
+      at_b = two.2;
       first = eqb-true one.1.txn t parts.0;
       second = eqb-true two.1.txn u more.0;
       key = eqb-true one.1.key two.1.key last.0;
@@ -128,8 +133,10 @@ push_cases (y ∷ xs) r (suc i) x at = push_cases xs r i x at
 pub takes_rank : (count starts : ℕ) (numbers : List ℕ) (old raised new : Height) (rank : Rank) → IsRaised old rank raised → rank.txn < count → raised.under ≤ get_or numbers rank.txn 0 → IsTopped raised (get_or numbers (starts + rank.txn) 0) new →
     TakesRank count starts numbers old rank new
 takes_rank count starts numbers old raised new rank up within most top before rise under = (
-  record { within = λ i a at. elim (push_cases before rank i a at) [ inl there ↦ rise.within i a there | inr here ↦ subst (λ (x : Rank). x.txn < count) here within ];
-    rises = pair },
+  record {
+    within = λ i a at. elim (push_cases before rank i a at) [ inl there ↦ rise.within i a there | inr here ↦ subst (λ (x : Rank). x.txn < count) here within ];
+    rises = pair;
+  },
   record { each = λ i a at. elim (push_cases before rank i a at) [ inl there ↦ still a (up.still starts numbers a (under.each i a there)) | inr here ↦ subst (λ (x : Rank). IsUnder starts numbers new x) here own ] },
 )
   where

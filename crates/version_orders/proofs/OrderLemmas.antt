@@ -315,7 +315,7 @@ module _ (task : Task) (readings : List Reading) (order : List Writing) (nodes :
     within = within_laid may;
     joined = λ operations count known. join_laid task.level (asked_by task operations) (moments_for task.wanted task.level task.times) (whole operations) nodes.starts nodes.points nodes.points task.chain old new edge may
         (λ from to. points_join task.level (asked_by task operations) (moments_for task.wanted task.level task.times) (whole operations) nodes.starts nodes.points task.chain edge.from edge.to from to
-            (follows_always old edge operations count known (sure.joined operations count known) follows))
+        (follows_always old edge operations count known (sure.joined operations count known) follows))
         (sure.joined operations count known);
   }
     where

@@ -89,9 +89,7 @@ pub fn add_orders(
     let left = edges.len().saturating_mul(SHARE).saturating_add(SPARE);
     let mut paths = Paths::new(alloc, nodes.all, edges, left)?;
     for place in 1..order.len() {
-        order_versions(
-            edges, &mut paths, laid, order, numbers, place, nodes,
-        )?;
+        order_versions(edges, &mut paths, laid, order, numbers, place, nodes)?;
     }
     for i in 0..readings.len() {
         let place = number_at(places, i);
@@ -138,9 +136,7 @@ fn order_reading(
     for look in 0..LOOKS {
         let j = looked_at(look, place, behind);
         order_none(edges, laid, readings, order, i, j, nodes)?;
-        order_other(
-            edges, paths, laid, readings, order, numbers, i, j, nodes,
-        )?;
+        order_other(edges, paths, laid, readings, order, numbers, i, j, nodes)?;
     }
     Ok(())
 }
