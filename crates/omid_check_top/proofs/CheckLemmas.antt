@@ -22,7 +22,8 @@ long_codes code (inr (inr e)) = inr (omega (arith, e), omega (arith, e))
 not_end : (code : ℕ) → 2 < code → code < 7 → IsEnd code → ⊥
 not_end code low high (inl e) = omega (arith, e, low)
 not_end code low high (inr (inl e)) = omega (arith, e, high)
-not_end code low high (inr (inr e)) = omega (arith, e, high)
+not_end code low high (inr (inr (inl e))) = omega (arith, e, high)
+not_end code low high (inr (inr (inr e))) = omega (arith, e, high)
 
 not_verdict : (code : ℕ) → 3 < code → code < 7 → IsVerdict code → ⊥
 not_verdict code low high (inl end) = not_end code (omega (arith, low)) high end

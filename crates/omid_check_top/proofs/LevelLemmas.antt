@@ -4,20 +4,20 @@ use Rattle.trace_rules.specs.declared.wanted.Level.{Level}
 use Rattle.trace_rules.specs.declared.wanted.Times.{Times}
 use Rattle.trace_rules.specs.declared.wanted.Wanted.{Wanted}
 use Rattle.trace_rules.specs.declared.wanted.Wanted.TheVariants.{Nothing, Sessions, RealTime}
-use Rattle.trace_rules.specs.Stamping.{Stampable}
 use Rattle.trace_rules.specs.Trace.{Trace}
 use Rattle.trace_rules.specs.Wants.{asked_of}
-use Rattle.trace_judge.specs.Verdicts.{NoStamps}
+use Rattle.trace_judge.specs.Verdicts.{AreStamps, NoStamps}
 use Rattle.committed_reads.specs.Committed.{CommittedReads}
 use Rattle.omid_check_top.specs.declared.levels.Grade.{Grade}
 use Rattle.omid_check_top.specs.declared.levels.Grade.TheVariants.{AtLevel, OfReads}
 use Rattle.omid_check_top.specs.Levels.{AreLevels, AreSaid, Holding, IsStatus, NoneSaid, Other, line_of, ranked, with_orders}
 use Rattle.omid_check_top.specs.Verdicts.{IsVerdict}
+use Rattle.omid_check_top.proofs.MadeLemmas.{stampable}
 
 -- ---- the status of a level
 module _ (level : Level) (wanted : Wanted) (trace : Trace) (times : List Times) (code : ℕ) where
-  pub level_holds : Stampable level (asked_of wanted level times trace) trace → code ≡ 0 → IsStatus (AtLevel level wanted) trace times code
-  level_holds holds zero = inl (zero, holds)
+  pub level_holds : (numbers : List ℕ) → AreStamps level (asked_of wanted level times trace) trace numbers → code ≡ 0 → IsStatus (AtLevel level wanted) trace times code
+  level_holds numbers stamps zero = inl (zero, stampable level (asked_of wanted level times trace) trace numbers stamps)
 
   pub level_fails : NoStamps level (asked_of wanted level times trace) trace → code ≡ 7 → IsStatus (AtLevel level wanted) trace times code
   level_fails none seven = inr (inl (seven, none))

@@ -1,3 +1,4 @@
 mod LevelLemmas
 mod CheckLemmas
 mod MadeLemmas
+mod StampLemmas

@@ -4,10 +4,11 @@ use Rattle.std.specs.Prelude.{IfSome, Option, Ok, Err}
 use Rattle.trace_rules.specs.declared.wanted.Level.{Level}
 use Rattle.trace_rules.specs.declared.wanted.Times.{Times}
 use Rattle.trace_rules.specs.declared.wanted.Wanted.{Wanted}
-use Rattle.trace_rules.specs.Stamping.{Stampable}
+use Rattle.trace_rules.specs.Stamping.{Asked, Stampable}
 use Rattle.trace_rules.specs.Trace.{Trace}
 use Rattle.trace_rules.specs.Wants.{asked_of}
-use Rattle.trace_judge.specs.Verdicts.{IsTried, NoStamps}
+use Rattle.trace_judge.specs.Verdicts.{AreStamps, IsTried, NoStamps}
+use Rattle.asked_orders.specs.Keeps.{stamping_of}
 use Rattle.committed_reads.specs.Committed.{CommittedReads}
 use Rattle.trace_report.specs.declared.step.Step.{Step}
 use Rattle.trace_report.specs.Names.{anomaly_name, name_of}
@@ -25,8 +26,11 @@ use Rattle.omid_check_top.specs.declared.words.Question.{Question}
 use Rattle.omid_check_top.specs.Verdicts.{IsCommitted, IsCommittedShown, IsFound, IsIndexed, IsIsolated, IsJudged, IsOfRecording, IsOpen, IsRight, IsShown, IsUnclear, IsWrongRead, Subject, committed_text, not_committed_text, open_text, subject_of, wrong_committed_text, wrong_text}
 
 -- ---- of what the judge found
-pub is_holding : (level : Level) (wanted : Wanted) (s : Subject) (code : ℕ) (text : List ℕ) → Stampable level (asked_of wanted level s.times s.trace) s.trace → code ≡ 0 → text ≡ holds_text level wanted (length s.trace.transactions) → IsIsolated level wanted s code text
-is_holding level wanted s code text holds zero told = inl (record { holds = holds; status = zero; told = told })
+pub stampable : (level : Level) (asked : Asked) (trace : Trace) (numbers : List ℕ) → AreStamps level asked trace numbers → Stampable level asked trace
+stampable level asked trace numbers stamps = record { stamps = stamping_of level (length trace.transactions) numbers; isolated = stamps.isolated; keeps = stamps.keeps }
+
+pub is_holding : (level : Level) (wanted : Wanted) (s : Subject) (numbers : List ℕ) (code : ℕ) (text : List ℕ) → AreStamps level (asked_of wanted level s.times s.trace) s.trace numbers → code ≡ 0 → text ≡ holds_text level wanted (length s.trace.transactions) → IsIsolated level wanted s code text
+is_holding level wanted s numbers code text stamps zero told = inl (record { holds = stampable level (asked_of wanted level s.times s.trace) s.trace numbers stamps; status = zero; told = told })
 
 pub shows : (level : Level) (wanted : Wanted) (s : Subject) (steps : List Step) (text : List ℕ) → text ≡ refused_text level wanted (anomaly_name (name_of steps)) ++ cycle_text s.names s.attempts steps → IsShown level wanted s text
 shows level wanted s steps text told = record { steps = steps; told = told }

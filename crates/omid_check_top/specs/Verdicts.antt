@@ -2,11 +2,16 @@
 use Rattle.std.specs.Prelude.{◌≡◌, ℕ, ◌<◌, List, ◌++◌, ◌⊎◌, Option, None, Some, IfSome, Ok, Err, codes, decimal, length, slice_get}
 use Rattle.trace_rules.specs.declared.trace.Operation.{Operation}
 use Rattle.trace_rules.specs.declared.trace.Operation.TheVariants.{Read, Write}
+use Rattle.history_book.specs.declared.item.Item.{Item}
+use Rattle.history_book.specs.Isolation.{Isolated}
+use Rattle.history_book.specs.Serial.{Serial}
+use Rattle.history_text.specs.Text.{printed}
 use Rattle.trace_rules.specs.declared.wanted.Level.{Level}
+use Rattle.trace_rules.specs.declared.wanted.Level.TheVariants.{Snapshot, Serializable}
 use Rattle.trace_rules.specs.declared.wanted.Times.{Times}
 use Rattle.trace_rules.specs.declared.wanted.Wanted.{Wanted}
 use Rattle.trace_rules.specs.Trace.{Trace}
-use Rattle.trace_rules.specs.Stamping.{Stampable}
+use Rattle.trace_rules.specs.Stamping.{IsolatedBy, Keeps, Point, Stampable, Stamping}
 use Rattle.trace_rules.specs.Wants.{asked_of}
 use Rattle.trace_judge.specs.Verdicts.{IsTried}
 use Rattle.committed_reads.specs.Committed.{CommittedReads}
@@ -20,12 +25,18 @@ use Rattle.trace_index.specs.Index.{IsIndexOf, operations_in}
 use Rattle.trace_index.specs.Versions.{Blame}
 use Rattle.trace_report.specs.declared.step.Step.{Step}
 use Rattle.trace_report.specs.Names.{anomaly_name, name_of}
+use Rattle.trace_report.specs.Parts.{name_at}
 use Rattle.trace_report.specs.Wrongs.{wrong_at, wrong_name}
 use Rattle.trace_report.specs.Cycle.{cycle_text}
 use Rattle.trace_report.specs.Verdict.{holds_text, refused_text, unclear_text, undecided_text, wrong_read_text}
+use Rattle.trace_items.specs.Items.{InOrder, KeysDiffer, Ranked, Telling, history_of}
+use Rattle.stamped_history.specs.Told.{IsHistory}
+use Rattle.stamped_history.specs.declared.limits.Limit.{Limit}
+use Rattle.stamped_history.specs.declared.limits.Limit.TheVariants as limit
+use Rattle.stamped_history.specs.declared.limits.Limit.TheVariants.{Sessions, Keys, Values, Bytes}
 use Rattle.omid_check_top.specs.Levels.{AreLevels}
 use Rattle.omid_check_top.specs.declared.words.Question.{Question}
-use Rattle.omid_check_top.specs.declared.words.Question.TheVariants.{Committed, Isolated, Levels}
+use Rattle.omid_check_top.specs.declared.words.Question.TheVariants as question
 use Rattle.omid_check_top.specs.declared.limit.TheConstants.{TRACE_LIMIT}
 
 -- ---- a verdict with its status and text
@@ -128,15 +139,62 @@ pub record IsReadWrong (s : Subject) (code : ℕ) (text : List ℕ) : Type 0 whe
 abbrev pub IsCommitted : Subject → ℕ → List ℕ → Type 0
 IsCommitted s code text = AreReadsCommitted s code text ⊎ AreReadsCyclic s code text ⊎ IsReadWrong s code text
 
+-- ---- the history with stamps
+-- the text is that of a history of the trace
+pub record IsPrinted (level : Level) (trace : Trace) (numbers : List ℕ) (names : List (List ℕ)) (text : List ℕ) : Type 0 where
+  pub items : List Item
+  pub is : IsHistory level trace numbers names items
+  pub told : text ≡ printed items
+
+-- serial too, where that is asked for
+abbrev pub IsSerialAt : Level → List Item → Type 0
+IsSerialAt Snapshot history = Unit {0}
+IsSerialAt Serializable history = Serial history
+
+-- the text is of a history: that of the trace, in the order of stamps which isolate it and keep what is asked for, and count its
+-- points from 1 on; and its items are isolated
+pub record HasStamps (level : Level) (wanted : Wanted) (s : Subject) (code : ℕ) (text : List ℕ) : Type 0 where
+  pub st : Stamping
+  pub points : List Point
+  pub tell : Telling
+  pub stamped : IsolatedBy level st s.trace
+  pub keeps : Keeps (asked_of wanted level s.times s.trace) st
+  pub order : InOrder st s.trace points
+  pub counted : Ranked st points
+  pub keys : KeysDiffer tell
+  pub values : (value : ℕ) → tell.value value ≡ name_at s.names value
+  pub isolated : Isolated (history_of st tell s.trace points)
+  pub serial : IsSerialAt level (history_of st tell s.trace points)
+  pub status : code ≡ 0
+  pub told : text ≡ printed (history_of st tell s.trace points)
+
+abbrev pub limit_text : Limit → List ℕ
+limit_text Sessions = codes "no history: more than 16 transactions are open at once\n"
+limit_text Keys = codes "no history: more than 4096 keys\n"
+limit_text Values = codes "no history: a value is not of 1 to 64 visible bytes\n"
+limit_text limit.Stamps = codes "no history: a stamp is above 2^62\n"
+limit_text Bytes = codes "no history: more than 16 MiB of text\n"
+
+-- there are stamps, and a history can't tell them
+pub record IsUnfit (level : Level) (wanted : Wanted) (s : Subject) (code : ℕ) (text : List ℕ) : Type 0 where
+  pub holds : AsAsked level wanted s
+  pub limit : Limit
+  pub status : code ≡ 9
+  pub told : text ≡ limit_text limit
+
+abbrev pub AreStamped : Level → Wanted → Subject → ℕ → List ℕ → Type 0
+AreStamped level wanted s code text = HasStamps level wanted s code text ⊎ IsUnfit level wanted s code text ⊎ IsRefusal level wanted s code text ⊎ IsWrongRead level wanted s code text ⊎ IsOpen s code text
+
 -- ---- what is found
 abbrev pub IsFound : Question → Subject → ℕ → List ℕ → Type 0
-IsFound (Isolated level wanted) s code text = IsIsolated level wanted s code text
-IsFound Committed s code text = IsCommitted s code text
-IsFound Levels s code text = AreLevels s.trace s.times code text
+IsFound (question.Isolated level wanted) s code text = IsIsolated level wanted s code text
+IsFound question.Committed s code text = IsCommitted s code text
+IsFound question.Levels s code text = AreLevels s.trace s.times code text
+IsFound (question.Stamps level wanted) s code text = AreStamped level wanted s code text
 
 -- the statuses of a verdict, and those of all that is said of a trace
 abbrev pub IsEnd : ℕ → Type 0
-IsEnd code = (code ≡ 0) ⊎ (code ≡ 7) ⊎ (code ≡ 8)
+IsEnd code = (code ≡ 0) ⊎ (code ≡ 7) ⊎ (code ≡ 8) ⊎ (code ≡ 9)
 
 abbrev pub IsVerdict : ℕ → Type 0
 IsVerdict code = IsEnd code ⊎ (code ≡ 3)

@@ -18,7 +18,8 @@ use std::alloc::Global;
 /// trace is not as asked; or writes how the program is used. The status is 0 where the trace is as asked, or help was, 2 where the
 /// words are no command, 3 where the bytes are no trace or do not show who wrote what, 4 where the source failed, 5 where the
 /// sink did, 6 where memory was refused, 7 where the trace is not as asked, and 8 where it does not decide. Of all levels a line
-/// each is written, and the status is that of committed reads. On 2, and for help, the source is not read.
+/// each is written, and the status is that of committed reads. Where stamps are asked for, the history with them is written in
+/// place of the verdict, or with status 9 which limit of histories is not met. On 2, and for help, the source is not read.
 pub fn omid_check<S: Source, K: Sink>(
     alloc: Global,
     words: &[String],
@@ -33,7 +34,7 @@ pub fn omid_check<S: Source, K: Sink>(
 
     // Which words a status goes with, and which leave the source untouched.
     ensures usage { result ≡ 2 → command_of (map string_bytes words.now) ≡ None }
-    ensures codes { (result ≤ 8) × (result ≢ 1) }
+    ensures codes { (result ≤ 9) × (result ≢ 1) }
     ensures unread { (command_of (map string_bytes words.now) ≡ None) ⊎ (command_of (map string_bytes words.now) ≡ Some Help) → source.new ≡ source.old }
 
     // A fault of the source, a fault of the sink, want of memory.
@@ -127,7 +128,7 @@ fn say_usage<K: Sink>(sink: &mut K, code: u8) -> u8
 {
     match print_text(
         sink,
-        b"usage: omid_check snapshot | serializable [session | real-time], committed, levels, or help\n",
+        b"usage: omid_check [stamps] snapshot | serializable [session | real-time], committed, levels, or help\n",
     ) {
         Ok(()) => code,
         Err(Failed) => status::SINK_FAILED,

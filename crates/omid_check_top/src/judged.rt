@@ -6,6 +6,7 @@ ghost use Rattle.omid_check_top.specs.Verdicts.{IsFound, IsIsolated, IsShown, Is
 use crate::committed::committed;
 use crate::levels::levels;
 use crate::made::Made;
+use crate::stamps::stamps;
 use crate::status;
 use crate::steps::steps_of;
 use crate::words::Question;
@@ -34,6 +35,7 @@ pub fn judged(
         Question::Isolated { level, wanted } => isolated(alloc, level, wanted, recording, indexed),
         Question::Committed => committed(alloc, recording, indexed),
         Question::Levels => levels(alloc, indexed),
+        Question::Stamps { level, wanted } => stamps(alloc, level, wanted, recording, indexed),
     }
 }
 
@@ -78,7 +80,7 @@ fn holds(alloc: Global, level: Level, wanted: Wanted, transactions: usize) -> Re
 }
 
 /// That the read at this place is wrong.
-fn wrong_read(
+pub fn wrong_read(
     alloc: Global,
     level: Level,
     wanted: Wanted,
@@ -115,7 +117,7 @@ pub fn reader_of(operation: Option<&Operation>) -> (usize, u64)
 
 /// That a cycle of edges refuses the trace, with its steps.
 #[tactic(auto, using(crate::proofs::MadeLemmas::shows))]
-fn refused(
+pub fn refused(
     alloc: Global,
     level: Level,
     wanted: Wanted,
@@ -137,7 +139,7 @@ fn refused(
 }
 
 /// That nothing decides, and of which key.
-fn undecided(alloc: Global, recording: &Recording, key: Option<u64>) -> Result<Made, NoMemory>
+pub fn undecided(alloc: Global, recording: &Recording, key: Option<u64>) -> Result<Made, NoMemory>
     ensures code { IfOk result (λ made. made.code ≡ 8) }
     ensures told { IfOk result (λ made. made.text.items ≡ open_text recording.now.names key) }
 {

@@ -9,6 +9,9 @@ mod limit;
 mod made;
 #[cfg(test)]
 mod order_tests;
+#[cfg(test)]
+mod stamp_tests;
+mod stamps;
 mod status;
 mod steps;
 #[cfg(test)]

@@ -16,3 +16,5 @@ pub const NO_MEMORY: u8 = 6;
 pub const REFUSED: u8 = 7;
 /// The trace does not decide whether it is.
 pub const UNDECIDED: u8 = 8;
+/// The trace is as asked, and no history can tell it.
+pub const UNFIT: u8 = 9;

@@ -37,7 +37,7 @@ const BESIDE: &str = r#"{"type": "invoke", "process": 0, "time": 1, "value": [["
 "#;
 
 const USAGE: &str =
-    "usage: omid_check snapshot | serializable [session | real-time], committed, levels, or help\n";
+    "usage: omid_check [stamps] snapshot | serializable [session | real-time], committed, levels, or help\n";
 
 fn bytes_of(alloc: Global, text: &str) -> Result<Vec<u8>, AllocError> {
     let mut bytes = Vec::new(alloc);

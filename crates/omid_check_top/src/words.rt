@@ -1,7 +1,7 @@
 // The words behind the program's name.
 ghost use Rattle.std.specs.Prelude.{◌≡◌, [], map, string_bytes, IfOk};
 ghost use Rattle.std.specs.Str.{IsUtf8, bytes_eq};
-ghost use Rattle.omid_check_top.specs.Words.{checks, command_of, level_of, one_word, wanted_of};
+ghost use Rattle.omid_check_top.specs.Words.{checks, command_of, level_of, one_word, shows, three_words, two_words, wanted_of};
 
 use stamp_base::NoMemory;
 use std::alloc::Global;
@@ -17,6 +17,8 @@ pub enum Question {
     Committed,
     /// All of these, each in a line.
     Levels,
+    /// The history with stamps that make it so at the level, in an order that is asked for besides.
+    Stamps { level: Level, wanted: Wanted },
 }
 
 /// What the program is asked to do.
@@ -62,8 +64,29 @@ pub fn command_of(words: &[String]) -> Option<Command>
 {
     match words {
         [word] => one_word(word.as_str()),
-        [word, other] => checks(level_of(word.as_str()), wanted_of(other.as_str())),
+        [word, other] => two_words(word.as_str(), other.as_str()),
+        [word, other, last] => three_words(word.as_str(), other.as_str(), last.as_str()),
         _ => None,
+    }
+}
+
+fn two_words(word: &str, other: &str) -> Option<Command>
+    ensures { result ≡ two_words word.now other.now }
+{
+    if is_word(word, "stamps") {
+        shows(level_of(other), Some(Wanted::Nothing))
+    } else {
+        checks(level_of(word), wanted_of(other))
+    }
+}
+
+fn three_words(word: &str, other: &str, last: &str) -> Option<Command>
+    ensures { result ≡ three_words word.now other.now last.now }
+{
+    if is_word(word, "stamps") {
+        shows(level_of(other), wanted_of(last))
+    } else {
+        None
     }
 }
 
@@ -95,6 +118,20 @@ fn checks(level: Option<Level>, wanted: Option<Wanted>) -> Option<Command>
             None => None,
             Some(wanted) => Some(Command::Check {
                 question: Question::Isolated { level, wanted },
+            }),
+        },
+    }
+}
+
+fn shows(level: Option<Level>, wanted: Option<Wanted>) -> Option<Command>
+    ensures { result ≡ shows level wanted }
+{
+    match level {
+        None => None,
+        Some(level) => match wanted {
+            None => None,
+            Some(wanted) => Some(Command::Check {
+                question: Question::Stamps { level, wanted },
             }),
         },
     }

@@ -6,7 +6,7 @@ use Rattle.trace_rules.specs.declared.trace.Version.{Version}
 use Rattle.trace_rules.specs.declared.trace.Transaction.{Transaction}
 use Rattle.trace_rules.specs.declared.wanted.Level.TheVariants.{Snapshot, Serializable}
 use Rattle.trace_rules.specs.Trace.{Trace, Done, Writer, OuterRead, committed_in}
-use Rattle.trace_rules.specs.Stamping.{Asked, Keeps, Numbered, Stampable}
+use Rattle.trace_rules.specs.Stamping.{IsolatedBy, Numbered}
 use Rattle.trace_rules.specs.Rising.{Listed, Rising}
 use Rattle.trace_rules.specs.Serial.{RisingPlaces, one_by_one}
 use Rattle.trace_rules.proofs.Isolates.{isolates}
@@ -234,12 +234,8 @@ module _ (trace : Trace) (readings : List Reading) (order : List Writing) (numbe
     missed_first = λ t u k outer at_u other. spread_less (length trace.transactions + length trace.transactions) (get_or numbers t 0) (get_or numbers (length trace.transactions + u) 0) t (length trace.transactions + u) (low_point t outer.read.done) (missed_first trace readings order numbers (length trace.transactions) known weak nexts reads t u k outer at_u other);
   }
 
-  pub numbers_stamp : (asked : Asked) → Keeps asked (stamps_of (length trace.transactions) numbers) → Stampable Snapshot asked trace
-  numbers_stamp asked keeps = record {
-    stamps = stamps_of (length trace.transactions) numbers;
-    isolated = isolates (stamps_of (length trace.transactions) numbers) trace (λ k. orders_of order k) stamps_numbered known.sourced (lists_all trace readings order numbers (length trace.transactions) known weak nexts reads) stamps_rise;
-    keeps = keeps;
-  }
+  pub numbers_stamp : IsolatedBy Snapshot (stamps_of (length trace.transactions) numbers) trace
+  numbers_stamp = isolates (stamps_of (length trace.transactions) numbers) trace (λ k. orders_of order k) stamps_numbered known.sourced (lists_all trace readings order numbers (length trace.transactions) known weak nexts reads) stamps_rise
 
 -- ---- the places of a serial order
 module _ (trace : Trace) (readings : List Reading) (order : List Writing) (numbers : List ℕ)
@@ -272,9 +268,5 @@ module _ (trace : Trace) (readings : List Reading) (order : List Writing) (numbe
         (let up = missed_first trace readings order numbers 0 known at_itself nexts reads t u k outer at_u other in let s = same_number u in omega (arith, up, s));
   }
 
-  pub numbers_serialise : (asked : Asked) → Keeps asked (one_by_one (places_of (length trace.transactions) numbers)) → Stampable Serializable asked trace
-  numbers_serialise asked keeps = record {
-    stamps = one_by_one (places_of (length trace.transactions) numbers);
-    isolated = serialises (places_of (length trace.transactions) numbers) trace (λ k. orders_of order k) known.sourced (lists_all trace readings order numbers 0 known at_itself nexts reads) places_rise;
-    keeps = keeps;
-  }
+  pub numbers_serialise : IsolatedBy Serializable (one_by_one (places_of (length trace.transactions) numbers)) trace
+  numbers_serialise = serialises (places_of (length trace.transactions) numbers) trace (λ k. orders_of order k) known.sourced (lists_all trace readings order numbers 0 known at_itself nexts reads) places_rise

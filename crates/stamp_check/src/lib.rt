@@ -6,7 +6,7 @@ ghost use Rattle.trace_rules.specs.declared.trace.Operation.{Operation};
 ghost use Rattle.trace_rules.specs.declared.wanted.Level.TheVariants.{Snapshot, Serializable};
 ghost use Rattle.trace_rules.specs.Trace.{Trace, committed_in};
 ghost use Rattle.trace_rules.specs.Serial.{one_by_one};
-ghost use Rattle.trace_rules.specs.Stamping.{Asked, Keeps, Stampable};
+ghost use Rattle.trace_rules.specs.Stamping.{IsolatedBy};
 ghost use Rattle.outer_reads.specs.declared.writings.Writing.{Writing};
 ghost use Rattle.outer_reads.specs.declared.readings.Reading.{Reading};
 ghost use Rattle.outer_reads.specs.Sources.{AreKnown, trace_of};
@@ -16,8 +16,8 @@ use outer_reads::{Reading, Writing};
 use trace_rules::Transaction;
 
 /// Whether the numbers, of the starts by transaction and behind them of the commits, rise along all edges between neighbours of
-/// the order, which has the versions of each key together; so they are stamps of the trace, where they keep what is asked for. For each reading, the place in the order is given of what was
-/// read, or where nothing was, of the key's first version or the first one of a greater key.
+/// the order, which has the versions of each key together; so they make stamps of the trace. For each reading, the place in the
+/// order is given of what was read, or where nothing was, of the key's first version or the first one of a greater key.
 pub fn are_stamps(
     transactions: &[Transaction],
     readings: &[Reading],
@@ -25,8 +25,8 @@ pub fn are_stamps(
     order: &[Writing],
     numbers: &[usize],
 ) -> bool
-    ensures { result ≡ true → (asked : Asked) (operations : List Operation) → AreKnown (trace_of transactions.now operations) readings.now order.now →
-        Keeps asked (stamps_of (length transactions.now) numbers.now) → Stampable Snapshot asked (trace_of transactions.now operations) }
+    ensures { result ≡ true → (operations : List Operation) → AreKnown (trace_of transactions.now operations) readings.now order.now →
+        IsolatedBy Snapshot (stamps_of (length transactions.now) numbers.now) (trace_of transactions.now operations) }
 {
     let count = transactions.len();
     if !own_rise(transactions, numbers) || !nexts_rise(order, count, numbers) {
@@ -43,8 +43,8 @@ pub fn are_serial(
     order: &[Writing],
     numbers: &[usize],
 ) -> bool
-    ensures { result ≡ true → (asked : Asked) (trace : Trace) → AreKnown trace readings.now order.now →
-        Keeps asked (one_by_one (places_of (length trace.transactions) numbers.now)) → Stampable Serializable asked trace }
+    ensures { result ≡ true → (trace : Trace) → AreKnown trace readings.now order.now →
+        IsolatedBy Serializable (one_by_one (places_of (length trace.transactions) numbers.now)) trace }
 {
     nexts_rise(order, 0, numbers) && reads_rise(readings, places, order, 0, numbers)
 }

@@ -1,5 +1,5 @@
 -- Why verdicts are right.
-use Rattle.std.proofs.Common.{◌≡◌, ℕ, zero, suc, ◌≤◌, ◌⊎◌, ◌||◌, Bool, true, false, List, [], ◌∷◌, ◌++◌, Option, None, Some, length, slice_get, inl, inr, refl, subst, ap, ◌∙◌}
+use Rattle.std.proofs.Common.{◌≡◌, ℕ, zero, suc, ◌≤◌, ◌⊎◌, ◌||◌, Bool, true, false, List, [], ◌∷◌, ◌++◌, Option, None, Some, length, slice_get, inl, inr, refl, sym, subst, ap, ◌∙◌}
 use Rattle.std.specs.Option.{IfSome}
 use Rattle.std.specs.List.{Contains}
 use Rattle.std.specs.List.Sorted.{IsPermutation}
@@ -10,7 +10,7 @@ use Rattle.trace_rules.specs.declared.wanted.Level.{Level}
 use Rattle.trace_rules.specs.declared.wanted.Times.{Times}
 use Rattle.trace_rules.specs.declared.wanted.Wanted.{Wanted}
 use Rattle.trace_rules.specs.Trace.{Trace, Writer}
-use Rattle.trace_rules.specs.Stamping.{Asked, Keeps, Point, Start, Commit, Stamping}
+use Rattle.trace_rules.specs.Stamping.{Asked, IsolatedBy, Keeps, Point, Start, Commit, Stamping}
 use Rattle.trace_rules.specs.Wants.{asked_of}
 use Rattle.trace_rules.proofs.Forced.{wrong_outer, wrong_own}
 use Rattle.rising_numbers.specs.declared.Edge.{Edge}
@@ -20,6 +20,7 @@ use Rattle.outer_reads.specs.declared.readings.Reading.{Reading}
 use Rattle.outer_reads.specs.Sources.{AreKnown, IsWrong, NotOwn, NoVersion, trace_of}
 use Rattle.trace_edges.specs.Edges.{starts_of}
 use Rattle.asked_orders.specs.declared.edges.Nodes.{Nodes}
+use Rattle.asked_orders.specs.Keeps.{stamping_of}
 use Rattle.asked_orders.specs.Joins.{AreJoined, moments_for}
 use Rattle.asked_orders.specs.Laid.{StillJoined}
 use Rattle.version_ranks.specs.declared.rank.Rank.{Rank}
@@ -28,11 +29,18 @@ use Rattle.version_orders.specs.Orders.{AreSure, Task, asked_by}
 use Rattle.version_orders.proofs.OrderLemmas.{covers_with, joined_still, round_refuses}
 use Rattle.trace_judge.specs.declared.Verdict.{Verdict}
 use Rattle.trace_judge.specs.declared.Verdict.TheVariants.{Holds, WrongRead, Refused, Undecided}
-use Rattle.trace_judge.specs.Verdicts.{IsShared, IsTried, IsVerdict, NoStamps, Refuses}
+use Rattle.trace_judge.specs.Verdicts.{AreStamps, IsShared, IsTried, IsVerdict, NoStamps, Refuses}
 
 pub wrong_refuses : (level : Level) (asked : Asked) (trace : Trace) (place : ℕ) → IsWrong trace place → NoStamps level asked trace
 wrong_refuses level asked trace place (NotOwn t k own answer read other) = wrong_own level asked trace place t k own answer read other
 wrong_refuses level asked trace place (NoVersion t k found read none) = wrong_outer level asked trace t k found (record { place = place; read = read }) none
+
+-- the numbers make stamps at the level that the trace is judged by
+pub stamps_at : (level other : Level) (asked : Asked) (trace : Trace) (numbers : List ℕ) → level ≡ other → IsolatedBy other (stamping_of other (length trace.transactions) numbers) trace → Keeps asked (stamping_of level (length trace.transactions) numbers) → AreStamps level asked trace numbers
+stamps_at level other asked trace numbers same isolated keeps = record {
+  isolated = subst (λ (l : Level). IsolatedBy l (stamping_of l (length trace.transactions) numbers) trace) (sym same) isolated;
+  keeps = keeps;
+}
 
 pub cycle_refuses : (task : Task) (readings : List Reading) (order : List Writing) (nodes : Nodes) (edges : List Edge) (places : List ℕ) →
     AreSure task readings order nodes edges → IsCycle edges places → Refuses task readings order nodes
@@ -135,7 +143,7 @@ no_stamps_plain : (wanted : Wanted) (level : Level) (times : List Times) (trace 
 no_stamps_plain wanted level times trace none stampable = none (record { stamps = stampable.stamps; isolated = stampable.isolated; keeps = with_none wanted level times trace stampable.stamps stampable.keeps })
 
 pub verdict_plain : (wanted : Wanted) (level : Level) (times : List Times) (trace : Trace) (verdict : Verdict) → IsVerdict level (asked_with wanted level times [] trace) trace verdict → IsVerdict level (asked_of wanted level times trace) trace verdict
-verdict_plain wanted level times trace (Holds numbers) v = record { stamps = v.stamps; isolated = v.isolated; keeps = plain_of wanted level times trace v.stamps v.keeps }
+verdict_plain wanted level times trace (Holds numbers) v = record { isolated = v.isolated; keeps = plain_of wanted level times trace (stamping_of level (length trace.transactions) numbers.items) v.keeps }
 verdict_plain wanted level times trace (WrongRead place) v = (v.0, no_stamps_plain wanted level times trace v.1)
 verdict_plain wanted level times trace (Refused cycle) v = no_stamps_plain wanted level times trace v
 verdict_plain wanted level times trace (Undecided key) v = v

@@ -4,7 +4,6 @@
 ghost use Rattle.std.specs.Prelude.{◌≡◌, ◌≤◌, true, List, IfOk, IfSome, length, slice_get};
 ghost use Rattle.std.specs.List.Sorted.{IsPermutation};
 ghost use Rattle.trace_rules.specs.declared.trace.Operation.{Operation};
-ghost use Rattle.trace_rules.specs.Stamping.{Stampable};
 ghost use Rattle.trace_rules.specs.Wants.{asked_of, no_wants};
 ghost use Rattle.outer_reads.specs.Sources.{AreKnown, trace_of};
 ghost use Rattle.trace_edges.specs.Edges as edges_of;
@@ -12,7 +11,7 @@ ghost use Rattle.rising_numbers.specs.Rises.{AreWithin};
 ghost use Rattle.version_orders.specs.Orders.{AreSure, Task, task_of};
 ghost use Rattle.asked_orders.specs.Joins.{AreJoined, moments_for};
 ghost use Rattle.version_ranks.specs.Ranks.{asked_with};
-ghost use Rattle.trace_judge.specs.Verdicts.{IsShared, IsVerdict, Refuses};
+ghost use Rattle.trace_judge.specs.Verdicts.{AreStamps, IsShared, IsVerdict, Refuses};
 
 mod hints;
 
@@ -306,7 +305,7 @@ fn are_right(
 ) -> bool
     requires { nodes.starts ≡ edges_of.starts_of level (length transactions.now) }
     ensures { result ≡ true → (operations : List Operation) → AreKnown (trace_of transactions.now operations) readings.now order.now →
-        Stampable level (asked_with wanted level times.now ranks.now (trace_of transactions.now operations)) (trace_of transactions.now operations) }
+        AreStamps level (asked_with wanted level times.now ranks.now (trace_of transactions.now operations)) (trace_of transactions.now operations) numbers.now }
 {
     if !keep_asked(wanted, level, transactions, times, plan, nodes, numbers) {
         return false;

@@ -7,7 +7,7 @@ ghost use Rattle.trace_rules.specs.declared.wanted.Level.TheVariants.{Snapshot, 
 ghost use Rattle.trace_rules.specs.Stamping.{Stamping, Conflict, Point, Start, Commit, stamp_of, Asked, Keeps, IsolatedBy, Stampable, Numbered};
 ghost use Rattle.trace_rules.specs.Below.{Below};
 ghost use Rattle.trace_rules.specs.Rising.{Sourced, Listed, Rising};
-ghost use Rattle.trace_rules.specs.Serial.{RisingPlaces, one_by_one};
+ghost use Rattle.trace_rules.specs.Serial.{PlacesDiffer, RisingPlaces, one_by_one, owner};
 ghost use Rattle.trace_rules.specs.Graph.{Edge, Path, Forced};
 ghost use Rattle.trace_rules.specs.Lists.{SeesList};
 ghost use Rattle.trace_rules.specs.Open.{Fewer};
@@ -60,6 +60,18 @@ pub fn graph_cycles_refuse()
 /// And stamps that rise along all these edges are stamps of the trace, whether the orders are forced or not.
 pub fn graph_orders_stamp()
     ensures { (st : Stamping) (asked : Asked) (trace : Trace) (orders : ℕ → List ℕ) → Numbered st trace → Sourced trace → Listed trace orders → ((x y : Point) → Edge asked trace orders x y → stamp_of st x < stamp_of st y) → Stampable Snapshot asked trace }
+{}
+
+/// The same of a serial order: where stamps of one transaction after another, each at a place of its own, rise along all these
+/// edges, they are stamps of the trace, whether the orders are forced or not.
+pub fn serial_graph_orders_stamp()
+    ensures { (at : ℕ → ℕ) (asked : Asked) (trace : Trace) (orders : ℕ → List ℕ) → PlacesDiffer at trace → Sourced trace → Listed trace orders → ((x y : Point) → Edge asked trace orders x y → stamp_of (one_by_one at) x < stamp_of (one_by_one at) y) → Stampable Serializable asked trace }
+{}
+
+/// And in a serial order what is forced between points of two transactions is forced of them whole. So a cycle of transactions, each of
+/// which has a point that is forced below one of the next, refuses the trace.
+pub fn serial_points_order_wholes()
+    ensures { (asked : Asked) (trace : Trace) (x y : Point) → Done trace (owner x) → Done trace (owner y) → owner x ≢ owner y → Below Serializable asked trace x y → Below Serializable asked trace (Commit (owner x)) (Start (owner y)) }
 {}
 
 /// What nobody read may be left out: where a trace has stamps, it has them with fewer transactions that count as committed, as

@@ -1,0 +1,116 @@
+-- The history that is shown in place of a verdict.
+use Rattle.std.proofs.Common.{◌≡◌, ℕ, ◌<◌, ◌⊎◌, ◌==◌, ◌&&◌, nat_lt, Bool, true, false, List, Option, None, Some, inl, inr, refl, sym, subst, ap, ◌∙◌, length, slice_get, arith}
+use Rattle.std.proofs.lemmas.Option.{same_Some}
+use Rattle.std.specs.Prelude.{IfSome}
+use Rattle.history_book.specs.declared.item.Item.{Item}
+use Rattle.history_text.specs.Text.{printed}
+use Rattle.trace_rules.specs.declared.trace.Transaction.{Transaction}
+use Rattle.trace_rules.specs.declared.wanted.Level.{Level}
+use Rattle.trace_rules.specs.declared.wanted.Level.TheVariants.{Snapshot, Serializable}
+use Rattle.trace_rules.specs.declared.wanted.Times.{Times}
+use Rattle.trace_rules.specs.declared.wanted.Wanted.{Wanted}
+use Rattle.trace_rules.specs.declared.wanted.Wanted.TheVariants.{Nothing, Sessions, RealTime}
+use Rattle.trace_rules.specs.Serial.{owner}
+use Rattle.trace_rules.specs.Stamping.{Asked, IsolatedBy, Keeps, Point, Start, Commit, Stamping, stamp_of}
+use Rattle.trace_rules.specs.Trace.{Trace, Done, committed_in}
+use Rattle.trace_rules.specs.Wants.{asked_of, in_time, moments_of, of_done, of_one_process}
+use Rattle.trace_items.specs.Items.{KeysDiffer, InOrder, Telling, history_of}
+use Rattle.trace_items.proofs.Isolates.{isolated, serial}
+use Rattle.trace_items.proofs.Along.{place_of, taken}
+use Rattle.trace_items.proofs.Ranks.{ranks_isolate, ranks_order}
+use Rattle.trace_judge.specs.Verdicts.{AreStamps, IsTried, NoStamps}
+use Rattle.asked_orders.specs.Keeps.{stamping_of}
+use Rattle.stamped_history.specs.declared.limits.Limit.{Limit}
+use Rattle.stamped_history.specs.Told.{IsHistory}
+use Rattle.omid_check_top.specs.Verdicts.{AreStamped, IsPrinted, IsSerialAt, IsShown, Subject, limit_text, open_text, wrong_text}
+
+pub is_printed : (level : Level) (trace : Trace) (numbers : List ℕ) (names : List (List ℕ)) (items : List Item) (text : List ℕ) → IsHistory level trace numbers names items → text ≡ printed items → IsPrinted level trace numbers names text
+is_printed level trace numbers names items text is told = record { items = items; is = is; told = told }
+
+-- ---- an order that is asked for is one of committed transactions' points
+both : (a b : Bool) → a && b ≡ true → (a ≡ true) × (b ≡ true)
+both true b e = (refl, e)
+both false b e = absurd (cc)
+
+done_of : (trace : Trace) (x : Point) → of_done trace x ≡ true → Done trace (owner x)
+done_of trace (Start t) e = e
+done_of trace (Commit t) e = e
+
+one_process : (a b : Option Transaction) → of_one_process a b ≡ true → (committed_in a ≡ true) × (committed_in b ≡ true)
+one_process None b e = absurd (cc)
+one_process (Some a) None e = absurd (cc)
+one_process (Some a) (Some b) e = both a.committed b.committed (both (a.committed && b.committed) (a.process == b.process) e).0
+
+asked_done : (wanted : Wanted) (level : Level) (times : List Times) (trace : Trace) (x y : Point) → asked_of wanted level times trace x y ≡ true → Done trace (owner x) × Done trace (owner y)
+asked_done Nothing level times trace x y e = absurd (cc)
+asked_done Sessions level times trace (Start t) y e = absurd (cc)
+asked_done Sessions level times trace (Commit t) (Commit u) e = absurd (cc)
+asked_done Sessions level times trace (Commit t) (Start u) e = one_process (slice_get trace.transactions t) (slice_get trace.transactions u) (both (nat_lt t u) (of_one_process (slice_get trace.transactions t) (slice_get trace.transactions u)) e).1
+asked_done RealTime level times trace x y e =
+    let first = both (of_done trace x) (of_done trace y) (both (of_done trace x && of_done trace y) (in_time (moments_of level times) x y) e).0 in
+    (done_of trace x first.0, done_of trace y first.1)
+
+-- stamps in whose order the same points stand lie in one order
+same_way : (st other : Stamping) (trace : Trace) (points : List Point) → InOrder st trace points → InOrder other trace points → (x y : Point) → Done trace (owner x) → Done trace (owner y) → stamp_of st x < stamp_of st y → stamp_of other x < stamp_of other y
+same_way st other trace points order also x y dx dy less =
+    let p = place_of x points (order.all x dx) in
+    let q = place_of y points (order.all y dy) in
+    elim (compare p.0 q.0) [
+      | inl low ↦ also.rises.at q.0 y q.1 x (taken x points p.0 q.0 p.1 low)
+      | inr rest ↦ elim rest [
+        | inl same ↦ absurd (one_point (same_Some _ _ (sym p.1 ∙ ap (λ (n : ℕ). slice_get points n) same ∙ q.1)))
+        | inr more ↦ let over : stamp_of st y < stamp_of st x = order.rises.at p.0 x p.1 y (taken y points q.0 p.0 q.1 more) in absurd (omega (arith, less, over))
+      ]
+    ]
+  where
+    one_point : x ≡ y → ⊥
+    one_point same = let equal = ap (λ (z : Point). stamp_of st z) same in absurd (omega (arith, less, equal))
+
+    compare : (a b : ℕ) → (a < b) ⊎ ((a ≡ b) ⊎ (b < a))
+    compare a b = grind arith
+
+-- ---- the history
+serial_at : (level : Level) (st : Stamping) (tell : Telling) (trace : Trace) (points : List Point) → KeysDiffer tell → InOrder st trace points → IsolatedBy level st trace → IsSerialAt level (history_of st tell trace points)
+serial_at Snapshot st tell trace points keys order is = tt
+serial_at Serializable st tell trace points keys order is = serial st tell trace points keys order is
+
+pub has_stamps : (level : Level) (wanted : Wanted) (s : Subject) (numbers : List ℕ) (code : ℕ) (text : List ℕ) → AreStamps level (asked_of wanted level s.times s.trace) s.trace numbers → IsPrinted level s.trace numbers s.names text → code ≡ 0 → AreStamped level wanted s code text
+has_stamps level wanted s numbers code text stamps is zero =
+    let h = is.is in
+    let st = stamping_of level (length s.trace.transactions) numbers in
+    let order = ranks_order st h.ranks s.trace h.points h.order h.ranked in
+    let isolates = ranks_isolate st h.ranks s.trace h.points h.order h.ranked level stamps.isolated in
+    inl (record {
+      st = h.ranks;
+      points = h.points;
+      tell = h.tell;
+      stamped = isolates;
+      keeps = λ x y asked. let done = asked_done wanted level s.times s.trace x y asked in same_way st h.ranks s.trace h.points h.order order x y done.0 done.1 (stamps.keeps x y asked);
+      order = order;
+      counted = h.ranked;
+      keys = h.keys;
+      values = h.values;
+      isolated = isolated level h.ranks h.tell s.trace h.points h.keys order isolates;
+      serial = serial_at level h.ranks h.tell s.trace h.points h.keys order isolates;
+      status = zero;
+      told = subst (λ (l : List Item). text ≡ printed l) h.told is.told;
+    })
+
+pub is_unfit : (level : Level) (wanted : Wanted) (s : Subject) (numbers : List ℕ) (limit : Limit) (code : ℕ) (text : List ℕ) → AreStamps level (asked_of wanted level s.times s.trace) s.trace numbers → code ≡ 9 → text ≡ limit_text limit → AreStamped level wanted s code text
+is_unfit level wanted s numbers limit code text stamps nine told = inr (inl (record {
+  holds = record { stamps = stamping_of level (length s.trace.transactions) numbers; isolated = stamps.isolated; keeps = stamps.keeps };
+  limit = limit;
+  status = nine;
+  told = told;
+}))
+
+-- ---- no stamps
+module _ (level : Level) (wanted : Wanted) (s : Subject) (code : ℕ) (text : List ℕ) where
+  pub not_stamped : NoStamps level (asked_of wanted level s.times s.trace) s.trace → code ≡ 7 → IsShown level wanted s text → AreStamped level wanted s code text
+  not_stamped none seven told = inr (inr (inl (record { refused = none; status = seven; told = told })))
+
+  pub wrong_not_stamped : (place : ℕ) → NoStamps level (asked_of wanted level s.times s.trace) s.trace → code ≡ 7 → text ≡ wrong_text level wanted s place → AreStamped level wanted s code text
+  wrong_not_stamped place none seven told = inr (inr (inr (inl (record { place = place; refused = none; status = seven; told = told }))))
+
+  pub open_not_stamped : (key : Option ℕ) → IfSome key (λ k. IsTried s.trace k) → code ≡ 8 → text ≡ open_text s.names key → AreStamped level wanted s code text
+  open_not_stamped key tried eight told = inr (inr (inr (inr (record { key = key; tried = tried; status = eight; told = told }))))
