@@ -1,8 +1,9 @@
 #!/usr/bin/env python3
 """Measures the program `omid` beside `sort`, its strict reads and audits, its caches and its direct commits beside the others, and its
-compactions and its threads beside its replay, and prints one table of each.
+compactions and its threads beside its replay, and prints one table of each. Over split stores the last table tells what a committed
+transaction costs, on one processor and on more.
 
-usage: bench/bench.py [--program PATH] [--runs N] [--only WORD] [--quick] [--ordinary]
+usage: bench/bench.py [--program PATH] [--runs N] [--only WORD] [--quick] [--ordinary | --instructions]
 
 The program is crates/omid/out/omid, which stands there behind a green gate. Every figure is a median of N runs that
 take turns with the runs they are compared with, so that a loaded machine slows both. User and system time are the kernel's
@@ -11,8 +12,11 @@ own count of the child; `switches` are its voluntary context switches. Compare r
 With `--ordinary` one other table is printed in place of these: replays and runs of the loads on threads at ordinary priority, whatever
 that of this script, at rest and beside four processes that never wait, which are started and ended here. It has an eighth of the lines,
 since a run beside others may take many times as long.
+
+With `--instructions` one table of instructions an item is printed in their place, counted by valgrind's callgrind over an eighth of the
+lines. It is the same on a busy machine, and from one run to the next but for some thousands in all.
 """
-import argparse, contextlib, os, random, re, statistics, subprocess, sys, tempfile, time
+import argparse, contextlib, os, random, re, shutil, statistics, subprocess, sys, tempfile, time
 from dataclasses import dataclass
 
 ROOT = os.path.dirname(os.path.dirname(os.path.abspath(__file__)))
@@ -69,6 +73,17 @@ def ran(words, given, taken, first=None):
     if child.returncode not in (0, 7):
         sys.exit(f"bench: {words} ended with {child.returncode}")
     return Cost(wall, used.ru_utime, used.ru_stime, used.ru_nvcsw)
+
+
+def instructions(words, given, taken):
+    """How many instructions the words take, with standard input from a file and standard output to one."""
+    with open(given, "rb") as source, open(taken, "wb") as sink:
+        said = subprocess.run(["valgrind", "--tool=callgrind", "--callgrind-out-file=/dev/null", *words], stdin=source, stdout=sink,
+                              stderr=subprocess.PIPE, text=True)
+    found = re.search(r"Collected : (\d+)", said.stderr)
+    if said.returncode not in (0, 7) or not found:
+        sys.exit(f"bench: {words} under valgrind ended with {said.returncode}\n{said.stderr}")
+    return int(found[1])
 
 
 def median(costs, field="user"):
@@ -152,6 +167,17 @@ def transactions(lines, sessions, nodes=1, takeovers=0, by_master=False):
     return behind_the_take(script)
 
 
+def going_on(lines, sessions, hot=False):
+    """Sessions side by side, each over and over: begin, read, write, commit, of a key of its own, or all of one key. A `collect` behind each
+    begin goes on with one that was told to wait, of this turn or of an earlier one: so none is left busy for the rest of its lines."""
+    script = [*HEAD]
+    for session in range(sessions):
+        key = 0 if hot else session
+        for turn in range((lines - 3) // sessions // 5):
+            script += [f"s{session} begin a", f"s{session} collect", f"s{session} read k{key}", f"s{session} write k{key} v{turn}", f"s{session} commit a"]
+    return behind_the_take(script)
+
+
 def held_stages(lines, sessions=16, holds=32):
     """Transactions side by side, while the node holds one of its stages and frees it again, over and over: each time a reader that has
     its transaction reads eight keys meanwhile."""
@@ -206,6 +232,21 @@ def beside_sort(program, work, runs, loads):
         back = f"{at['json audit']:10.3f} {at['json audit'] / at['audit']:8.2f}" if "json audit" in at else f"{'too long':>10}"
         print(f"{name:28} {items:9} {at['replay']:8.3f} {at['replay'] / at['sort']:8.2f} {at['audit']:8.3f} {at['audit'] / at['sort']:8.2f} "
               f"{at['json']:8.3f} {at['json'] / at['replay']:8.2f} {back}", flush=True)
+
+
+def counted(program, work, loads):
+    """Instructions an item: of replays, of audits of what they print, and of the same in JSON."""
+    print(f"{'instructions an item':28} {'items':>9} {'replay':>8} {'summary':>8} {'json':>8} {'audit':>8} {'json audit':>10}")
+    for name, script in loads:
+        given, text, json, other = (os.path.join(work, it) for it in ("script", "text", "json", "other"))
+        with open(given, "w") as it:
+            it.write("\n".join(script) + "\n")
+        took = [instructions([program, *words], source, taken)
+                for words, source, taken in ((["replay"], given, text), (["replay", "summary"], given, other), (["replay", "json"], given, json),
+                                             (["audit"], text, other), (["audit"], json, other))]
+        with open(text, "rb") as it:
+            items = sum(1 for _ in it)
+        print(f"{name:28} {items:9} " + " ".join(f"{it / items:{wide}.0f}" for it, wide in zip(took, (8, 8, 8, 8, 10))), flush=True)
 
 
 def compactions(program, work, runs, loads):
@@ -417,6 +458,45 @@ def over_split_stores(program, work, runs, loads):
               f"{together:9.1%} {busy / len(script):6.1%}", flush=True)
 
 
+def on_processors(count):
+    """Has the calling process run on so many of its processors alone."""
+    os.sched_setaffinity(0, sorted(os.sched_getaffinity(0))[:count])
+
+
+def committed_in(history):
+    """How many of a history's transactions are committed: their records were placed."""
+    with open(history) as it:
+        return sum(line.startswith("placed ") for line in it)
+
+
+def a_transaction(program, work, runs, loads):
+    """What a committed transaction costs over split stores, on one processor and on more, beside run and replay."""
+    print(f"{'load that goes on':28} {'lines':>7} {'on':>4} {'wall':>7} {'processor':>9} {'committed':>9} {'a commit, us':>12} {'of run':>9} {'of replay':>9} "
+          f"{'commits/s':>9} {'of 1':>6}", flush=True)
+    for name, script in loads:
+        given, history = os.path.join(work, "script"), os.path.join(work, "history")
+        with open(given, "w") as it:
+            it.write("\n".join(script) + "\n")
+        alone = None
+        for count in (1, 2, 4):
+            if count > len(os.sched_getaffinity(0)):
+                break
+            costs, each = {words: [] for words in ("run split", "run", "replay")}, {words: [] for words in ("run split", "run", "replay")}
+            placed = []
+            for _ in range(runs):
+                for words, those in costs.items():
+                    those.append(ran([program, *words.split()], given, history, lambda: on_processors(count)))
+                    made = committed_in(history)
+                    each[words].append(those[-1].wall / max(made, 1))
+                    if words == "run split":
+                        placed.append(made)
+            split, one = costs["run split"], {words: statistics.median(those) for words, those in each.items()}
+            alone = alone or one["run split"]
+            print(f"{name:28} {len(script):7} {count:4} {median(split, 'wall'):7.3f} {median(split, 'processor'):9.3f} {statistics.median(placed):9.0f} "
+                  f"{one['run split'] * 1e6:12.1f} {one['run split'] / one['run']:9.2f} {one['run split'] / one['replay']:9.2f} {1 / one['run split']:9.0f} "
+                  f"{alone / one['run split']:6.2f}", flush=True)
+
+
 @contextlib.contextmanager
 def beside(count):
     """So many processes are busy meanwhile, at ordinary priority."""
@@ -468,6 +548,12 @@ def on_threads(lines):
             ("9 takeovers, by master", transactions(lines, 16, 3, 9, True)), ("posts and awaits", posts(lines))]
 
 
+def goes_on(lines):
+    """The loads that are counted by their committed transactions."""
+    return [("1 session that goes on", going_on(lines, 1)), ("4 sessions that go on", going_on(lines, 4)), ("16 sessions that go on", going_on(lines, 16)),
+            ("4 of one hot key go on", going_on(lines, 4, hot=True)), ("16 of one hot key go on", going_on(lines, 16, hot=True))]
+
+
 def main():
     words = argparse.ArgumentParser(description=__doc__, formatter_class=argparse.RawDescriptionHelpFormatter)
     words.add_argument("--program", default=os.path.join(ROOT, "crates/omid/out/omid"))
@@ -475,10 +561,13 @@ def main():
     words.add_argument("--only", default="", help="loads whose name has this word")
     words.add_argument("--quick", action="store_true", help="an eighth of the lines, for a look")
     words.add_argument("--ordinary", action="store_true", help="replays and runs at ordinary priority alone, at rest and beside busy processes")
+    words.add_argument("--instructions", action="store_true", help="instructions an item alone, counted by callgrind")
     said = words.parse_args()
     if not os.access(said.program, os.X_OK):
         sys.exit(f"bench: {said.program} is not there: run `rt ci` first, or name one by --program")
-    lines = LINES // 8 if said.quick else LINES
+    if said.instructions and not shutil.which("valgrind"):
+        sys.exit("bench: valgrind is not installed here, and counts the instructions")
+    lines = LINES // 8 if said.quick or said.instructions else LINES
     files = [("whole lines", whole_lines(lines)), ("hot key", hot_key(lines)), ("single steps", single_steps(lines)),
              ("16 sessions at random", at_random(lines)), ("at random, by master", at_random_by_master(lines))]
     runs = on_threads(lines)
@@ -486,6 +575,9 @@ def main():
     with tempfile.TemporaryDirectory(prefix="omid-bench-") as work:
         if said.ordinary:
             ordinary(said.program, work, max(3, said.runs // 3), [load for load in on_threads(lines // 8) if said.only in load[0]])
+            return
+        if said.instructions:
+            counted(said.program, work, picked[0])
             return
         if picked[0]:
             beside_sort(said.program, work, said.runs, picked[0])
@@ -502,6 +594,9 @@ def main():
         if picked[1]:
             threads(said.program, work, max(3, said.runs // 3), picked[1])
             over_split_stores(said.program, work, max(3, said.runs // 3), picked[1][:3])
+        going = [load for load in goes_on(lines) if said.only in load[0]]
+        if going:
+            a_transaction(said.program, work, max(3, said.runs // 3), going)
 
 
 if __name__ == "__main__":

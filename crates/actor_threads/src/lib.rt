@@ -8,6 +8,7 @@ mod awaiting;
 mod before;
 mod crew;
 mod lines;
+mod marked;
 mod masters;
 mod playing;
 mod quiet;

@@ -3,6 +3,7 @@ ghost use Rattle.script_data.specs.declared.line.Line.{Line as ScriptLine};
 ghost use Rattle.actor_threads.specs.Lines.{own, own_left};
 ghost use Rattle.actor_threads.specs.Waking.{awaits_any};
 
+use crate::marked::MarkedLines;
 use history_book::Actor;
 use script_data::{Line, Verb};
 
@@ -10,14 +11,14 @@ use script_data::{Line, Verb};
 #[derive(Drop)]
 pub struct LinesLeft<'a> {
     pub actor: Actor,
-    lines: &'a [Line],
+    lines: &'a MarkedLines<'a>,
     // They stand from this place on.
     from: usize,
 }
 
 impl<'a> LinesLeft<'a> {
     /// Those behind the first so many of the actor's.
-    pub fn after(actor: Actor, lines: &'a [Line], done: u64) -> LinesLeft<'a>
+    pub fn after(actor: Actor, lines: &'a MarkedLines<'a>, done: u64) -> LinesLeft<'a>
         ensures actor { result.actor ≡ actor }
         ensures lines { result.lines.now ≡ lines.now }
         ensures rest { own_left result ≡ drop done (own actor lines.now) }
@@ -38,16 +39,16 @@ impl<'a> LinesLeft<'a> {
     pub fn present(&self) -> Option<Line>
         ensures { result ≡ slice_get (own_left self.now) 0 }
     {
-        let place = first_of(self.actor, self.lines, self.from);
-        Some(*self.lines.get(place)?)
+        let place = self.lines.first_of(self.actor, self.from);
+        Some(*self.lines.as_slice().get(place)?)
     }
 
     /// The place of the next of them among all lines, where that awaits a name.
     pub fn awaited(&self) -> Option<usize>
         ensures { MatchOption result (awaits_any (slice_get (own_left self.now) 0) ≡ false) (λ place. (slice_get self.now.lines.now place ≡ slice_get (own_left self.now) 0) × (awaits_any (slice_get (own_left self.now) 0) ≡ true)) }
     {
-        let place = first_of(self.actor, self.lines, self.from);
-        match self.lines.get(place)?.verb {
+        let place = self.lines.first_of(self.actor, self.from);
+        match self.lines.as_slice().get(place)?.verb {
             Verb::Await { .. } => Some(place),
             _ => None,
         }
@@ -60,8 +61,8 @@ impl<'a> LinesLeft<'a> {
         ensures next { result ≡ option_map (λ line. line.verb) (slice_get (own_left self.old) 0) }
         ensures rest { own_left self.new ≡ drop 1 (own_left self.old) }
     {
-        let place = first_of(self.actor, self.lines, self.from);
-        let verb = self.lines.get(place)?.verb;
+        let place = self.lines.first_of(self.actor, self.from);
+        let verb = self.lines.as_slice().get(place)?.verb;
         self.from = place + 1;
         self.skip_others();
         Some(verb)
@@ -73,19 +74,6 @@ impl<'a> LinesLeft<'a> {
         ensures lines { self.new.lines.now ≡ self.old.lines.now }
         ensures rest { own_left self.new ≡ own_left self.old }
     {
-        self.from = first_of(self.actor, self.lines, self.from);
+        self.from = self.lines.first_of(self.actor, self.from);
     }
-}
-
-// The place of the actor's first line from there on. Behind all lines where it has none.
-fn first_of(actor: Actor, lines: &[Line], from: usize) -> usize
-    ensures rest { own actor (drop result lines.now) ≡ own actor (drop from lines.now) }
-    ensures there { (line : ScriptLine) → slice_get lines.now result ≡ Some line → own actor (drop result lines.now) ≡ line ∷ own actor (drop (result + 1) lines.now) }
-{
-    for place in from..lines.len() {
-        if lines[place].actor == actor {
-            return place;
-        }
-    }
-    lines.len()
 }

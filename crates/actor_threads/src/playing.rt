@@ -7,6 +7,7 @@ ghost use Rattle.actor_threads.specs.Sights.{IsSightOf};
 
 use crate::awaiting::Awaiters;
 use crate::crew::Crew;
+use crate::marked::MarkedLines;
 use crate::masters::open_sights;
 use crate::sending::{join_all, send_all};
 use crate::shared::Shared;
@@ -51,9 +52,10 @@ pub fn play<
     let (beacon, mut publisher) = Beacon::open(alloc)?;
     let sights = open_sights(rt, alloc, &beacon, &mut publisher, shares.len())?;
     let awaiters = Awaiters::open(alloc, shares.as_slice())?;
+    let lines = MarkedLines::of(alloc, lines)?;
     let shared = Shared {
         setup: *setup,
-        lines,
+        lines: &lines,
         board,
         queues: &queues,
         gate,

@@ -1,7 +1,7 @@
 use crate::awaiting::Awaiters;
+use crate::marked::MarkedLines;
 use master_beacon::{Beacon, Desk};
 use reply_pipeline::Gate;
-use script_data::Line;
 use stage_queues::Queues;
 use stamp_base::Setup;
 use std::sync::Mutex;
@@ -12,7 +12,7 @@ use thread_steps::Steps;
 #[derive(Drop)]
 pub struct Shared<'a, B: Steps + Sync, G: Gate> {
     pub setup: Setup,
-    pub lines: &'a [Line],
+    pub lines: &'a MarkedLines<'a>,
     pub board: &'a B,
     pub queues: &'a Queues,
     pub gate: &'a G,

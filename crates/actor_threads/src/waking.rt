@@ -26,7 +26,9 @@ pub enum Woken {
 pub fn wake_for<B: Steps + Sync, G: Gate>(shared: &Shared<'_, B, G>, actor: Actor, verb: &Verb) {
     match woken_by(actor, verb) {
         Woken::Nobody => {}
-        Woken::AwaitersOf(name) => shared.awaiters.wake(shared.queues, shared.lines, &name),
+        Woken::AwaitersOf(name) => shared
+            .awaiters
+            .wake(shared.queues, shared.lines.as_slice(), &name),
         Woken::UsersOf(node) => wake_users(shared.queues, node),
         Woken::ThreadsOf(node, stage) => shared.queues.wake_stage(node, stage),
     }

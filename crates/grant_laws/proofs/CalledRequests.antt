@@ -1,3 +1,4 @@
+-- For log_refinement too, which keeps what a log shows of a request.
 -- What an event makes of a node leaves the request of any session but that which it serves.
 use Rattle.std.proofs.Common.{◌≡◌, ◌≢◌, ℕ, List, [], ◌∷◌, Option, Some, None, Result, Ok, Err, ◌⊎◌, inl, inr, refl, sym, ◌∙◌, ap, subst}
 use Rattle.std.specs.Prelude.{slice_get, slice_set}

@@ -1,3 +1,4 @@
+-- For log_refinement too, which keeps what a log shows of a request.
 -- An event that does not touch a session's request at a node leaves it there, as far as it has come.
 use Rattle.std.proofs.Common.{◌≡◌, ◌≢◌, ℕ, ◌==◌, ◌&&◌, Bool, true, false, List, Option, Some, None, refl, sym, subst}
 use Rattle.std.specs.Prelude.{slice_get, slice_set, IfSome}
@@ -53,7 +54,7 @@ own_has : (nodes : List (Option InstanceEntry)) (node n s : ℕ) (held : Held) (
 own_has nodes node n s held post g k at has = set_has nodes node n s held (g post) k (λ same. subst (λ (p : Option InstanceEntry). PostHas (g p) s held) (sym (the_post nodes node n s held post k at same)) has)
 
 -- ---- each event
-keeps : (w : State) (e : Event) (fate : Fate) (node s : ℕ) (held : Held) → touches node s e ≡ false → Has w.nodes node s held → Has (stepped w e fate).state.nodes node s held
+pub keeps : (w : State) (e : Event) (fate : Fate) (node s : ℕ) (held : Held) → touches node s e ≡ false → Has w.nodes node s held → Has (stepped w e fate).state.nodes node s held
 keeps w (event.Take n reading) fate node s held none k = of_post (StepHas node s held) (with_reading w reading) _ (slice_get w.nodes n) k (λ post at. own_has w.nodes node n s held post (λ p. (take_on w.setup n reading fate p w.master).parts.0) k at (record { i = k.i; is = refl; has = k.has }))
 keeps w (event.Renew n reading) fate node s held none k = of_post (StepHas node s held) (with_reading w reading) _ (slice_get w.nodes n) k (λ post at. own_has w.nodes node n s held post (λ p. (renew_on w.setup n reading fate p w.master).parts.0) k at (renew_has n reading s held k.i _ _ _ k.has))
 keeps w (event.Extend n) fate node s held none k = of_post (StepHas node s held) w _ (slice_get w.nodes n) k (λ post at. own_has w.nodes node n s held post (λ p. (extend_on w.setup n fate p w.master).parts.0) k at (extend_has n s held k.i _ _ _ k.has))

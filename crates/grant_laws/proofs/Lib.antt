@@ -33,8 +33,8 @@ mod StuckRuns
 mod OwnCarried
 mod ServedTurns
 mod StageTurns
-mod CalledRequests
-mod KeptRequests
+pub mod CalledRequests
+pub mod KeptRequests
 mod ReadTurnsMade
 mod LongerTurns
 mod KnownTurns

@@ -1,8 +1,10 @@
+mod EscapeLemmas
 mod FillLemmas
 mod MemberLemmas
 mod OneObject
-mod PrintLemmas
-mod Utf8Lemmas
+mod PlainLemmas
+mod SoundLemmas
+mod TemplateLemmas
 mod WordsLemmas
 mod LineLemmas
 mod ObjectLemmas

@@ -1,14 +1,14 @@
 -- The printed line of an item is read as its object: its members stand in order.
-use Rattle.std.proofs.Common.{◌≡◌, ℕ, List, true, None, Some, IsUtf8, refl, ap, ◌∙◌}
+use Rattle.std.proofs.Common.{◌≡◌, None, Some, refl}
 use Rattle.serde_json.specs.Data.{no_members}
-use Rattle.serde_json.specs.Read.{read}
 use Rattle.history_book.specs.declared.item.Item.{Item}
 use Rattle.history_book.specs.declared.item.Item.TheVariants as item
 use Rattle.history_book.specs.declared.item.Note.TheVariants.{Post, Await, Hold, Free}
-use Rattle.history_json.specs.Expected.{are_leaves}
+use Rattle.history_text.specs.Fits.{FitsItem}
 use Rattle.history_json.specs.Json.{json_line, IsJsonLineOf}
 use Rattle.history_json.specs.Members.{members_of}
 use Rattle.history_json.proofs.PrintedLemmas.{put_all, printed_read}
+use Rattle.history_json.proofs.SoundLemmas.{leaves, object_utf8, sound}
 
 ordered : (item : Item) → put_all (members_of item) no_members ≡ members_of item
 ordered (item.Tick to) = refl
@@ -38,9 +38,11 @@ ordered (item.Fault actor store) = refl
 ordered (item.Crash node term) = refl
 ordered (item.Vanish session) = refl
 
--- what is printed is the item's line
-pub printed_again : (item : Item) (line : List ℕ) → line ≡ json_line item → IsUtf8 line → are_leaves (members_of item) ≡ true → IsJsonLineOf line item
-printed_again item line same utf8 leaves = record {
-  utf8 = utf8;
-  value = ap read same ∙ printed_read (members_of item) leaves (ordered item);
-}
+-- the line of an item that fits is read as the item
+pub printed_again : (item : Item) → FitsItem item → IsJsonLineOf (json_line item) item
+printed_again item fits =
+    let all = sound item fits in
+    record {
+      utf8 = object_utf8 (members_of item) all;
+      value = printed_read (members_of item) (leaves (members_of item) all) (ordered item);
+    }

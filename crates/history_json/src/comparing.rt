@@ -7,7 +7,7 @@ ghost use Rattle.history_text.specs.StepText.{step_text};
 ghost use Rattle.history_json.specs.Expected.{said_data, expected_members};
 
 use crate::members::{Member, Said};
-use crate::texts::{CAUSE_AT, STEP_AT, cause_line, step_line};
+use crate::texts::{cause_line, step_line};
 use history_book::{Cause, StoreStep};
 use serde_json::{Map, Value};
 
@@ -66,13 +66,13 @@ fn is_text(value: &Value, words: &[u8]) -> bool
 fn is_step(value: &Value, what: StoreStep) -> bool
     ensures { IsTrue result ↔ (view value.now ≡ string (step_text what)) }
 {
-    is_text(value, &step_line(what).as_slice()[STEP_AT..])
+    is_text(value, step_line(what).as_slice())
 }
 
 fn is_cause(value: &Value, cause: Cause) -> bool
     ensures { IsTrue result ↔ (view value.now ≡ string (cause_text cause)) }
 {
-    is_text(value, &cause_line(cause).as_slice()[CAUSE_AT..])
+    is_text(value, cause_line(cause).as_slice())
 }
 
 fn is_numbered(value: &Value, letter: u8, number: u64) -> bool

@@ -1,145 +1,92 @@
-// A line that is written as histories are printed, taken apart at a glance.
-ghost use Rattle.std.specs.Prelude.{IfSome};
-ghost use Rattle.history_text.specs.Fits.{FitsItem};
+// A line that is written as histories are printed, taken apart at a glance. What it finds decides nothing: its own line does. It
+// takes no memory.
 
-use crate::rows::row_of;
+mod actors;
+mod nodes;
+mod requests;
+mod sessions;
+
+use actors::of_actor;
 use history_book::Item;
-use history_reading::read_item;
-use history_text::LineBuf;
+use history_reading::{after, field, is_word};
+use nodes::{crash, of_ceiling, renew, tick};
+use requests::{accept, ask_begin, ask_commit, begin_draw, commit_draw, placed};
+use sessions::{begin, committed, end, of_key, read_some, vanish};
 
-/// An item that the line may be: its own line decides. It takes no memory.
-pub fn glance(line: &[u8]) -> Option<Item>
-    ensures { IfSome result FitsItem }
-{
-    let Some(parts) = parts_of(line) else {
-        return None;
-    };
-    let Some(kind) = parts.get(b"kind") else {
-        return None;
-    };
-    let commit = parts.get(b"commit").is_some();
-    let from = parts.get(b"from").is_some();
-    let Some(row) = row_of(kind, commit, from) else {
-        return None;
-    };
-    let mut words = LineBuf::new();
-    if fill(&mut words, row, &parts) {
-        read_item(words.as_slice())
-    } else {
-        None
+/// An item that the line may be, by the first of its members.
+pub fn glance(line: &[u8]) -> Option<Item> {
+    match line {
+        [b'{', b'"', b'k', b'i', rest @ ..] => of_kind(after(b"nd\":\"", rest)?),
+        [b'{', b'"', b'k', rest @ ..] => of_key(after(b"ey\":\"k", rest)?),
+        [b'{', b'"', b'a', rest @ ..] => of_actor(after(b"ctor\":\"", rest)?),
+        [b'{', b'"', b'c', b'o', rest @ ..] => of_commit(rest),
+        [b'{', b'"', b'f', rest @ ..] => read_some(rest),
+        [b'{', b'"', b'h', rest @ ..] => end(rest),
+        [b'{', b'"', b'c', rest @ ..] => of_ceiling(rest),
+        _ => None,
     }
 }
 
-/// Adds the row's words, and in turn what the parts of its names say, and tells whether all were there and had room.
-fn fill(text: &mut LineBuf, row: &[&str], parts: &Parts<'_>) -> bool {
-    for place in 0..row.len() {
-        let part = row[place].as_bytes();
-        let there = if place % 2 == 0 {
-            push(text, part)
-        } else {
-            push_said(text, parts, part)
-        };
-        if !there {
-            return false;
-        }
+/// The items whose first member is their kind.
+fn of_kind(bytes: &[u8]) -> Option<Item> {
+    let (kind, rest) = quoted(bytes)?;
+    if is_word(kind, b"begin") {
+        return begin(rest);
     }
-    true
-}
-
-/// Adds what the part of this name says.
-fn push_said(text: &mut LineBuf, parts: &Parts<'_>, name: &[u8]) -> bool {
-    match parts.get(name) {
-        Some(said) => push(text, said),
-        None => false,
+    if is_word(kind, b"ask-begin") {
+        return ask_begin(rest);
     }
-}
-
-/// How many bytes a line of text has room for.
-const ROOM: usize = 256;
-
-/// Adds the bytes where there is room for them.
-fn push(text: &mut LineBuf, bytes: &[u8]) -> bool {
-    let room = ROOM - text.as_slice().len();
-    if bytes.len() > room {
-        return false;
+    if is_word(kind, b"ask-commit") {
+        return ask_commit(rest);
     }
-    text.push_text(bytes);
-    true
+    if is_word(kind, b"accept") {
+        return accept(rest);
+    }
+    if is_word(kind, b"draw") {
+        return begin_draw(rest);
+    }
+    of_rare_kind(kind, rest)
 }
 
-/// The most members that an item's object has.
-const MOST: usize = 7;
-
-/// The members of an object, each by its name and what it says, without their quotes. Places behind them are empty.
-#[derive(Drop)]
-struct Parts<'a> {
-    names: [&'a [u8]; MOST],
-    said: [&'a [u8]; MOST],
-}
-
-/// The parts of a line, as far as it is an object of texts without escapes and of digits.
-fn parts_of(line: &[u8]) -> Option<Parts<'_>> {
-    let [b'{', rest @ ..] = line else {
-        return None;
-    };
-    let mut rest = rest;
-    let mut names: [&[u8]; MOST] = [b"".as_slice(); MOST];
-    let mut said: [&[u8]; MOST] = [b"".as_slice(); MOST];
-    for place in 0..MOST {
-        let (name, after_name) = quoted(rest)?;
-        let [b':', value @ ..] = after_name else {
-            return None;
-        };
-        let (words, more) = value_of(value)?;
-        names[place] = name;
-        said[place] = words;
-        match more {
-            [b',', next @ ..] => rest = next,
-            _ => return Some(Parts { names, said }),
-        }
+/// The same, of kinds that are rare.
+fn of_rare_kind(kind: &[u8], rest: &[u8]) -> Option<Item> {
+    if is_word(kind, b"tick") {
+        return tick(rest);
+    }
+    if is_word(kind, b"renew") {
+        return renew(rest);
+    }
+    if is_word(kind, b"crash") {
+        return crash(rest);
+    }
+    if is_word(kind, b"vanish") {
+        return vanish(rest);
     }
     None
 }
 
-impl<'a> Parts<'a> {
-    /// What the member of this name says.
-    fn get(&self, name: &[u8]) -> Option<&'a [u8]> {
-        for place in 0..MOST {
-            if self.names[place] == name {
-                return Some(self.said[place]);
-            }
-        }
-        None
+/// The items whose first member is a commit.
+fn of_commit(bytes: &[u8]) -> Option<Item> {
+    let (commit, rest) = field(b"mmit\":", bytes)?;
+    let (kind, rest) = quoted(after(b",\"kind\":\"", rest)?)?;
+    if is_word(kind, b"committed") {
+        return committed(commit, rest);
     }
+    if is_word(kind, b"draw") {
+        return commit_draw(commit, rest);
+    }
+    if is_word(kind, b"placed") {
+        return placed(commit, rest);
+    }
+    None
 }
 
-/// What a value says, and what follows it.
-fn value_of(bytes: &[u8]) -> Option<(&[u8], &[u8])> {
-    match bytes {
-        [b'"', ..] => quoted(bytes),
-        _ => Some(digits(bytes)),
-    }
-}
-
-/// The text between the first quote and the next, and what follows that.
+/// The bytes before the first quote, and those after it.
 fn quoted(bytes: &[u8]) -> Option<(&[u8], &[u8])> {
-    let [b'"', text @ ..] = bytes else {
-        return None;
-    };
-    for place in 0..text.len() {
-        if text[place] == b'"' {
-            return Some((&text[..place], &text[place + 1..]));
+    for place in 0..bytes.len() {
+        if bytes[place] == b'"' {
+            return Some((&bytes[..place], &bytes[place + 1..]));
         }
     }
     None
-}
-
-/// The digits in front, and what follows them.
-fn digits(bytes: &[u8]) -> (&[u8], &[u8]) {
-    for place in 0..bytes.len() {
-        if !bytes[place].is_ascii_digit() {
-            return (&bytes[..place], &bytes[place..]);
-        }
-    }
-    (bytes, b"")
 }

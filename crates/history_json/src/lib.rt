@@ -9,14 +9,13 @@ mod laws;
 mod line;
 mod members;
 mod objects;
-mod printing;
 mod rows;
+mod templates;
 mod texts;
 mod words;
 
 pub use history::{Format, format_of, read_history};
 pub use item::item_of;
 pub use laws::one_history;
-pub use line::{from_line, printed_line, to_line};
-pub use objects::line_of;
+pub use line::{from_line, print_line, printed_line, to_line};
 pub use rows::{Row, row_of};

@@ -1,26 +1,37 @@
 // An item's line of JSON, written and read.
-ghost use Rattle.std.specs.Prelude.{◌≡◌, ◌↔◌, IfOk, IfSome, IsTrue, OnOk, Some, string_bytes};
+ghost use Rattle.std.specs.Prelude.{◌≡◌, ◌≤◌, ◌↔◌, length, IfOk, IfSome, IsTrue, Some, string_bytes};
 ghost use Rattle.history_book.specs.declared.item.Item.{Item};
 ghost use Rattle.history_text.specs.Fits.{FitsItem};
 ghost use Rattle.history_json.specs.Json.{json_line, json_text, IsJsonLineOf};
 
 use crate::glance::glance;
 use crate::item::item_of;
-use crate::objects::line_of;
+use crate::templates::print_object;
+use crate::texts::text_of;
 use history_book::Item;
+use history_text::LineBuf;
 use serde_json::Value;
 use stamp_base::NoMemory;
-use std::alloc::{AllocError, Global};
+use std::alloc::Global;
+
+/// Leaves the item's line as a history prints it, with its line feed, in the buffer, and nothing else. It takes no memory.
+pub fn print_line(item: &Item, line: &mut LineBuf)
+    ensures text { line.new ≡ json_text item.now }
+    ensures fits { FitsItem item.now }
+    ensures room { length (json_text item.now) ≤ 256 }
+{
+    print_object(item, line);
+    line.push_text(b"\n");
+}
 
 /// The item's line without its line feed. `from_line` reads it as the item.
 pub fn to_line(alloc: Global, item: &Item) -> Result<String, NoMemory>
     ensures text { IfOk result (λ line. string_bytes line ≡ json_line item.now) }
     ensures read_again { IfOk result (λ line. IsJsonLineOf (string_bytes line) item.now) }
 {
-    match String::from_utf8(line_of(alloc, item)?) {
-        Ok(line) => Ok(line),
-        Err(_) => unreachable!(),
-    }
+    let mut line = LineBuf::new();
+    print_object(item, &mut line);
+    Ok(String::from_str(alloc, text_of(line.as_slice()))?)
 }
 
 /// The item whose line of JSON the bytes are. Blanks, escapes and the order of the members are free.
@@ -29,7 +40,7 @@ pub fn from_line(alloc: Global, line: &[u8]) -> Result<Option<Item>, NoMemory>
     ensures fits { IfOk result (λ found. IfSome found FitsItem) }
     ensures only { IfOk result (λ found. (item : Item) → FitsItem item → IsJsonLineOf line.now item → found ≡ Some item) }
 {
-    match printed_item(alloc, line)? {
+    match printed_item(line) {
         Some(item) => Ok(Some(item)),
         None => read_value(alloc, line),
     }
@@ -52,26 +63,24 @@ fn read_value(alloc: Global, line: &[u8]) -> Result<Option<Item>, NoMemory>
 
 /// The item whose line of JSON the bytes are, where they are that line as it is printed. Mostly they are, and this is
 /// far quicker than reading a value. A line with an escape is left to the reader of values.
-fn printed_item(alloc: Global, line: &[u8]) -> Result<Option<Item>, AllocError>
-    ensures found { IfOk result (λ found. IfSome found (IsJsonLineOf line.now)) }
-    ensures fits { IfOk result (λ found. IfSome found FitsItem) }
+fn printed_item(line: &[u8]) -> Option<Item>
+    ensures found { IfSome result (IsJsonLineOf line.now) }
+    ensures fits { IfSome result FitsItem }
 {
-    let Some(item) = glance(line) else {
-        return Ok(None);
-    };
-    if is_printed(alloc, line, &item)? {
-        return Ok(Some(item));
-    }
-    Ok(None)
+    let item = glance(line)?;
+    let same = is_printed(line, &item);
+    if same { Some(item) } else { None }
 }
 
 /// Whether the bytes are the item's line as it is printed.
-fn is_printed(alloc: Global, line: &[u8], item: &Item) -> Result<bool, AllocError>
-    ensures same { IfOk result (λ same. IsTrue same ↔ (line.now ≡ json_line item.now)) }
-    ensures again { OnOk result (IsJsonLineOf (json_line item.now) item.now) }
+fn is_printed(line: &[u8], item: &Item) -> bool
+    ensures same { IsTrue result ↔ (line.now ≡ json_line item.now) }
+    ensures fits { FitsItem item.now }
+    ensures again { IsJsonLineOf (json_line item.now) item.now }
 {
-    let printed = line_of(alloc, item)?;
-    Ok(line == printed.as_slice())
+    let mut printed = LineBuf::new();
+    print_object(item, &mut printed);
+    line == printed.as_slice()
 }
 
 /// The item's line as a history prints it, with its line feed.

@@ -1,12 +1,12 @@
 // The texts that members are.
-ghost use Rattle.std.specs.Prelude.{◌≡◌, ◌≤◌, IsUtf8, drop, length};
+ghost use Rattle.std.specs.Prelude.{◌≡◌, IsUtf8};
 ghost use Rattle.history_text.specs.Words.{node_text, session_text, actor_text, stage_text, store_text};
 ghost use Rattle.history_text.specs.CauseText.{cause_text};
 ghost use Rattle.history_text.specs.StepText.{step_text};
 ghost use Rattle.history_text.specs.Text.{ending_text};
 
-use history_book::{Actor, Cause, Ending, Item, StoreStep};
-use history_text::{LineBuf, print_body};
+use history_book::{Actor, Cause, Ending, StoreStep};
+use history_text::{LineBuf, push_cause, push_step};
 use stamp_base::{Name, NodeNo, SessionNo, Stage, Store, Value};
 use std::str;
 
@@ -100,56 +100,34 @@ pub fn ending_name(how: Ending) -> &'static str
     }
 }
 
-#[tactic(auto, using(crate::proofs::Utf8Lemmas::value_utf8))]
+#[tactic(auto, using(crate::proofs::PlainLemmas::value_utf8))]
 pub fn value_text(value: &Value) -> &str
     ensures { result.now ≡ value.now }
 {
     text_of(value.as_slice())
 }
 
-#[tactic(auto, using(crate::proofs::Utf8Lemmas::name_utf8))]
+#[tactic(auto, using(crate::proofs::PlainLemmas::name_utf8))]
 pub fn name_text(name: &Name) -> &str
     ensures { result.now ≡ name.now }
 {
     text_of(name.as_slice())
 }
 
-/// Where a step's words begin in its line.
-pub const STEP_AT: usize = 11;
-
-/// A line of the step, with its words at the end.
+/// A line of the step's text.
 pub fn step_line(what: StoreStep) -> LineBuf
-    ensures words { drop 11 result ≡ step_text what }
-    ensures utf8 { IsUtf8 (step_text what) }
-    ensures len { 11 ≤ length result }
+    ensures { result ≡ step_text what }
 {
     let mut line = LineBuf::new();
-    print_body(
-        &Item::Step {
-            actor: Actor::Clock,
-            what,
-        },
-        &mut line,
-    );
+    push_step(what, &mut line);
     line
 }
 
-/// Where a cause's words begin in its line.
-pub const CAUSE_AT: usize = 14;
-
-/// A line of a refusal with this cause, with its words at the end.
+/// A line of the cause's text.
 pub fn cause_line(cause: Cause) -> LineBuf
-    ensures words { drop 14 result ≡ cause_text cause }
-    ensures utf8 { IsUtf8 (cause_text cause) }
-    ensures len { 14 ≤ length result }
+    ensures { result ≡ cause_text cause }
 {
     let mut line = LineBuf::new();
-    print_body(
-        &Item::Refused {
-            actor: Actor::Clock,
-            cause,
-        },
-        &mut line,
-    );
+    push_cause(cause, &mut line);
     line
 }

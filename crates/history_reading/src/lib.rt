@@ -7,4 +7,7 @@ mod reading;
 
 pub use history::{HistoryFault, cut_line};
 pub use laws::texts_differ;
-pub use reading::read_item;
+pub use reading::{
+    actor, after, cause, ending, field, is_word, key_of, letter, name, node_of, number, read_item,
+    session_of, stage, stamp_of, step, store, term_of, two_fields, value,
+};

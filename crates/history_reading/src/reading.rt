@@ -13,12 +13,20 @@ mod steps;
 mod words;
 
 use actors::actor_kind;
+pub use actors::{stage, store};
+pub use causes::cause;
 use history_book::Item;
 use history_text::{LineBuf, print_body};
 use nodes::node_kind;
 use requests::request_kind;
+pub use sessions::ending;
 use sessions::session_kind;
+pub use steps::step;
 use words::split_word;
+pub use words::{
+    actor, after, field, is_word, key_of, letter, name, node_of, number, session_of, stamp_of,
+    term_of, two_fields, value,
+};
 
 /// The item whose line, without its line feed, the bytes are. It takes no memory.
 pub fn read_item(line: &[u8]) -> Option<Item>

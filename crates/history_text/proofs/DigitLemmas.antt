@@ -1,5 +1,5 @@
 -- How many digits a number has.
-use Rattle.std.proofs.Common.{◌≡◌, ℕ, ◌+◌, ◌/◌, ◌%◌, ◌<◌, ◌≤◌, ◌^◌, [], ◌∷◌, length, length-append, ap, ◌∙◌, arith}
+use Rattle.std.proofs.Common.{◌≡◌, ℕ, ◌+◌, ◌/◌, ◌%◌, ◌<◌, ◌≤◌, ◌^◌, List, [], ◌∷◌, ◌++◌, length, length-append, ap, ◌∙◌, arith}
 use Rattle.std.specs.Prelude.{decimal}
 use Rattle.std.proofs.lemmas.Fmt.{decimal_digit, decimal_step, length-decimal-le}
 
@@ -30,3 +30,7 @@ four_more n high small =
 
 pub at_most_twenty : (n : ℕ) → n < 2 ^ 64 → length (decimal n) ≤ 20
 at_most_twenty n small = length-decimal-le 20 n (omega arith) (omega arith) small
+
+-- a name and a number of k digits at most
+pub short_name : (old new name : List ℕ) (n k : ℕ) → new ≡ old ++ (name ++ decimal n) → length (decimal n) ≤ k → length new ≤ length old + length name + k
+short_name old new name n k is few = omega (arith, ap length is, length-append old (name ++ decimal n), length-append name (decimal n), few)

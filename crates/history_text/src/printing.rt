@@ -9,13 +9,17 @@ mod words;
 
 use crate::line::LineBuf;
 use causes::print_refused;
+pub use causes::push_cause;
 use history_book::Item;
+pub use kinds::push_ending;
 use kinds::{
     print_accept, print_ask_begin, print_ask_commit, print_begin, print_committed, print_crash,
     print_draw, print_end, print_extend, print_fault, print_mark, print_note, print_placed,
     print_read, print_renew, print_take, print_vanish, print_write,
 };
 use steps::print_step;
+pub use steps::push_step;
+pub use words::{push_actor, push_key, push_node, push_session, push_stage, push_store};
 
 /// Leaves the item's line in the buffer, and nothing else.
 pub fn print_item(item: &Item, line: &mut LineBuf)

@@ -1,5 +1,5 @@
 -- One log among the entries of all is that of an actor, and the others are of other actors.
-use Rattle.std.proofs.Common.{◌≡◌, ℕ, zero, suc, ◌<◌, true, false, List, [], ◌∷◌, ◌++◌, length, inl, inr, refl, sym, subst, arith}
+use Rattle.std.proofs.Common.{◌≡◌, ◌∙◌, ℕ, zero, suc, ◌<◌, true, false, List, [], ◌∷◌, ◌++◌, length, inl, inr, refl, sym, subst, arith}
 use Rattle.std.specs.Prelude.{filter, slice_index_or}
 use Rattle.std.specs.List.{Contains}
 use Rattle.std.specs.List.Sorted.{IsPermutation}
@@ -18,10 +18,12 @@ use Rattle.split_stores.specs.declared.seat.Entry.{Entry}
 use Rattle.split_stores.specs.Logs.{Logged, ticks_of, rises_above}
 use Rattle.split_stores.specs.Merging.{logs_of, InTickOrder}
 use Rattle.log_refinement.specs.Laws.{AllRise}
+use Rattle.log_refinement.specs.Follows.{is_own}
 use Rattle.log_refinement.specs.Owed.{first_standing}
 use Rattle.log_refinement.proofs.ActorList.{Once, once_actors, there_with, gone_without, no_own_lines}
-use Rattle.log_refinement.proofs.OpeningLogs.{FollowsOpened, OpenedLines, AllOpened}
-use Rattle.log_refinement.proofs.OtherLogs.{IsOther, own_lines, others_log}
+use Rattle.log_refinement.proofs.OpeningLogs.{FollowsOpened, OpenedLines, LogOf, AllOpened}
+use Rattle.log_refinement.proofs.ShownRequests.{IsApart, log_serves, no_own_line, no_stage_line}
+use Rattle.log_refinement.proofs.OtherLogs.{own_lines, others_log}
 use Rattle.log_refinement.proofs.Weaving.{Woven, Rises, Among, counts_of, rises_of, woven}
 
 -- ---- the entries of all logs in another order
@@ -46,13 +48,16 @@ pub record OwnLog (script : ScriptData) (actor : Actor) (es : List Entry) : Type
   pub entries : List Entry
   pub follows : OpenedLines script.lines actor entries
   pub rises : Rises 1 entries
-  pub among : Among (λ e. IsOther script.setup actor e.event) entries es
+  pub among : Among (λ e. IsApart script actor e.event) entries es
 
 -- ---- logs of other actors
-one_other : (script : ScriptData) (who actor : Actor) (log : Logged) → AreLinesOf script.setup script.lines → (who ≡ actor → ⊥) → OpenedLines script.lines who log.entries → (x : Entry) → x ∈ log.entries → IsOther script.setup actor x.event
-one_other script who actor log of_script differs follows x m = others_log script.setup who actor first_standing (filter (is_of who) script.lines) log.entries differs (own_lines script.setup who script.lines of_script) follows x m
+one_other : (script : ScriptData) (who actor : Actor) (log : Logged) → AreLinesOf script.setup script.lines → (who ≡ actor → ⊥) → LogOf script.lines who log.entries → (x : Entry) → x ∈ log.entries → IsApart script actor x.event
+one_other script who actor log of_script differs follows x m = (
+  others_log script.setup who actor first_standing (filter (is_of who) script.lines) log.entries differs (own_lines script.setup who script.lines of_script) follows.opened x m,
+  λ s own none. log_serves s who first_standing (filter (is_own who) script.lines) log.entries (λ same. differs (same ∙ sym own)) (no_own_line s (is_own who) script.lines (no_stage_line script s none)) follows.whole x m,
+)
 
-all_other : (script : ScriptData) (actor : Actor) (actors : List Actor) (logs : List Logged) → AreLinesOf script.setup script.lines → AllOpened script actors logs → (actor ∈ actors → ⊥) → (x : Entry) → x ∈ logs_of logs → IsOther script.setup actor x.event
+all_other : (script : ScriptData) (actor : Actor) (actors : List Actor) (logs : List Logged) → AreLinesOf script.setup script.lines → AllOpened script actors logs → (actor ∈ actors → ⊥) → (x : Entry) → x ∈ logs_of logs → IsApart script actor x.event
 unfolding ◌∈◌
 all_other script actor [] [] of_script follow not x m = absurd m
 all_other script actor [] (log ∷ logs) of_script follow not x m = absurd follow
@@ -63,10 +68,10 @@ all_other script actor (who ∷ actors) (log ∷ logs) of_script follow not x m 
 ]
 
 -- ---- the log of an actor that is there
-log_here : (script : ScriptData) (actor : Actor) (log : Logged) (actors : List Actor) (logs : List Logged) → AreLinesOf script.setup script.lines → OpenedLines script.lines actor log.entries → rises_above 0 (ticks_of log.entries) ≡ true → AllOpened script actors logs → (actor ∈ actors → ⊥) → OwnLog script actor (log.entries ++ logs_of logs)
+log_here : (script : ScriptData) (actor : Actor) (log : Logged) (actors : List Actor) (logs : List Logged) → AreLinesOf script.setup script.lines → LogOf script.lines actor log.entries → rises_above 0 (ticks_of log.entries) ≡ true → AllOpened script actors logs → (actor ∈ actors → ⊥) → OwnLog script actor (log.entries ++ logs_of logs)
 log_here script actor log actors logs of_script follows rise follow not = record {
   entries = log.entries;
-  follows = follows;
+  follows = follows.opened;
   rises = rises_of 0 log.entries rise;
   among = record {
     inside = λ x m. in_front x log.entries (logs_of logs) m;
@@ -74,7 +79,7 @@ log_here script actor log actors logs of_script follows rise follow not = record
   };
 }
 
-log_later : (script : ScriptData) (who actor : Actor) (log : Logged) (logs : List Logged) → AreLinesOf script.setup script.lines → (who ≡ actor → ⊥) → OpenedLines script.lines who log.entries → OwnLog script actor (logs_of logs) → OwnLog script actor (log.entries ++ logs_of logs)
+log_later : (script : ScriptData) (who actor : Actor) (log : Logged) (logs : List Logged) → AreLinesOf script.setup script.lines → (who ≡ actor → ⊥) → LogOf script.lines who log.entries → OwnLog script actor (logs_of logs) → OwnLog script actor (log.entries ++ logs_of logs)
 log_later script who actor log logs of_script differs follows k = record {
   entries = k.entries;
   follows = k.follows;
@@ -90,7 +95,7 @@ unfolding ◌∈◌ Once
 log_there script actor [] logs of_script once follow rise m = absurd m
 log_there script actor (who ∷ actors) [] of_script once follow rise m = absurd follow
 log_there script actor (who ∷ actors) (log ∷ logs) of_script once follow rise (inl same) =
-    let follows : OpenedLines script.lines actor log.entries = subst (λ (a : Actor). OpenedLines script.lines a log.entries) (sym same) follow.0 in
+    let follows : LogOf script.lines actor log.entries = subst (λ (a : Actor). LogOf script.lines a log.entries) (sym same) follow.0 in
     let up : rises_above 0 (ticks_of log.entries) ≡ true = All-head (λ (l : Logged). rises_above 0 (ticks_of l.entries) ≡ true) log logs rise in
     log_here script actor log actors logs of_script follows up follow.1 (λ n. once.0 (subst (λ (a : Actor). a ∈ actors) same n))
 log_there script actor (who ∷ actors) (log ∷ logs) of_script once follow rise (inr m) =
@@ -118,13 +123,13 @@ own_log script actor logs of_script follow rise = elim (cases_Bool (has_lines sc
 pub record WovenLog (script : ScriptData) (actor : Actor) (merged : List Entry) : Type 0 where
   pub entries : List Entry
   pub follows : OpenedLines script.lines actor entries
-  pub woven : Woven (λ e. IsOther script.setup actor e.event) entries merged
+  pub woven : Woven (λ e. IsApart script actor e.event) entries merged
 
 pub woven_log : (script : ScriptData) (actor : Actor) (logs : List Logged) (merged : List Entry) → AreLinesOf script.setup script.lines → AllOpened script (actors_of script) logs → AllRise logs → InTickOrder (logs_of logs) merged → WovenLog script actor merged
 woven_log script actor logs merged of_script follow rise order =
     let k : OwnLog script actor (logs_of logs) = own_log script actor logs of_script follow rise in
-    let among : Among (λ e. IsOther script.setup actor e.event) k.entries merged = record {
+    let among : Among (λ e. IsApart script actor e.event) k.entries merged = record {
       inside = λ x m. moved (logs_of logs) merged x order.all (k.among.inside x m);
       others = λ x m. k.among.others x (moved merged (logs_of logs) x (IsPermutation-sym (logs_of logs) merged order.all) m);
     } in
-    record { entries = k.entries; follows = k.follows; woven = woven (λ e. IsOther script.setup actor e.event) 1 k.entries merged (counts_of 1 merged order.ticks) k.rises among }
+    record { entries = k.entries; follows = k.follows; woven = woven (λ e. IsApart script actor e.event) 1 k.entries merged (counts_of 1 merged order.ticks) k.rises among }

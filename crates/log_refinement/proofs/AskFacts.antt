@@ -23,8 +23,9 @@ use Rattle.request_completion.specs.Overs.{OverStaysOver, ClosedAsksAreOver}
 use Rattle.request_completion.specs.Silences.{LostAsksAreOver, SilentAnswersRepeat}
 use Rattle.request_completion.specs.SessionTransitions.{SessionsTakeTurns, BeginsAreAsked, AsksAreTurns}
 use Rattle.log_refinement.specs.declared.owed.Owed.{Owed}
+use Rattle.log_refinement.specs.declared.owed.Owed.TheVariants.{Denied}
 use Rattle.log_refinement.specs.Owed.{leaves_cells, leaves_nothing, denies_request, is_lost, fails_record}
-use Rattle.log_refinement.specs.Served.{IsLeft}
+use Rattle.log_refinement.specs.Served.{WasDenied, HasCome}
 use Rattle.log_refinement.proofs.Moves.{items_of, state_after, history_after, AskMove}
 use Rattle.log_refinement.proofs.SinceAsk.{IsSince, none_asks}
 
@@ -68,8 +69,9 @@ pub if_either : (P : Owed → Type 0) (b : Bool) (x y : Owed) → (b ≡ true �
 if_either P true x y yes_is no_is = yes_is refl
 if_either P false x y yes_is no_is = no_is refl
 
-pub denied : (s : ℕ) (why : Cause) → denies_request (Session s) why ≡ true → why ≡ cause.NoRequest s
-denied s (cause.NoRequest session) is = ap (λ (q : ℕ). cause.NoRequest q) (eqb-true session s is)
+pub denied : (s : ℕ) (x : Item) → denies_request (Session s) x ≡ true → (who : Actor) × (x ≡ item.Refused who (cause.NoRequest s))
+denied s (item.Refused who (cause.NoRequest session)) is = (who, ap (λ (q : ℕ). item.Refused who (cause.NoRequest q)) (eqb-true session s is))
+denied s (item.Refused who _) is = absurd (cc)
 denied s _ is = absurd (cc)
 
 pub lost_is : (n : ℕ) (why : Cause) → is_lost n why ≡ true → why ≡ cause.NoOracle n
@@ -107,11 +109,17 @@ pub crashing_closes : (n s node term : ℕ) → closes n s (item.Refused (Sessio
 crashing_closes n s node term = rw (same_self s) refl
 
 -- ---- the session could not drive its ask
-pub left_by_denial : (s n : ℕ) (since items : List Item) (who : Actor) (why : Cause) → item.Refused who why ∈ items → denies_request (Session s) why ≡ true → IsLeft s n (since ++ items)
-left_by_denial s n since items who why m is = inl (who, in_back _ since items (subst (λ (q : Cause). item.Refused who q ∈ items) (denied s why is) m))
+pub was_denied : (s : ℕ) (since items : List Item) (x : Item) → x ∈ items → denies_request (Session s) x ≡ true → WasDenied s (since ++ items)
+was_denied s since items x m is =
+    let k = denied s x is in
+    (k.0, in_back _ since items (subst (λ (y : Item). y ∈ items) k.1 m))
 
-pub left_by_fault : (s n : ℕ) (since items : List Item) (who : Actor) (store : Store) → item.Fault who store ∈ items → fails_record n who store ≡ true → IsLeft s n (since ++ items)
-left_by_fault s n since items who store m is =
+pub failed_at : (n : ℕ) (since items : List Item) (who : Actor) (store : Store) → item.Fault who store ∈ items → fails_record n who store ≡ true → item.Fault (Node n) Master ∈ (since ++ items)
+failed_at n since items who store m is =
     let k : (who ≡ Node n) × (store ≡ Master) = failed_is n who store is in
     let at : item.Fault (Node n) Master ∈ items = subst (λ (a : Actor). item.Fault a Master ∈ items) k.0 (subst (λ (t : Store). item.Fault who t ∈ items) k.1 m) in
-    inr (in_back (item.Fault (Node n) Master) since items at)
+    in_back (item.Fault (Node n) Master) since items at
+
+-- what an ask has ended by, once this is owed and nothing more
+abbrev pub EndsBy : List Item → ℕ → Ask → List Item → Owed → Type 0
+EndsBy h s ask since owed = ((owed ≡ Denied) × WasDenied s since) ⊎ (item.Fault (Node ask.node) Master ∈ since) ⊎ HasCome h s ask since

@@ -1,5 +1,5 @@
 -- An ask and what has come of it, from its item to the next line of its session.
-use Rattle.std.proofs.Common.{◌≡◌, ℕ, ◌<◌, Bool, true, if◌then◌else◌, List, [], ◌∷◌, ◌++◌, Option, None, Some, ◌⊎◌, inl, inr, refl, sym, ◌∙◌, ap, subst, arith, length}
+use Rattle.std.proofs.Common.{◌≡◌, ℕ, ◌<◌, Bool, true, if◌then◌else◌, List, [], ◌∷◌, ◌++◌, Option, None, Some, inl, inr, refl, sym, ◌∙◌, ap, subst, arith, length}
 use Rattle.std.specs.Prelude.{slice_get}
 use Rattle.std.specs.Option.{option_or}
 use Rattle.std.proofs.lemmas.List.{append-nil}
@@ -25,11 +25,11 @@ use Rattle.command_semantics.proofs.AlwaysFit.{Fit, found}
 use Rattle.command_semantics.proofs.Walks.{AllNot}
 use Rattle.request_completion.specs.Ends.{Ends}
 use Rattle.request_completion.specs.Silences.{WasTold}
+use Rattle.log_refinement.specs.declared.owed.Due.TheVariants as due
 use Rattle.log_refinement.specs.declared.owed.Owed.{Owed}
 use Rattle.log_refinement.specs.declared.owed.Owed.TheVariants.{Nothing, Answer}
 use Rattle.log_refinement.specs.Owed.{Standing, with_items, is_paid}
-use Rattle.log_refinement.specs.Served.{IsLeft, HasCome}
-use Rattle.log_refinement.proofs.AskFacts.{MachineLaws, Passed, same_self}
+use Rattle.log_refinement.proofs.AskFacts.{MachineLaws, Passed, same_self, EndsBy}
 use Rattle.log_refinement.proofs.BeginAsks.{NoCommitted, begin_ask, tells_no_commit, BeginComes, begin_later, begin_items, begin_ended}
 use Rattle.log_refinement.proofs.CommitAsks.{CommitAsk, Place, PlaceBefore, PlaceBehind, place_later, keys_same, CommitComes, commit_later}
 use Rattle.log_refinement.proofs.CommitItems.{OwnEvent, Own, HasKeys, commit_items, commit_ended}
@@ -222,7 +222,7 @@ begin_asks s n = ap (λ (b : Bool). if b then Some (begin_ask n) else None) (sam
 commit_asks : (s n t : ℕ) → ask_by s (item.AskCommit s n t) ≡ Some (commit_ask n t)
 commit_asks s n t = ap (λ (b : Bool). if b then Some (commit_ask n t) else None) (same_self s)
 
-pub begin_first : (s n : ℕ) (h : List Item) → BeginStands s n (h ++ item.AskBegin s n ∷ []) [] (Answer n)
+pub begin_first : (s n : ℕ) (h : List Item) → BeginStands s n (h ++ item.AskBegin s n ∷ []) [] (Answer n due.Accept)
 unfolding ◌∈◌
 begin_first s n h = record {
   upto = h ++ item.AskBegin s n ∷ [];
@@ -242,7 +242,7 @@ pub record CommitAsked (s n t : ℕ) (w v : State) (h : List Item) (c d : Client
   pub old : c.entry.start ≡ Some t
   pub new : d.entry.start ≡ Some t
 
-pub commit_first : (s n t : ℕ) (w v : State) (h : List Item) (c d : Client) (st : Standing) → CommitAsked s n t w v h c d → KeysKept (Session s) w st.written → st.owed ≡ Answer n → CommitStands s n t v (h ++ item.AskCommit s n t ∷ []) [] st
+pub commit_first : (s n t : ℕ) (w v : State) (h : List Item) (c d : Client) (st : Standing) → CommitAsked s n t w v h c d → KeysKept (Session s) w st.written → st.owed ≡ Answer n due.Accept → CommitStands s n t v (h ++ item.AskCommit s n t ∷ []) [] st
 unfolding ◌∈◌
 commit_first s n t w v h c d st asks kept owed = record {
   before = h;
@@ -262,6 +262,6 @@ commit_first s n t w v h c d st asks kept owed = record {
 }
 
 -- ---- once nothing is owed
-pub ask_ended : (s n : ℕ) (start : Option ℕ) (w : State) (h since : List Item) (st : Standing) → AskStands s n start w h since st → is_paid st ≡ true → IsLeft s n since ⊎ HasCome h s (record { node = n; start = start }) since
+pub ask_ended : (s n : ℕ) (start : Option ℕ) (w : State) (h since : List Item) (st : Standing) → AskStands s n start w h since st → is_paid st ≡ true → EndsBy h s (record { node = n; start = start }) since st.owed
 ask_ended s n None w h since st stands paid = begin_ended s n h since st.owed st.unerased stands.none stands.comes paid
 ask_ended s n (Some t) w h since st stands paid = commit_ended s (commit_at n t stands.before) w h since stands.c st.unerased st.owed stands.place stands.comes paid

@@ -1,10 +1,11 @@
 -- What the ask of a begin has come to, by what its actor's log owes of it.
-use Rattle.std.proofs.Common.{◌≡◌, ℕ, ◌==◌, Bool, true, false, ◌&&◌, if◌then◌else◌, List, [], ◌∷◌, ◌++◌, None, Some, ◌⊎◌, inl, inr, refl, sym, ◌∙◌, ap, subst}
+use Rattle.std.proofs.Common.{◌≡◌, ℕ, ◌==◌, Bool, true, false, ◌&&◌, if◌then◌else◌, List, [], ◌∷◌, None, Some, ◌⊎◌, inl, inr, refl, sym, ◌∙◌, ap, subst}
 use Rattle.std.proofs.lemmas.Option.{same_Some, none-some}
 use Rattle.history_book.specs.Members.{◌∈◌}
 use Rattle.history_book.specs.declared.cause.Cause.{Cause}
 use Rattle.history_book.specs.declared.item.Actor.{Actor}
-use Rattle.history_book.specs.declared.item.Actor.TheVariants.{Session}
+use Rattle.stamp_base.specs.declared.stores.Store.TheVariants.{Master}
+use Rattle.history_book.specs.declared.item.Actor.TheVariants.{Node, Session}
 use Rattle.history_book.specs.declared.item.Item.{Item}
 use Rattle.history_book.specs.declared.item.Item.TheVariants as item
 use Rattle.history_book.proofs.MemberLemmas.{in_back, in_front, in_push}
@@ -15,11 +16,12 @@ use Rattle.cause_rules.specs.OpenAsks.{closes, open_asks_of}
 use Rattle.command_semantics.specs.Answers.{same_actor}
 use Rattle.command_semantics.proofs.ScriptWalks.{actor_same}
 use Rattle.request_completion.specs.SessionTransitions.{NoneEnds, EndsWith, IsAsked, SessionTransition, Rests, AsksBegin, AsksCommit, Begins, LosesBegin, Writes, Frees, Undoes, Hands, Commits, Refuses, LeavesOpen, Vanishes, IsGone}
+use Rattle.log_refinement.specs.declared.owed.Due.{Due}
 use Rattle.log_refinement.specs.declared.owed.Owed.{Owed}
-use Rattle.log_refinement.specs.declared.owed.Owed.TheVariants.{Nothing, Read, Answer, Removal, Erasure, Quiet}
-use Rattle.log_refinement.specs.Owed.{leaves_cells, leaves_nothing, after_own_refusal, denies_request, is_lost, after_refusal, fails_record, after_asking, ends_completion, removes, is_idle, owed_after, Standing, with_item, with_items, is_settled}
-use Rattle.log_refinement.specs.Served.{IsOver, IsLeft, HasCome}
-use Rattle.log_refinement.proofs.AskFacts.{MachineLaws, Passed, stays_over, closes_ask, loses_ask, if_either, lost_is, nothing_left, leaving_closes, opening_closes, crashing_closes, left_by_denial, left_by_fault}
+use Rattle.log_refinement.specs.declared.owed.Owed.TheVariants.{Nothing, Read, Answer, Denied, Removal, Erasure, Quiet}
+use Rattle.log_refinement.specs.Owed.{leaves_cells, leaves_nothing, after_own_refusal, is_lost, after_refusal, fails_record, after_asking, ends_completion, removes, is_idle, owed_after, Standing, with_item, with_items, is_settled}
+use Rattle.log_refinement.specs.Served.{IsOver, WasDenied}
+use Rattle.log_refinement.proofs.AskFacts.{MachineLaws, Passed, stays_over, closes_ask, loses_ask, if_either, lost_is, nothing_left, leaving_closes, opening_closes, crashing_closes, failed_at, EndsBy}
 use Rattle.log_refinement.proofs.ItemLists.{in_split}
 use Rattle.log_refinement.proofs.Moves.{items_of, history_after, AskMove, since_after}
 use Rattle.log_refinement.proofs.SinceAsk.{asked_now, stays_there}
@@ -79,69 +81,65 @@ tells_no_commit laws n upto a k =
 
 -- ---- what is owed, and what has come
 abbrev pub BeginComes : ℕ → ℕ → List Item → List Item → Owed → Type 0
-BeginComes s n h since Nothing = IsLeft s n since ⊎ IsOver h s n since
+BeginComes s n h since Nothing = (item.Fault (Node n) Master ∈ since) ⊎ IsOver h s n since
 BeginComes s n h since (Read key) = ⊥
-BeginComes s n h since (Answer asked) = asked ≡ n
+BeginComes s n h since (Answer asked d) = asked ≡ n
+BeginComes s n h since Denied = WasDenied s since
 BeginComes s n h since (Removal start) = open_asks_of h n s ≡ 0
 BeginComes s n h since Erasure = open_asks_of h n s ≡ 0
 BeginComes s n h since Quiet = open_asks_of h n s ≡ 0
 
 -- one event later
-left_later : (s n : ℕ) (since items : List Item) → IsLeft s n since → IsLeft s n (since ++ items)
-left_later s n since items (inl k) = inl (k.0, in_front _ since items k.1)
-left_later s n since items (inr k) = inr (in_front _ since items k)
-
 -- what has come of the ask behind the event
 abbrev pub BeginBehind : ℕ → AskMove → Owed → Type 0
 BeginBehind n a owed = BeginComes a.session n (history_after a.move) (since_after a) owed
 
 pub begin_later : MachineLaws → (n : ℕ) (upto : List Item) (a : AskMove) (owed : Owed) → Passed (begin_ask n) upto a → BeginComes a.session n a.move.history a.since owed → BeginBehind n a owed
-begin_later laws n upto a Nothing k (inl left) = inl (left_later a.session n a.since (items_of a.move) left)
+begin_later laws n upto a Nothing k (inl failed) = inl (in_front _ a.since (items_of a.move) failed)
 begin_later laws n upto a Nothing k (inr (inl over)) = inr (inl (stays_over laws (begin_ask n) upto a k over))
 begin_later laws n upto a Nothing k (inr (inr told)) = inr (inr (told.0, in_front _ a.since (items_of a.move) told.1))
 begin_later laws n upto a (Read key) k comes = absurd comes
-begin_later laws n upto a (Answer asked) k comes = comes
+begin_later laws n upto a (Answer asked d) k comes = comes
+begin_later laws n upto a Denied k comes = (comes.0, in_front _ a.since (items_of a.move) comes.1)
 begin_later laws n upto a (Removal start) k comes = stays_over laws (begin_ask n) upto a k comes
 begin_later laws n upto a Erasure k comes = stays_over laws (begin_ask n) upto a k comes
 begin_later laws n upto a Quiet k comes = stays_over laws (begin_ask n) upto a k comes
 
 -- ---- one item of an own event
-own_refused : MachineLaws → (n : ℕ) (upto : List Item) (a : AskMove) (why : Cause) → Passed (begin_ask n) upto a → item.Refused (Session a.session) why ∈ items_of a.move → BeginBehind n a (after_own_refusal n why)
-own_refused laws n upto a why k m =
+own_refused : MachineLaws → (n : ℕ) (d : Due) (upto : List Item) (a : AskMove) (why : Cause) → Passed (begin_ask n) upto a → item.Refused (Session a.session) why ∈ items_of a.move → BeginBehind n a (after_own_refusal n d why)
+own_refused laws n d upto a why k m =
     let s : ℕ = a.session in
     let items : List Item = items_of a.move in
     let P : Owed → Type 0 = BeginBehind n a in
-    if_either P (leaves_cells why) Erasure (if leaves_nothing why then Nothing else Answer n)
+    if_either P (leaves_cells why) Erasure (if leaves_nothing why then Nothing else Answer n d)
     (λ leaves. closes_ask laws (begin_ask n) upto a (item.Refused (Session s) why) k m (leaving_closes n s why leaves))
-    (λ not. if_either P (leaves_nothing why) Nothing (Answer n) (λ nothing. elim (nothing_left why nothing) [
+    (λ not. if_either P (leaves_nothing why) Nothing (Answer n d) (λ nothing. elim (nothing_left why nothing) [
       | inl waits ↦ inr (inr (waits.0, in_back _ a.since items (subst (λ (q : Cause). item.Refused (Session s) q ∈ items) waits.1 m)))
       | inr (inl opens) ↦ inr (inl (closes_ask laws (begin_ask n) upto a (item.Refused (Session s) why) k m (ap (λ (q : Cause). closes n s (item.Refused (Session s) q)) opens.1 ∙ opening_closes n s opens.0)))
       | inr (inr lost) ↦ inr (inl (closes_ask laws (begin_ask n) upto a (item.Refused (Session s) why) k m (ap (λ (q : Cause). closes n s (item.Refused (Session s) q)) lost.2 ∙ crashing_closes n s lost.0 lost.1)))
     ]) (λ other. refl))
 
-any_refused : MachineLaws → (n : ℕ) (upto : List Item) (a : AskMove) (who : Actor) (why : Cause) → Passed (begin_ask n) upto a → item.Refused who why ∈ items_of a.move → BeginBehind n a (after_refusal (Session a.session) n who why)
-any_refused laws n upto a who why k m =
+any_refused : MachineLaws → (n : ℕ) (d : Due) (upto : List Item) (a : AskMove) (who : Actor) (why : Cause) → Passed (begin_ask n) upto a → item.Refused who why ∈ items_of a.move → BeginBehind n a (after_refusal (Session a.session) n d who why)
+any_refused laws n d upto a who why k m =
     let s : ℕ = a.session in
     let items : List Item = items_of a.move in
     let P : Owed → Type 0 = BeginBehind n a in
-    let own : Owed = if same_actor who (Session s) then after_own_refusal n why else Answer n in
-    if_either P (denies_request (Session s) why) Nothing (if is_lost n why then Quiet else own)
-    (λ denies. inl (left_by_denial s n a.since items who why m denies))
-    (λ not. if_either P (is_lost n why) Quiet own
+    let own : Owed = if same_actor who (Session s) then after_own_refusal n d why else Answer n d in
+    if_either P (is_lost n why) Quiet own
     (λ lost. loses_ask laws (begin_ask n) upto a who k (subst (λ (q : Cause). item.Refused who q ∈ items) (lost_is n why lost) m))
-    (λ there. if_either P (same_actor who (Session s)) (after_own_refusal n why) (Answer n)
-    (λ mine. own_refused laws n upto a why k (subst (λ (b : Actor). item.Refused b why ∈ items) (actor_same who (Session s) mine) m))
-    (λ other. refl)))
+    (λ there. if_either P (same_actor who (Session s)) (after_own_refusal n d why) (Answer n d)
+    (λ mine. own_refused laws n d upto a why k (subst (λ (b : Actor). item.Refused b why ∈ items) (actor_same who (Session s) mine) m))
+    (λ other. refl))
 
-begin_asking : MachineLaws → (n : ℕ) (upto : List Item) (a : AskMove) (x : Item) → Passed (begin_ask n) upto a → x ∈ items_of a.move → BeginBehind n a (after_asking (Session a.session) n x)
-begin_asking laws n upto a (item.Begin session start) k m =
-    if_either (BeginBehind n a) (session == a.session) Nothing (Answer n) (λ mine. inr (inl (closes_ask laws (begin_ask n) upto a (item.Begin session start) k m mine))) (λ other. refl)
-begin_asking laws n upto a (item.Committed session start commit) k m =
-    if_either (BeginBehind n a) (session == a.session) (Removal start) (Answer n) (λ mine. closes_ask laws (begin_ask n) upto a (item.Committed session start commit) k m mine) (λ other. refl)
-begin_asking laws n upto a (item.Refused who why) k m = any_refused laws n upto a who why k m
-begin_asking laws n upto a (item.Fault who store) k m =
-    if_either (BeginBehind n a) (fails_record n who store) Nothing (Answer n) (λ fails. inl (left_by_fault a.session n a.since (items_of a.move) who store m fails)) (λ other. refl)
-begin_asking laws n upto a _ k m = refl
+begin_asking : MachineLaws → (n : ℕ) (d : Due) (upto : List Item) (a : AskMove) (x : Item) → Passed (begin_ask n) upto a → x ∈ items_of a.move → BeginBehind n a (after_asking (Session a.session) n d x)
+begin_asking laws n d upto a (item.Begin session start) k m =
+    if_either (BeginBehind n a) (session == a.session) Nothing (Answer n d) (λ mine. inr (inl (closes_ask laws (begin_ask n) upto a (item.Begin session start) k m mine))) (λ other. refl)
+begin_asking laws n d upto a (item.Committed session start commit) k m =
+    if_either (BeginBehind n a) (session == a.session) (Removal start) (Answer n d) (λ mine. closes_ask laws (begin_ask n) upto a (item.Committed session start commit) k m mine) (λ other. refl)
+begin_asking laws n d upto a (item.Refused who why) k m = any_refused laws n d upto a who why k m
+begin_asking laws n d upto a (item.Fault who store) k m =
+    if_either (BeginBehind n a) (fails_record n who store) Nothing (Answer n d) (λ fails. inl (failed_at n a.since (items_of a.move) who store m fails)) (λ other. refl)
+begin_asking laws n d upto a _ k m = refl
 
 -- one that is over stays so, whatever is owed of its completion
 pays : (s n : ℕ) (h since : List Item) (paid : Bool) (owed : Owed) → open_asks_of h n s ≡ 0 → BeginComes s n h since owed → BeginComes s n h since (if paid then Nothing else owed)
@@ -151,7 +149,8 @@ pays s n h since false owed over comes = comes
 begin_item : MachineLaws → (n : ℕ) (upto : List Item) (a : AskMove) (steps : Bool) (owed : Owed) (x : Item) → Passed (begin_ask n) upto a → x ∈ items_of a.move → BeginBehind n a owed → BeginBehind n a (owed_after (Session a.session) steps owed x)
 begin_item laws n upto a steps Nothing x k m comes = comes
 begin_item laws n upto a steps (Read key) x k m comes = absurd comes
-begin_item laws n upto a steps (Answer asked) x k m comes = subst (λ (q : ℕ). BeginBehind n a (after_asking (Session a.session) q x)) (sym comes) (begin_asking laws n upto a x k m)
+begin_item laws n upto a steps (Answer asked d) x k m comes = subst (λ (q : ℕ). BeginBehind n a (after_asking (Session a.session) q d x)) (sym comes) (begin_asking laws n d upto a x k m)
+begin_item laws n upto a steps Denied x k m comes = comes
 begin_item laws n upto a steps (Removal start) x k m comes = pays a.session n (history_after a.move) (since_after a) (steps && removes (Session a.session) start x) (Removal start) comes comes
 begin_item laws n upto a steps Erasure x k m comes = pays a.session n (history_after a.move) (since_after a) (steps && ends_completion (Session a.session) x) Erasure comes comes
 begin_item laws n upto a steps Quiet x k m comes = pays a.session n (history_after a.move) (since_after a) (steps && is_idle (Session a.session) x) Quiet comes comes
@@ -165,19 +164,20 @@ begin_items laws n upto a steps st (x ∷ xs) k all comes =
     (begin_item laws n upto a steps st.owed x k (all x (inl refl)) comes)
 
 -- ---- once nothing is owed
-pub begin_ended : (s n : ℕ) (h since : List Item) (owed : Owed) (keys : List ℕ) → NoCommitted s since → BeginComes s n h since owed → is_settled owed keys ≡ true → IsLeft s n since ⊎ HasCome h s (begin_ask n) since
-begin_ended s n h since Nothing keys none (inl left) paid = inl left
-begin_ended s n h since Nothing keys none (inr over) paid = inr (record {
+pub begin_ended : (s n : ℕ) (h since : List Item) (owed : Owed) (keys : List ℕ) → NoCommitted s since → BeginComes s n h since owed → is_settled owed keys ≡ true → EndsBy h s (begin_ask n) since owed
+begin_ended s n h since Nothing keys none (inl failed) paid = inr (inl failed)
+begin_ended s n h since Denied keys none denied paid = inl (refl, denied)
+begin_ended s n h since Nothing keys none (inr over) paid = inr (inr (record {
   over = over;
   removed = λ before behind start commit is. absurd (none start commit (in_split since before behind (item.Committed s start commit) is));
   erased = tt;
-})
-begin_ended s n h since Erasure keys none over paid = inr (record {
+}))
+begin_ended s n h since Erasure keys none over paid = inr (inr (record {
   over = inl over;
   removed = λ before behind start commit is. absurd (none start commit (in_split since before behind (item.Committed s start commit) is));
   erased = tt;
-})
+}))
 begin_ended s n h since (Read key) keys none comes paid = absurd (cc)
-begin_ended s n h since (Answer asked) keys none comes paid = absurd (cc)
+begin_ended s n h since (Answer asked d) keys none comes paid = absurd (cc)
 begin_ended s n h since (Removal start) keys none comes paid = absurd (cc)
 begin_ended s n h since Quiet keys none comes paid = absurd (cc)

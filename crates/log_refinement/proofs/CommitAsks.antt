@@ -5,7 +5,8 @@ use Rattle.std.proofs.lemmas.Option.{same_Some}
 use Rattle.history_book.specs.Members.{◌∈◌}
 use Rattle.history_book.specs.declared.cause.Cause.{Cause}
 use Rattle.history_book.specs.declared.cause.Cause.TheVariants as cause
-use Rattle.history_book.specs.declared.item.Actor.TheVariants.{Session}
+use Rattle.stamp_base.specs.declared.stores.Store.TheVariants.{Master}
+use Rattle.history_book.specs.declared.item.Actor.TheVariants.{Node, Session}
 use Rattle.history_book.specs.declared.item.StoreStep.TheVariants as step
 use Rattle.history_book.specs.declared.item.Item.{Item}
 use Rattle.history_book.specs.declared.item.Item.TheVariants as item
@@ -29,9 +30,9 @@ use Rattle.command_semantics.proofs.Walks.{AllNot}
 use Rattle.request_completion.specs.Ends.{IsHeld, IsToAsk, HasVanished, Comes, Made, Failed, Vanished, Left, Ends}
 use Rattle.request_completion.specs.SessionTransitions.{EndsCommit, NoneEnds, SessionTransition}
 use Rattle.log_refinement.specs.declared.owed.Owed.{Owed}
-use Rattle.log_refinement.specs.declared.owed.Owed.TheVariants.{Nothing, Read, Answer, Removal, Erasure, Quiet}
+use Rattle.log_refinement.specs.declared.owed.Owed.TheVariants.{Nothing, Read, Answer, Denied, Removal, Erasure, Quiet}
 use Rattle.log_refinement.specs.Owed.{leaves_cells}
-use Rattle.log_refinement.specs.Served.{HasFailed, WasOpen, IsRemoved, IsErased, IsLeft}
+use Rattle.log_refinement.specs.Served.{HasFailed, WasOpen, IsRemoved, IsErased, WasDenied}
 use Rattle.log_refinement.proofs.AskFacts.{MachineLaws, Passed, stays_over}
 use Rattle.log_refinement.proofs.CommitTrails.{commit_ask, of_commit, after_open, IsUndone, Trail, not_begin, trail_next, leaves_ends, undone_turn, free_turn, NoLeaving, open_turn}
 use Rattle.log_refinement.proofs.ItemLists.{split_cases, in_split, none_append}
@@ -125,9 +126,10 @@ pub record Erasing (s t : ℕ) (h since : List Item) (c : Client) (keys : List �
   pub left : (key : ℕ) → key ∈ written_keys h t → (key ∈ keys) ⊎ (item.Step (Session s) (step.Erase key t) ∈ behind)
 
 abbrev pub CommitComes : ℕ → ℕ → ℕ → List Item → List Item → Client → List ℕ → Owed → Type 0
-CommitComes s n t h since c keys Nothing = IsLeft s n since ⊎ ((open_asks_of h n s ≡ 0) × Settled s t h since c)
+CommitComes s n t h since c keys Nothing = (item.Fault (Node n) Master ∈ since) ⊎ ((open_asks_of h n s ≡ 0) × Settled s t h since c)
 CommitComes s n t h since c keys (Read key) = ⊥
-CommitComes s n t h since c keys (Answer asked) = asked ≡ n
+CommitComes s n t h since c keys (Answer asked d) = asked ≡ n
+CommitComes s n t h since c keys Denied = WasDenied s since
 CommitComes s n t h since c keys (Removal start) = open_asks_of h n s ≡ 0
 CommitComes s n t h since c keys Erasure = (open_asks_of h n s ≡ 0) × Erasing s t h since c keys
 CommitComes s n t h since c keys Quiet = open_asks_of h n s ≡ 0
@@ -200,19 +202,16 @@ erasing_later laws ask a keys k l none erasing =
       ];
     }
 
-left_later : (s n : ℕ) (since items : List Item) → IsLeft s n since → IsLeft s n (since ++ items)
-left_later s n since items (inl k) = inl (k.0, in_front _ since items k.1)
-left_later s n since items (inr k) = inr (in_front _ since items k)
-
 over_later : MachineLaws → (ask : CommitAsk) (a : AskMove) → PlaceBefore ask a → PlaceBehind ask a → AllNot (Session a.session) (items_of a.move) → open_asks_of a.move.history ask.node a.session ≡ 0 → open_asks_of (history_after a.move) ask.node a.session ≡ 0
 over_later laws ask a k l none over = stays_over laws (ask_of ask) _ a (passed_of ask a k l none) over
 
 pub commit_later : MachineLaws → (ask : CommitAsk) (a : AskMove) (keys : List ℕ) (owed : Owed) → PlaceBefore ask a → PlaceBehind ask a → AllNot (Session a.session) (items_of a.move) →
     CommitComes a.session ask.node ask.start a.move.history a.since a.client keys owed → CommitComes a.session ask.node ask.start (history_after a.move) (since_after a) a.next keys owed
-commit_later laws ask a keys Nothing k l none (inl left) = inl (left_later a.session ask.node a.since (items_of a.move) left)
+commit_later laws ask a keys Nothing k l none (inl failed) = inl (in_front _ a.since (items_of a.move) failed)
 commit_later laws ask a keys Nothing k l none (inr over) = inr (over_later laws ask a k l none over.0, settled_later laws ask a k l none over.1)
 commit_later laws ask a keys (Read key) k l none comes = absurd comes
-commit_later laws ask a keys (Answer asked) k l none comes = comes
+commit_later laws ask a keys (Answer asked d) k l none comes = comes
+commit_later laws ask a keys Denied k l none comes = (comes.0, in_front _ a.since (items_of a.move) comes.1)
 commit_later laws ask a keys (Removal start) k l none comes = over_later laws ask a k l none comes
 commit_later laws ask a keys Erasure k l none comes = (over_later laws ask a k l none comes.0, erasing_later laws ask a keys k l none comes.1)
 commit_later laws ask a keys Quiet k l none comes = over_later laws ask a k l none comes

@@ -22,11 +22,12 @@ use Rattle.command_semantics.proofs.ScriptWalks.{actor_same}
 use Rattle.command_semantics.proofs.Walks.{AllNot}
 use Rattle.request_completion.specs.Closings.{Owes}
 use Rattle.request_completion.specs.SessionTransitions.{EndsCommit, OfBegin, SessionTransition}
+use Rattle.log_refinement.specs.declared.owed.Due.{Due}
 use Rattle.log_refinement.specs.declared.owed.Owed.{Owed}
-use Rattle.log_refinement.specs.declared.owed.Owed.TheVariants.{Nothing, Read, Answer, Removal, Erasure, Quiet}
-use Rattle.log_refinement.specs.Owed.{leaves_cells, leaves_nothing, after_own_refusal, denies_request, is_lost, after_refusal, fails_record, after_asking, ends_completion, removes, is_idle, owed_after, written_after, without_key, unerased_after, Standing, with_item, with_items, is_nil, is_settled}
-use Rattle.log_refinement.specs.Served.{IsLeft, HasCome}
-use Rattle.log_refinement.proofs.AskFacts.{MachineLaws, Passed, closes_ask, loses_ask, if_either, lost_is, nothing_left, leaving_closes, opening_closes, left_by_denial, left_by_fault}
+use Rattle.log_refinement.specs.declared.owed.Owed.TheVariants.{Nothing, Read, Answer, Denied, Removal, Erasure, Quiet}
+use Rattle.log_refinement.specs.Owed.{leaves_cells, leaves_nothing, after_own_refusal, is_lost, after_refusal, fails_record, after_asking, ends_completion, removes, is_idle, owed_after, written_after, without_key, unerased_after, Standing, with_item, with_items, is_nil, is_settled}
+use Rattle.log_refinement.specs.Served.{HasCome}
+use Rattle.log_refinement.proofs.AskFacts.{MachineLaws, Passed, closes_ask, loses_ask, if_either, lost_is, nothing_left, leaving_closes, opening_closes, failed_at, EndsBy}
 use Rattle.log_refinement.proofs.CommitAsks.{CommitAsk, ask_of, asked_upto, Place, PlaceBefore, PlaceBehind, now_asked, turn_of, passed_of, Settled, Erasing, CommitComes, removed_now, settled_at_rest}
 use Rattle.log_refinement.proofs.CommitTrails.{after_open, is_committing, clashes, not_begin, leaves_ends, IsRefused, refused_turn, IsOpened, opened_turn}
 use Rattle.log_refinement.proofs.ItemLists.{split_cases, behind_or_more, in_split, none_append}
@@ -120,20 +121,20 @@ no_begin laws e x o m answers =
     let v : Move = e.past.move in
     not_begin v.history (asker e) e.ask.node e.ask.start (now_asked e.ask e.past o.k) (laws.begins v.state v.history v.event v.fate (asker e) x o.k.tells m answers)
 
-own_refused : MachineLaws → (e : OwnEvent) (written keys : List ℕ) (who : Actor) (why : Cause) → Own e → same_actor who (Session (asker e)) ≡ true → item.Refused (Session (asker e)) why ∈ own_items e → HasBehind e written →
-    ComesBehind e (unerased_after (Session (asker e)) e.steps written keys (item.Refused who why)) (after_own_refusal e.ask.node why)
-own_refused laws e written keys who why o mine m has =
+own_refused : MachineLaws → (e : OwnEvent) (d : Due) (written keys : List ℕ) (who : Actor) (why : Cause) → Own e → same_actor who (Session (asker e)) ≡ true → item.Refused (Session (asker e)) why ∈ own_items e → HasBehind e written →
+    ComesBehind e (unerased_after (Session (asker e)) e.steps written keys (item.Refused who why)) (after_own_refusal e.ask.node d why)
+own_refused laws e d written keys who why o mine m has =
     let s : ℕ = asker e in
     let n : ℕ = e.ask.node in
     let items : List Item = own_items e in
     let p : Passed (ask_of e.ask) (asked_upto s e.ask) e.past = own_passed e o in
     let P : Owed → Type 0 = ComesBehind e (unerased_after (Session s) e.steps written keys (item.Refused who why)) in
-    if_either P (leaves_cells why) Erasure (if leaves_nothing why then Nothing else Answer n)
+    if_either P (leaves_cells why) Erasure (if leaves_nothing why then Nothing else Answer n d)
     (λ leaves. (
       closes_ask laws (ask_of e.ask) _ e.past (item.Refused (Session s) why) p m (leaving_closes n s why leaves),
       subst (λ (left : List ℕ). ErasingBehind e left) (unerased_all s e.steps written keys who why mine leaves) (erasing_anew laws e why written o m leaves has),
     ))
-    (λ stays. if_either P (leaves_nothing why) Nothing (Answer n) (λ nothing. elim (nothing_left why nothing) [
+    (λ stays. if_either P (leaves_nothing why) Nothing (Answer n d) (λ nothing. elim (nothing_left why nothing) [
       | inl waits ↦ absurd (no_begin laws e (item.Refused (Session s) (cause.NotYet waits.0)) o (subst (λ (q : Cause). item.Refused (Session s) q ∈ items) waits.1 m) refl)
       | inr (inl opens) ↦
           let told : item.Refused (Session s) (cause.Open opens.0) ∈ items = subst (λ (q : Cause). item.Refused (Session s) q ∈ items) opens.1 m in
@@ -141,33 +142,31 @@ own_refused laws e written keys who why o mine m has =
       | inr (inr lost) ↦ absurd (no_begin laws e (item.Refused (Session s) (cause.Crashed lost.0 lost.1)) o (subst (λ (q : Cause). item.Refused (Session s) q ∈ items) lost.2 m) refl)
     ]) (λ other. refl))
 
-any_refused : MachineLaws → (e : OwnEvent) (written keys : List ℕ) (who : Actor) (why : Cause) → Own e → item.Refused who why ∈ own_items e → HasBehind e written →
-    ComesBehind e (unerased_after (Session (asker e)) e.steps written keys (item.Refused who why)) (after_refusal (Session (asker e)) e.ask.node who why)
-any_refused laws e written keys who why o m has =
+any_refused : MachineLaws → (e : OwnEvent) (d : Due) (written keys : List ℕ) (who : Actor) (why : Cause) → Own e → item.Refused who why ∈ own_items e → HasBehind e written →
+    ComesBehind e (unerased_after (Session (asker e)) e.steps written keys (item.Refused who why)) (after_refusal (Session (asker e)) e.ask.node d who why)
+any_refused laws e d written keys who why o m has =
     let s : ℕ = asker e in
     let n : ℕ = e.ask.node in
     let items : List Item = own_items e in
     let P : Owed → Type 0 = ComesBehind e (unerased_after (Session s) e.steps written keys (item.Refused who why)) in
-    let own : Owed = if same_actor who (Session s) then after_own_refusal n why else Answer n in
-    if_either P (denies_request (Session s) why) Nothing (if is_lost n why then Quiet else own)
-    (λ denies. inl (left_by_denial s n e.past.since items who why m denies))
-    (λ holds. if_either P (is_lost n why) Quiet own
+    let own : Owed = if same_actor who (Session s) then after_own_refusal n d why else Answer n d in
+    if_either P (is_lost n why) Quiet own
     (λ lost. loses_ask laws (ask_of e.ask) _ e.past who (own_passed e o) (subst (λ (q : Cause). item.Refused who q ∈ items) (lost_is n why lost) m))
-    (λ there. if_either P (same_actor who (Session s)) (after_own_refusal n why) (Answer n)
-    (λ mine. own_refused laws e written keys who why o mine (subst (λ (a : Actor). item.Refused a why ∈ items) (actor_same who (Session s) mine) m) has)
-    (λ other. refl)))
+    (λ there. if_either P (same_actor who (Session s)) (after_own_refusal n d why) (Answer n d)
+    (λ mine. own_refused laws e d written keys who why o mine (subst (λ (a : Actor). item.Refused a why ∈ items) (actor_same who (Session s) mine) m) has)
+    (λ other. refl))
 
-commit_asking : MachineLaws → (e : OwnEvent) (written keys : List ℕ) (x : Item) → Own e → x ∈ own_items e → HasBehind e written → ComesBehind e (unerased_after (Session (asker e)) e.steps written keys x) (after_asking (Session (asker e)) e.ask.node x)
-commit_asking laws e written keys (item.Begin session start) o m has =
-    if_either (ComesBehind e keys) (session == asker e) Nothing (Answer e.ask.node)
+commit_asking : MachineLaws → (e : OwnEvent) (d : Due) (written keys : List ℕ) (x : Item) → Own e → x ∈ own_items e → HasBehind e written → ComesBehind e (unerased_after (Session (asker e)) e.steps written keys x) (after_asking (Session (asker e)) e.ask.node d x)
+commit_asking laws e d written keys (item.Begin session start) o m has =
+    if_either (ComesBehind e keys) (session == asker e) Nothing (Answer e.ask.node d)
     (λ mine. absurd (no_begin laws e (item.Begin session start) o m (eqb-true session (asker e) mine))) (λ other. refl)
-commit_asking laws e written keys (item.Committed session start commit) o m has =
-    if_either (ComesBehind e keys) (session == asker e) (Removal start) (Answer e.ask.node)
+commit_asking laws e d written keys (item.Committed session start commit) o m has =
+    if_either (ComesBehind e keys) (session == asker e) (Removal start) (Answer e.ask.node d)
     (λ mine. closes_ask laws (ask_of e.ask) _ e.past (item.Committed session start commit) (own_passed e o) m mine) (λ other. refl)
-commit_asking laws e written keys (item.Refused who why) o m has = any_refused laws e written keys who why o m has
-commit_asking laws e written keys (item.Fault who store) o m has =
-    if_either (ComesBehind e keys) (fails_record e.ask.node who store) Nothing (Answer e.ask.node) (λ fails. inl (left_by_fault (asker e) e.ask.node e.past.since (own_items e) who store m fails)) (λ other. refl)
-commit_asking laws e written keys _ o m has = refl
+commit_asking laws e d written keys (item.Refused who why) o m has = any_refused laws e d written keys who why o m has
+commit_asking laws e d written keys (item.Fault who store) o m has =
+    if_either (ComesBehind e keys) (fails_record e.ask.node who store) Nothing (Answer e.ask.node d) (λ fails. inl (failed_at e.ask.node e.past.since (own_items e) who store m fails)) (λ other. refl)
+commit_asking laws e d written keys _ o m has = refl
 
 -- ---- what pays a completion leaves the session at rest
 fault_rests : (s : ℕ) (c d : Client) (who : Actor) (store : Store) → SaysTo s c d (item.Fault who store) → same_actor who (Session s) ≡ true → rests d.entry.state ≡ true
@@ -280,8 +279,9 @@ erasing_item laws e written keys _ o m has k = k
 commit_item : MachineLaws → (e : OwnEvent) (written keys : List ℕ) (owed : Owed) (x : Item) → Own e → x ∈ own_items e → HasBehind e written → ComesBehind e keys owed → ComesBehind e (unerased_after (Session (asker e)) e.steps written keys x) (owed_after (Session (asker e)) e.steps owed x)
 commit_item laws e written keys Nothing x o m has comes = comes
 commit_item laws e written keys (Read key) x o m has comes = absurd comes
-commit_item laws e written keys (Answer asked) x o m has comes =
-    subst (λ (q : ℕ). ComesBehind e (unerased_after (Session (asker e)) e.steps written keys x) (after_asking (Session (asker e)) q x)) (sym comes) (commit_asking laws e written keys x o m has)
+commit_item laws e written keys Denied x o m has comes = comes
+commit_item laws e written keys (Answer asked d) x o m has comes =
+    subst (λ (q : ℕ). ComesBehind e (unerased_after (Session (asker e)) e.steps written keys x) (after_asking (Session (asker e)) q d x)) (sym comes) (commit_asking laws e d written keys x o m has)
 commit_item laws e written keys (Removal start) x o m has comes =
     pays e (removes (Session (asker e)) start x) (unerased_after (Session (asker e)) e.steps written keys x) (Removal start) o comes (λ step_is paid. removes_rests (asker e) e.past.client e.past.next start x (o.says step_is x m) paid) comes
 commit_item laws e written keys Erasure x o m has comes =
@@ -330,11 +330,12 @@ all_erased s ask w h since c keys p over k is = record {
   ];
 }
 
-pub commit_ended : (s : ℕ) (ask : CommitAsk) (w : State) (h since : List Item) (c : Client) (keys : List ℕ) (owed : Owed) → Place s ask w h since c → CommitComes s ask.node ask.start h since c keys owed → is_settled owed keys ≡ true → IsLeft s ask.node since ⊎ HasCome h s (ask_of ask) since
-commit_ended s ask w h since c keys Nothing p (inl left) paid = inl left
-commit_ended s ask w h since c keys Nothing p (inr over) paid = inr (record { over = inl over.0; removed = over.1.removed; erased = over.1.erased })
-commit_ended s ask w h since c keys Erasure p comes paid = inr (all_erased s ask w h since c keys p comes.0 comes.1 paid)
+pub commit_ended : (s : ℕ) (ask : CommitAsk) (w : State) (h since : List Item) (c : Client) (keys : List ℕ) (owed : Owed) → Place s ask w h since c → CommitComes s ask.node ask.start h since c keys owed → is_settled owed keys ≡ true → EndsBy h s (ask_of ask) since owed
+commit_ended s ask w h since c keys Nothing p (inl failed) paid = inr (inl failed)
+commit_ended s ask w h since c keys Denied p denied paid = inl (refl, denied)
+commit_ended s ask w h since c keys Nothing p (inr over) paid = inr (inr (record { over = inl over.0; removed = over.1.removed; erased = over.1.erased }))
+commit_ended s ask w h since c keys Erasure p comes paid = inr (inr (all_erased s ask w h since c keys p comes.0 comes.1 paid))
 commit_ended s ask w h since c keys (Read key) p comes paid = absurd comes
-commit_ended s ask w h since c keys (Answer asked) p comes paid = absurd (cc)
+commit_ended s ask w h since c keys (Answer asked d) p comes paid = absurd (cc)
 commit_ended s ask w h since c keys (Removal start) p comes paid = absurd (cc)
 commit_ended s ask w h since c keys Quiet p comes paid = absurd (cc)

@@ -22,5 +22,9 @@ mod CommitAsks
 mod KeptKeys
 mod CommitItems
 mod AskPlaces
+mod DueRequests
+mod ShownRequests
 mod ServedItems
 mod ServedEntries
+mod ServedOutcomes
+mod WorkedDues

@@ -1,6 +1,6 @@
 -- The log of an actor, which follows all lines of the actor, follows those that have an opening item.
 use Rattle.std.proofs.Common.{◌≡◌, ◌⊎◌, Bool, true, false, cond, ◌&&◌, List, [], ◌∷◌, Option, Some, None, inl, inr, refl, sym, ◌∙◌, ap, subst}
-use Rattle.std.specs.Prelude.{filter, is_some, All}
+use Rattle.std.specs.Prelude.{filter, is_some}
 use Rattle.std.specs.List.{AllZip}
 use Rattle.std.proofs.lemmas.List.Elements.{All-head, All-tail}
 use Rattle.std.proofs.lemmas.Option.{none-some}
@@ -11,13 +11,13 @@ use Rattle.script_data.specs.declared.line.Target.TheVariants as target
 use Rattle.script_data.specs.declared.line.Verb.{Verb}
 use Rattle.script_data.specs.declared.line.Verb.TheVariants as verb
 use Rattle.script_data.specs.Data.{ScriptData}
-use Rattle.command_semantics.specs.Answers.{same_actor, has_opening, is_of}
+use Rattle.command_semantics.specs.Answers.{has_opening, is_of}
 use Rattle.command_semantics.proofs.ScriptWalks.{actor_same}
 use Rattle.split_parts.specs.declared.event.Event.{Event}
 use Rattle.split_parts.specs.declared.event.Event.TheVariants as event
 use Rattle.split_stores.specs.declared.seat.Entry.{Entry}
 use Rattle.split_stores.specs.Logs.{Logged}
-use Rattle.log_refinement.specs.Follows.{opener, first_event, plain_event, IsLater, Follows, is_own, AllFollow}
+use Rattle.log_refinement.specs.Follows.{FollowsLines, opener, first_event, plain_event, IsLater, Follows, is_own, AllFollow}
 use Rattle.log_refinement.specs.Laws.{NamesNoMaster, NameNoMaster}
 use Rattle.log_refinement.specs.Owed.{Standing, first_standing, gone_on, opened, is_paid}
 
@@ -33,8 +33,13 @@ FollowsOpened actor st (line ∷ lines) (e ∷ es) =
 abbrev pub OpenedLines : List Line → Actor → List Entry → Type 0
 OpenedLines lines actor entries = FollowsOpened actor first_standing (filter (is_of actor) lines) entries
 
+-- the log follows them, and all lines of the actor
+pub record LogOf (lines : List Line) (actor : Actor) (es : List Entry) : Type 0 where
+  pub opened : OpenedLines lines actor es
+  pub whole : FollowsLines lines actor es
+
 abbrev pub AllOpened : ScriptData → List Actor → List Logged → Type 0
-AllOpened script actors logs = AllZip (λ actor log. OpenedLines script.lines actor log.entries) actors logs
+AllOpened script actors logs = AllZip (λ actor log. LogOf script.lines actor log.entries) actors logs
 
 -- ---- forms
 later_none : (actor : Actor) (e : Event) → IsLater actor e → opener e ≡ None
@@ -166,4 +171,4 @@ pub all_opened : (script : ScriptData) (actors : List Actor) (logs : List Logged
 all_opened script [] [] names follow = tt
 all_opened script [] (log ∷ logs) names follow = absurd follow
 all_opened script (actor ∷ actors) [] names follow = absurd follow
-all_opened script (actor ∷ actors) (log ∷ logs) names follow = (opened_lines script.lines actor log.entries names follow.0, all_opened script actors logs names follow.1)
+all_opened script (actor ∷ actors) (log ∷ logs) names follow = (record { opened = opened_lines script.lines actor log.entries names follow.0; whole = follow.0 }, all_opened script actors logs names follow.1)

@@ -5,6 +5,7 @@ use Rattle.history_book.specs.declared.item.Actor.{Actor}
 use Rattle.history_book.specs.declared.item.StoreStep.TheVariants as step
 use Rattle.history_book.specs.declared.item.Item.{Item}
 use Rattle.history_book.specs.declared.item.Item.TheVariants as item
+use Rattle.script_data.specs.Data.{ScriptData}
 use Rattle.script_data.specs.declared.line.Line.{Line}
 use Rattle.script_data.specs.declared.line.Target.{Target}
 use Rattle.script_data.specs.declared.line.Verb.{Verb}
@@ -41,10 +42,10 @@ first_read (verb.Begin to) x = begin_first to x
 first_read (verb.Commit to) x = commit_first to x
 first_read _ x = refl
 
-none_read : (h : List Item) (begun : Begun) → HasEnded h begun → read_of begun ≡ None
-none_read h Nothing ended = refl
-none_read h (Reads key) ended = absurd ended
-none_read h (Asks session ask since) ended = refl
+none_read : (script : ScriptData) (h : List Item) (begun : Begun) → HasEnded script h begun → read_of begun ≡ None
+none_read script h Nothing ended = refl
+none_read script h (Reads key) ended = absurd ended
+none_read script h (Asks session ask since) ended = refl
 
 -- ---- the walk
 -- a read goes on, or ends
@@ -53,20 +54,20 @@ unfolding Answered
 read_on actor key h lines x xs true is not walks = inl (ends_is actor key x is, walks)
 read_on actor key h lines x xs false is not walks = inr (not, walks)
 
-walk_answers : (actor : Actor) (h : List Item) (begun : Begun) (lines : List Line) (xs : List Item) → AnsweredServed actor h begun lines xs → Answered asks_last actor h (read_of begun) lines xs
+walk_answers : (script : ScriptData) (actor : Actor) (h : List Item) (begun : Begun) (lines : List Line) (xs : List Item) → AnsweredServed (HasEnded script) actor h begun lines xs → Answered asks_last actor h (read_of begun) lines xs
 unfolding AnsweredServed Answered
-walk_answers actor h begun lines [] served = (none_read h begun served.0, served.1)
-walk_answers actor h Nothing [] (x ∷ xs) served = (served.0, walk_answers actor (h ++ x ∷ []) Nothing [] xs served.1)
-walk_answers actor h Nothing (line ∷ lines) (x ∷ xs) (inl k) =
-    inl (k.1, subst (λ (read : Option ℕ). Answered asks_last actor (h ++ x ∷ []) read lines xs) (first_read line.verb x) (walk_answers actor (h ++ x ∷ []) (begun_by line.verb x) lines xs k.2))
-walk_answers actor h Nothing (line ∷ lines) (x ∷ xs) (inr k) = inr (k.0, walk_answers actor (h ++ x ∷ []) Nothing (line ∷ lines) xs k.1)
-walk_answers actor h (Asks session ask since) [] (x ∷ xs) served = (served.0, walk_answers actor (h ++ x ∷ []) (Asks session ask (since ++ x ∷ [])) [] xs served.1)
-walk_answers actor h (Asks session ask since) (line ∷ lines) (x ∷ xs) (inl k) =
-    inl (k.1, subst (λ (read : Option ℕ). Answered asks_last actor (h ++ x ∷ []) read lines xs) (first_read line.verb x) (walk_answers actor (h ++ x ∷ []) (begun_by line.verb x) lines xs k.2))
-walk_answers actor h (Asks session ask since) (line ∷ lines) (x ∷ xs) (inr k) = inr (k.0, walk_answers actor (h ++ x ∷ []) (Asks session ask (since ++ x ∷ [])) (line ∷ lines) xs k.1)
-walk_answers actor h (Reads key) [] (x ∷ xs) served = read_on actor key h [] x xs (ends_read actor key x) refl served.0 (walk_answers actor (h ++ x ∷ []) (begun_after actor (Reads key) x) [] xs served.1)
-walk_answers actor h (Reads key) (line ∷ lines) (x ∷ xs) (inl k) = absurd k.0
-walk_answers actor h (Reads key) (line ∷ lines) (x ∷ xs) (inr k) = read_on actor key h (line ∷ lines) x xs (ends_read actor key x) refl k.0 (walk_answers actor (h ++ x ∷ []) (begun_after actor (Reads key) x) (line ∷ lines) xs k.1)
+walk_answers script actor h begun lines [] served = (none_read script h begun served.0, served.1)
+walk_answers script actor h Nothing [] (x ∷ xs) served = (served.0, walk_answers script actor (h ++ x ∷ []) Nothing [] xs served.1)
+walk_answers script actor h Nothing (line ∷ lines) (x ∷ xs) (inl k) =
+    inl (k.1, subst (λ (read : Option ℕ). Answered asks_last actor (h ++ x ∷ []) read lines xs) (first_read line.verb x) (walk_answers script actor (h ++ x ∷ []) (begun_by line.verb x) lines xs k.2))
+walk_answers script actor h Nothing (line ∷ lines) (x ∷ xs) (inr k) = inr (k.0, walk_answers script actor (h ++ x ∷ []) Nothing (line ∷ lines) xs k.1)
+walk_answers script actor h (Asks session ask since) [] (x ∷ xs) served = (served.0, walk_answers script actor (h ++ x ∷ []) (Asks session ask (since ++ x ∷ [])) [] xs served.1)
+walk_answers script actor h (Asks session ask since) (line ∷ lines) (x ∷ xs) (inl k) =
+    inl (k.1, subst (λ (read : Option ℕ). Answered asks_last actor (h ++ x ∷ []) read lines xs) (first_read line.verb x) (walk_answers script actor (h ++ x ∷ []) (begun_by line.verb x) lines xs k.2))
+walk_answers script actor h (Asks session ask since) (line ∷ lines) (x ∷ xs) (inr k) = inr (k.0, walk_answers script actor (h ++ x ∷ []) (Asks session ask (since ++ x ∷ [])) (line ∷ lines) xs k.1)
+walk_answers script actor h (Reads key) [] (x ∷ xs) served = read_on actor key h [] x xs (ends_read actor key x) refl served.0 (walk_answers script actor (h ++ x ∷ []) (begun_after actor (Reads key) x) [] xs served.1)
+walk_answers script actor h (Reads key) (line ∷ lines) (x ∷ xs) (inl k) = absurd k.0
+walk_answers script actor h (Reads key) (line ∷ lines) (x ∷ xs) (inr k) = read_on actor key h (line ∷ lines) x xs (ends_read actor key x) refl k.0 (walk_answers script actor (h ++ x ∷ []) (begun_after actor (Reads key) x) (line ∷ lines) xs k.1)
 
 pub served_histories_answer : ServedHistoriesAnswer
-served_histories_answer script h served actor = walk_answers actor [] Nothing (filter (is_of actor) script.lines) h (served actor)
+served_histories_answer script h served actor = walk_answers script actor [] Nothing (filter (is_of actor) script.lines) h (served actor)

@@ -27,13 +27,14 @@ use Rattle.split_stores.specs.Merging.{logs_of}
 use Rattle.split_stores.specs.Orders.{rises_in, without_lines, SettledByPlans, IsOrdered, SettledIsOrdered, SettledIsPlanned}
 use Rattle.log_refinement.specs.Laws.{AllRise, IsCarried, SettledLogsAnswer, SettledLogsArePlanned, SettledLogsKeepService, SettledLogsServe}
 use Rattle.log_refinement.specs.Owed.{first_standing}
-use Rattle.log_refinement.specs.Served.{Nothing, AnsweredServed}
+use Rattle.log_refinement.specs.Served.{HasEnded, Nothing, AnsweredServed}
 use Rattle.log_refinement.proofs.AskFacts.{MachineLaws}
 use Rattle.log_refinement.proofs.ActorLogs.{WovenLog, woven_log}
 use Rattle.log_refinement.proofs.ClockTicks.{rises_as_lines, ticks_most}
 use Rattle.log_refinement.proofs.KeptKeys.{KeysKept}
 use Rattle.log_refinement.proofs.MadeEntries.{IsGood, AllMade, all_made}
 use Rattle.log_refinement.proofs.OpeningLogs.{AllOpened, all_opened}
+use Rattle.log_refinement.proofs.ShownRequests.{woven_others}
 use Rattle.log_refinement.proofs.OtherLogs.{own_lines}
 use Rattle.log_refinement.proofs.ServedEntries.{entries_serve}
 use Rattle.log_refinement.proofs.WalkedEntries.{entries_answer}
@@ -49,7 +50,7 @@ good_first script carried = record {
 rises_settled : (script : ScriptData) (logs : List Logged) (whole : ClusterModel) → IsCarried script → AllOpened script (actors_of script) logs → AllRise logs → (settled : Settled (without_lines script) (logs_of logs) whole) → rises_in settled.merged ≡ ticks_in script.lines
 rises_settled script logs whole carried follow rise settled =
     let k : WovenLog script Clock settled.merged = woven_log script Clock logs settled.merged carried.lines follow rise settled.in_order in
-    rises_as_lines script.setup k.entries settled.merged first_standing script.lines k.woven (own_lines script.setup Clock script.lines carried.lines) k.follows
+    rises_as_lines script.setup k.entries settled.merged first_standing script.lines (woven_others script Clock k.entries settled.merged k.woven) (own_lines script.setup Clock script.lines carried.lines) k.follows
 
 all_settled : EventsStayTold → SettledByPlans → (script : ScriptData) (logs : List Logged) (whole : ClusterModel) → IsCarried script → AllOpened script (actors_of script) logs → AllRise logs → (settled : Settled (without_lines script) (logs_of logs) whole) → AllMade script settled.merged (opening_played script)
 all_settled law by_plans script logs whole carried follow rise settled =
@@ -62,7 +63,7 @@ settled_logs_answer law by_plans script logs whole carried follow_all rise settl
     let follow : AllOpened script (actors_of script) logs = all_opened script (actors_of script) logs carried.masters follow_all in
     let k : WovenLog script actor settled.merged = woven_log script actor logs settled.merged carried.lines follow rise settled.in_order in
     let made : AllMade script settled.merged (opening_played script) = all_settled law by_plans script logs whole carried follow rise settled in
-    let answers : Answered asks_last actor [] None (filter (is_of actor) script.lines) (kept_items settled.merged) = entries_answer script actor k.entries settled.merged (opening_played script) made k.woven first_standing None (filter (is_of actor) script.lines) (own_lines script.setup actor script.lines carried.lines) k.follows tt in
+    let answers : Answered asks_last actor [] None (filter (is_of actor) script.lines) (kept_items settled.merged) = entries_answer script actor k.entries settled.merged (opening_played script) made (woven_others script actor k.entries settled.merged k.woven) first_standing None (filter (is_of actor) script.lines) (own_lines script.setup actor script.lines carried.lines) k.follows tt in
     subst (λ (h : List Item). Answered asks_last actor [] None (filter (is_of actor) script.lines) h) (sym (by_plans script (logs_of logs) whole settled).history) answers
 
 pub settled_logs_are_planned : SettledIsPlanned → SettledLogsArePlanned
@@ -89,6 +90,6 @@ settled_logs_serve laws law by_plans script logs whole carried follow_all rise s
     let follow : AllOpened script (actors_of script) logs = all_opened script (actors_of script) logs carried.masters follow_all in
     let k : WovenLog script actor settled.merged = woven_log script actor logs settled.merged carried.lines follow rise settled.in_order in
     let made : AllMade script settled.merged (opening_played script) = all_settled law by_plans script logs whole carried follow rise settled in
-    let serves : AnsweredServed actor [] Nothing (filter (is_of actor) script.lines) (kept_items settled.merged) =
+    let serves : AnsweredServed (HasEnded script) actor [] Nothing (filter (is_of actor) script.lines) (kept_items settled.merged) =
     entries_serve laws script actor k.entries settled.merged (opening_played script) made k.woven (laws.first script.setup) first_standing Nothing (filter (is_of actor) script.lines) (own_lines script.setup actor script.lines carried.lines) k.follows (keys_first script actor carried) tt in
-    subst (λ (h : List Item). AnsweredServed actor [] Nothing (filter (is_of actor) script.lines) h) (sym (by_plans script (logs_of logs) whole settled).history) serves
+    subst (λ (h : List Item). AnsweredServed (HasEnded script) actor [] Nothing (filter (is_of actor) script.lines) h) (sym (by_plans script (logs_of logs) whole settled).history) serves

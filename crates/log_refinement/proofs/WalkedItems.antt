@@ -17,7 +17,7 @@ use Rattle.command_semantics.proofs.Walks.{AllNot, plain_not, shifted, walks_ove
 use Rattle.split_stores.specs.declared.seat.Entry.{Entry}
 use Rattle.log_refinement.specs.declared.owed.Owed.{Owed}
 use Rattle.log_refinement.specs.declared.owed.Owed.TheVariants.{Nothing, Read}
-use Rattle.log_refinement.specs.Owed.{ends_read, owed_after, Standing, standing_with, with_item, with_items, is_settled, is_paid, after_repeat, is_step, gone_on, owed_first, opened}
+use Rattle.log_refinement.specs.Owed.{ends_read, owed_after, Standing, standing_with, with_item, with_items, is_settled, is_paid, after_due, after_repeat, is_step, gone_on, owed_first, opened}
 
 -- ---- what is owed of a read
 -- a read that the walk has begun is owed
@@ -54,6 +54,10 @@ none_begun None st owed paid = refl
 none_begun (Some key) st owed paid = absurd (paid_read st.owed st.unerased key owed paid)
 
 -- an answer that repeats pays no read
+after_dues : (actor : Actor) (e : Entry) (begun : Option ℕ) (owed : Owed) → IsOwed begun owed → IsOwed begun (after_due actor e.event e.kept.items owed)
+after_dues actor e None owed is = tt
+after_dues actor e (Some key) owed is = ap (after_due actor e.event e.kept.items) is
+
 after_repeats : (actor : Actor) (e : Entry) (begun : Option ℕ) (owed : Owed) → IsOwed begun owed → IsOwed begun (after_repeat actor e.event e.kept.items owed)
 after_repeats actor e None owed is = tt
 after_repeats actor e (Some key) owed is = ap (after_repeat actor e.event e.kept.items) is
@@ -97,7 +101,7 @@ pub walked_on : (actor : Actor) (h : List Item) (begun : Option ℕ) (st : Stand
 walked_on actor h begun st lines e none is =
     let steps : Bool = is_step e.event in
     let k : Walked actor h e.kept.items begun lines lines (with_items actor steps st e.kept.items).owed = walked_items actor steps h begun st lines e.kept.items none is in
-    record { then = k.then; is_owed = after_repeats actor e k.then (with_items actor steps st e.kept.items).owed k.is_owed; walks = k.walks }
+    record { then = k.then; is_owed = after_repeats actor e k.then (after_due actor e.event e.kept.items (with_items actor steps st e.kept.items).owed) (after_dues actor e k.then (with_items actor steps st e.kept.items).owed k.is_owed); walks = k.walks }
 
 -- items that open the next line
 pub walked_open : (actor : Actor) (h : List Item) (st : Standing) (line : Line) (lines : List Line) (items : List Item) → Begins (IsAnswer (asks_last h) line.actor line.verb) items → Walked actor h items None (line ∷ lines) lines (opened actor line.verb st items).owed

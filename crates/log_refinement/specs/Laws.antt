@@ -19,7 +19,7 @@ use Rattle.split_stores.specs.Merged.{Settled}
 use Rattle.split_stores.specs.Merging.{logs_of}
 use Rattle.split_stores.specs.Orders.{without_lines}
 use Rattle.log_refinement.specs.Follows.{AllFollow}
-use Rattle.log_refinement.specs.Served.{Served}
+use Rattle.log_refinement.specs.Served.{Served, IsServedByOutcomes}
 
 -- ---- scripts
 abbrev pub NamesNode : Target → Type 0
@@ -71,3 +71,7 @@ SettledLogsServe =
 -- a history that serves a script answers it
 abbrev pub ServedHistoriesAnswer : Type 0
 ServedHistoriesAnswer = (script : ScriptData) (h : List Item) → Served script h → Answers script h
+
+-- and one that serves it ends asks by their outcomes, where no line of the script makes a stage's event for their sessions
+abbrev pub ScriptsWithoutStageLinesAreServed : Type 0
+ScriptsWithoutStageLinesAreServed = (script : ScriptData) (h : List Item) → Served script h → IsServedByOutcomes script h

@@ -1,5 +1,5 @@
 -- What a line still owes, by the items that its actor's own events appended since it opened.
-use Rattle.std.specs.Prelude.{ℕ, ◌==◌, Bool, true, false, ◌&&◌, not, if◌then◌else◌, List, [], ◌∷◌, ◌++◌, filter}
+use Rattle.std.specs.Prelude.{ℕ, ◌==◌, Bool, true, false, ◌&&◌, not, if◌then◌else◌, List, [], ◌∷◌, ◌++◌, filter, None, Some}
 use Rattle.std.specs.List.{list_any}
 use Rattle.stamp_base.specs.declared.stores.Store.{Store}
 use Rattle.stamp_base.specs.declared.stores.Store.TheVariants.{Master}
@@ -17,8 +17,10 @@ pub use Rattle.request_completion.specs.Closings.{leaves_cells}
 use Rattle.split_parts.specs.declared.event.Event.{Event}
 use Rattle.split_parts.specs.declared.event.Event.TheVariants as event
 use Rattle.split_stores.specs.declared.seat.Entry.{Entry}
+use Rattle.log_refinement.specs.declared.owed.Due.{Due}
+use Rattle.log_refinement.specs.declared.owed.Due.TheVariants as due
 use Rattle.log_refinement.specs.declared.owed.Owed.{Owed}
-use Rattle.log_refinement.specs.declared.owed.Owed.TheVariants.{Nothing, Read, Answer, Removal, Erasure, Quiet}
+use Rattle.log_refinement.specs.declared.owed.Owed.TheVariants.{Nothing, Read, Answer, Denied, Removal, Erasure, Quiet}
 
 -- ---- reads
 abbrev pub ends_read : Actor → ℕ → Item → Bool
@@ -34,37 +36,31 @@ leaves_nothing (cause.Open start) = true
 leaves_nothing (cause.Crashed node term) = true
 leaves_nothing _ = false
 
-abbrev pub after_own_refusal : ℕ → Cause → Owed
-after_own_refusal node why = if leaves_cells why then Erasure else if leaves_nothing why then Nothing else Answer node
-
--- the refusal says that the node has no request of the session
-abbrev pub denies_request : Actor → Cause → Bool
-denies_request actor (cause.NoRequest session) = same_actor (Session session) actor
-denies_request actor _ = false
+abbrev pub after_own_refusal : ℕ → Due → Cause → Owed
+after_own_refusal node d why = if leaves_cells why then Erasure else if leaves_nothing why then Nothing else Answer node d
 
 -- the node that was asked has no instance any more
 abbrev pub is_lost : ℕ → Cause → Bool
 is_lost asked (cause.NoOracle node) = node == asked
 is_lost asked _ = false
 
-abbrev pub after_refusal : Actor → ℕ → Actor → Cause → Owed
-after_refusal actor node who why =
-    if denies_request actor why then Nothing
-    else if is_lost node why then Quiet
-    else if same_actor who actor then after_own_refusal node why
-    else Answer node
+abbrev pub after_refusal : Actor → ℕ → Due → Actor → Cause → Owed
+after_refusal actor node d who why =
+    if is_lost node why then Quiet
+    else if same_actor who actor then after_own_refusal node d why
+    else Answer node d
 
 -- the call by which the node asks for more stamps, or looks at its record, failed
 abbrev pub fails_record : ℕ → Actor → Store → Bool
 fails_record node who Master = same_actor who (Node node)
 fails_record node who _ = false
 
-abbrev pub after_asking : Actor → ℕ → Item → Owed
-after_asking actor node (item.Begin session start) = if same_actor (Session session) actor then Nothing else Answer node
-after_asking actor node (item.Committed session start commit) = if same_actor (Session session) actor then Removal start else Answer node
-after_asking actor node (item.Refused who why) = after_refusal actor node who why
-after_asking actor node (item.Fault who store) = if fails_record node who store then Nothing else Answer node
-after_asking actor node _ = Answer node
+abbrev pub after_asking : Actor → ℕ → Due → Item → Owed
+after_asking actor node d (item.Begin session start) = if same_actor (Session session) actor then Nothing else Answer node d
+after_asking actor node d (item.Committed session start commit) = if same_actor (Session session) actor then Removal start else Answer node d
+after_asking actor node d (item.Refused who why) = after_refusal actor node d who why
+after_asking actor node d (item.Fault who store) = if fails_record node who store then Nothing else Answer node d
+after_asking actor node d _ = Answer node d
 
 -- ---- completions
 -- a fault of the session ends its completion
@@ -87,7 +83,8 @@ is_idle actor x = ends_completion actor x
 abbrev pub owed_after : Actor → Bool → Owed → Item → Owed
 owed_after actor steps Nothing x = Nothing
 owed_after actor steps (Read key) x = if ends_read actor key x then Nothing else Read key
-owed_after actor steps (Answer node) x = after_asking actor node x
+owed_after actor steps (Answer node d) x = after_asking actor node d x
+owed_after actor steps Denied x = Denied
 owed_after actor steps (Removal start) x = if steps && removes actor start x then Nothing else Removal start
 owed_after actor steps Erasure x = if steps && ends_completion actor x then Nothing else Erasure
 owed_after actor steps Quiet x = if steps && is_idle actor x then Nothing else Quiet
@@ -138,6 +135,7 @@ is_nil _ = false
 
 abbrev pub is_settled : Owed → List ℕ → Bool
 is_settled Nothing keys = true
+is_settled Denied keys = true
 is_settled Erasure keys = is_nil keys
 is_settled _ keys = false
 
@@ -145,17 +143,49 @@ abbrev pub is_paid : Standing → Bool
 is_paid st = is_settled st.owed st.unerased
 
 -- ---- one entry more
+-- the event is due, of the session and at the node that it asked
+abbrev pub is_due : Actor → ℕ → Due → Event → Bool
+is_due actor asked due.Accept (event.Accept node session) = same_actor (Session session) actor && (node == asked)
+is_due actor asked due.Decide (event.Decide node session) = same_actor (Session session) actor && (node == asked)
+is_due actor asked due.Put (event.Put node session) = same_actor (Session session) actor && (node == asked)
+is_due actor asked due.Answer (event.Answer node session) = same_actor (Session session) actor && (node == asked)
+is_due actor asked d e = false
+
+-- what is due behind the first item of the event that was due: a put has ended also where it finds a mark, or fails
+abbrev pub due_after : Due → Item → Due
+due_after due.Accept (item.Accept session node term reading) = due.Decide
+due_after due.Decide (item.Draw session node term start None) = due.Answer
+due_after due.Decide (item.Draw session node term start (Some commit)) = due.Put
+due_after due.Put (item.Placed start commit) = due.Answer
+due_after due.Put (item.Step who what) = due.Answer
+due_after due.Put (item.Fault who store) = due.Answer
+due_after d x = d
+
+-- the node has no request of the session
+abbrev pub denies_request : Actor → Item → Bool
+denies_request actor (item.Refused who (cause.NoRequest session)) = same_actor (Session session) actor
+denies_request actor _ = false
+
+abbrev pub when_due : Actor → ℕ → Due → List Item → Owed
+when_due actor node d [] = Answer node d
+when_due actor node d (x ∷ xs) = if denies_request actor x then Denied else Answer node (due_after d x)
+
+-- the log shows how far the request has come by the events that were due; that it is not there, by such an event alone
+abbrev pub after_due : Actor → Event → List Item → Owed → Owed
+after_due actor e items (Answer node d) = if is_due actor node d e then when_due actor node d items else Answer node d
+after_due actor e items owed = owed
+
 -- an answer that says nothing repeats one that was told before: a begin still waits, and nothing more is owed of its ask
 abbrev pub repeats : Actor → ℕ → Event → List Item → Bool
 repeats actor asked (event.Answer node session) [] = same_actor (Session session) actor && (node == asked)
 repeats actor asked _ items = false
 
 abbrev pub after_repeat : Actor → Event → List Item → Owed → Owed
-after_repeat actor e items (Answer asked) = if repeats actor asked e items then Nothing else Answer asked
+after_repeat actor e items (Answer asked d) = if repeats actor asked e items then Nothing else Answer asked d
 after_repeat actor e items owed = owed
 
 abbrev pub after_entry : Actor → Entry → Standing → Standing
-after_entry actor e st = record st { owed = after_repeat actor e.event e.kept.items st.owed }
+after_entry actor e st = record st { owed = after_repeat actor e.event e.kept.items (after_due actor e.event e.kept.items st.owed) }
 
 abbrev pub is_step : Event → Bool
 is_step (event.Step session) = true
@@ -168,8 +198,8 @@ gone_on actor st e = after_entry actor e (with_items actor (is_step e.event) st 
 -- what a line owes by the item with which it opens
 abbrev pub owed_first : Verb → Item → Owed
 owed_first (verb.Read key) (item.Step actor (step.Fetch fetched cells)) = Read key
-owed_first (verb.Begin to) (item.AskBegin session node) = Answer node
-owed_first (verb.Commit to) (item.AskCommit session node start) = Answer node
+owed_first (verb.Begin to) (item.AskBegin session node) = Answer node due.Accept
+owed_first (verb.Commit to) (item.AskCommit session node start) = Answer node due.Accept
 owed_first verb x = Nothing
 
 -- the first event of a line

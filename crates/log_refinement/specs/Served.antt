@@ -1,6 +1,7 @@
 -- Each line of a script is answered in the history, and what it has begun is over before its actor's next line: a read, and the ask
 -- of a begin or a commit with all that it comes to.
-use Rattle.std.specs.Prelude.{◌≡◌, ◌⊎◌, ℕ, true, List, [], ◌∷◌, ◌++◌, filter, Option, None, Some, if◌then◌else◌}
+use Rattle.std.specs.Prelude.{◌≡◌, ◌⊎◌, ℕ, ◌==◌, Bool, true, false, ◌||◌, List, [], ◌∷◌, ◌++◌, filter, Option, None, Some, if◌then◌else◌}
+use Rattle.std.specs.List.{list_any}
 use Rattle.stamp_base.specs.declared.stores.Store.{Store}
 use Rattle.stamp_base.specs.declared.stores.Store.TheVariants.{Master}
 use Rattle.history_book.specs.Members.{◌∈◌}
@@ -52,9 +53,29 @@ pub record HasCome (h : List Item) (s : ℕ) (ask : Ask) (since : List Item) : T
   pub removed : IsRemoved s since
   pub erased : IsErased h s ask.start since
 
--- the session could not drive it: its node had no request of the session, or could not reach its record
-abbrev pub IsLeft : ℕ → ℕ → List Item → Type 0
-IsLeft s node since = ((who : Actor) × (item.Refused who (cause.NoRequest s) ∈ since)) ⊎ (item.Fault (Node node) Master ∈ since)
+-- ---- what its session could not drive
+-- the line makes the event of a stage for the session
+abbrev pub is_stage_for : ℕ → Verb → Bool
+is_stage_for s (verb.Accept session) = session == s
+is_stage_for s (verb.Decide session) = session == s
+is_stage_for s (verb.Put session) = session == s
+is_stage_for s (verb.Answer session) = session == s
+is_stage_for s v = false
+
+-- others than the session's own lines may serve what it asks: such a line, or the session places commits that are handed to it
+abbrev pub others_serve : ScriptData → ℕ → Bool
+others_serve script s = script.setup.direct || list_any (λ line. is_stage_for s line.verb) script.lines
+
+abbrev pub HasCrashed : ℕ → List Item → Type 0
+HasCrashed node items = (term : ℕ) × (item.Crash node term ∈ items)
+
+-- its node had no request of the session
+abbrev pub WasDenied : ℕ → List Item → Type 0
+WasDenied s since = (who : Actor) × (item.Refused who (cause.NoRequest s) ∈ since)
+
+-- so it was where others served it, or the node crashed; or the node could not reach its record
+abbrev pub IsLeft : ScriptData → ℕ → ℕ → List Item → Type 0
+IsLeft script s node since = (WasDenied s since × ((others_serve script s ≡ true) ⊎ HasCrashed node since)) ⊎ (item.Fault (Node node) Master ∈ since)
 
 -- ---- what a line has begun
 pub data Begun : Type 0 where
@@ -78,21 +99,33 @@ begun_after actor (Reads key) x = if ends_read actor key x then Nothing else Rea
 begun_after actor (Asks session ask since) x = Asks session ask (since ++ x ∷ [])
 
 -- it is over
-abbrev pub HasEnded : List Item → Begun → Type 0
-HasEnded h Nothing = Unit {0}
-HasEnded h (Reads key) = ⊥
-HasEnded h (Asks session ask since) = IsLeft session ask.node since ⊎ HasCome h session ask since
+abbrev pub HasEnded : ScriptData → List Item → Begun → Type 0
+HasEnded script h Nothing = Unit {0}
+HasEnded script h (Reads key) = ⊥
+HasEnded script h (Asks session ask since) = IsLeft script session ask.node since ⊎ HasCome h session ask since
 
 -- ---- the lines of an actor
--- Walks the history along the actor's lines, behind the part of it before. Each item answers the next line, once what was begun is
--- over, or opens no line of the actor. At the end no line is left, and nothing that was begun.
-unfoldable pub AnsweredServed : Actor → List Item → Begun → List Line → List Item → Type 0
-AnsweredServed actor before begun lines [] = HasEnded before begun × (lines ≡ [])
-AnsweredServed actor before begun [] (x ∷ xs) = (Opens actor x → ⊥) × AnsweredServed actor (before ++ x ∷ []) (begun_after actor begun x) [] xs
-AnsweredServed actor before begun (line ∷ lines) (x ∷ xs) =
-    (HasEnded before begun × IsAnswer (asks_last before) line.actor line.verb x × AnsweredServed actor (before ++ x ∷ []) (begun_by line.verb x) lines xs)
-    ⊎ ((Opens actor x → ⊥) × AnsweredServed actor (before ++ x ∷ []) (begun_after actor begun x) (line ∷ lines) xs)
+-- Walks the history along the actor's lines, behind the part of it before. Each item answers the next line, once what was begun has
+-- ended, or opens no line of the actor. At the end no line is left, and what was begun has ended.
+unfoldable pub AnsweredServed : (List Item → Begun → Type 0) → Actor → List Item → Begun → List Line → List Item → Type 0
+AnsweredServed Ended actor before begun lines [] = Ended before begun × (lines ≡ [])
+AnsweredServed Ended actor before begun [] (x ∷ xs) = (Opens actor x → ⊥) × AnsweredServed Ended actor (before ++ x ∷ []) (begun_after actor begun x) [] xs
+AnsweredServed Ended actor before begun (line ∷ lines) (x ∷ xs) =
+    (Ended before begun × IsAnswer (asks_last before) line.actor line.verb x × AnsweredServed Ended actor (before ++ x ∷ []) (begun_by line.verb x) lines xs)
+    ⊎ ((Opens actor x → ⊥) × AnsweredServed Ended actor (before ++ x ∷ []) (begun_after actor begun x) (line ∷ lines) xs)
 
 -- each line of each actor is answered, and served
 abbrev pub Served : ScriptData → List Item → Type 0
-Served script h = (actor : Actor) → AnsweredServed actor [] Nothing (filter (is_of actor) script.lines) h
+Served script h = (actor : Actor) → AnsweredServed (HasEnded script) actor [] Nothing (filter (is_of actor) script.lines) h
+
+-- ---- by outcomes
+-- it has ended, and where nobody else may serve what the session asks and the node has not crashed since, an ask by its outcome, unless
+-- the node could not reach its record
+abbrev pub HasOutcome : ScriptData → List Item → Begun → Type 0
+HasOutcome script h Nothing = Unit {0}
+HasOutcome script h (Reads key) = ⊥
+HasOutcome script h (Asks session ask since) = others_serve script session ≡ false → (HasCrashed ask.node since → ⊥) → (item.Fault (Node ask.node) Master ∈ since) ⊎ HasCome h session ask since
+
+-- so it is with each line of each actor
+abbrev pub IsServedByOutcomes : ScriptData → List Item → Type 0
+IsServedByOutcomes script h = (actor : Actor) → AnsweredServed (HasOutcome script) actor [] Nothing (filter (is_of actor) script.lines) h

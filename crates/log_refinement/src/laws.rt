@@ -1,5 +1,5 @@
 // What holds of every history that logs settle into, which follow the lines of a script.
-ghost use Rattle.log_refinement.specs.Laws.{ServedHistoriesAnswer, SettledLogsAnswer, SettledLogsArePlanned, SettledLogsKeepService, SettledLogsServe};
+ghost use Rattle.log_refinement.specs.Laws.{ScriptsWithoutStageLinesAreServed, ServedHistoriesAnswer, SettledLogsAnswer, SettledLogsArePlanned, SettledLogsKeepService, SettledLogsServe};
 
 use command_semantics::events_stay_told;
 use request_completion::{
@@ -33,7 +33,7 @@ pub fn settled_logs_keep_service()
 }
 
 /// It serves the script: what each begin and each commit has asked is over before its session's next line, unless its node could
-/// not be asked for it.
+/// not reach its record, or has no request of it, which others served or a crash took.
 pub fn settled_logs_serve()
     ensures { SettledLogsServe }
 {
@@ -53,4 +53,10 @@ pub fn settled_logs_serve()
 /// A history that serves a script answers it, at the same places.
 pub fn served_histories_answer()
     ensures { ServedHistoriesAnswer }
+{}
+
+/// Where no line of the script makes a stage's event for a session, and its node does not crash in between, what the session asks ends
+/// by its outcome, and never since the node has no request of it.
+pub fn scripts_without_stage_lines_are_served()
+    ensures { ScriptsWithoutStageLinesAreServed }
 {}

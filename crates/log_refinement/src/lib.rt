@@ -4,9 +4,11 @@
 
 mod laws;
 mod owed;
+mod worked;
 
 pub use laws::{
-    served_histories_answer, settled_logs_answer, settled_logs_are_planned,
-    settled_logs_keep_service, settled_logs_serve,
+    scripts_without_stage_lines_are_served, served_histories_answer, settled_logs_answer,
+    settled_logs_are_planned, settled_logs_keep_service, settled_logs_serve,
 };
-pub use owed::Owed;
+pub use owed::{Due, Owed};
+pub use worked::{denials_count_where_they_are_due, denials_have_a_reason};

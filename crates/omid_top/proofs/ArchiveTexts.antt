@@ -64,7 +64,7 @@ compaction_kept law script water w h state is rest promise =
       promise = promise;
       visible = λ k answer.
           let seen : Visible (replayed script) water k (found_at script water k) = law (replayed script) (rows_of script) (pairs_of script) water k there in (
-            λ other. visible_once (replayed script) promise.isolated.stamped water k answer (found_at script water k) other seen,
+            λ other. visible_once (replayed script) promise.promise.isolated.stamped water k answer (found_at script water k) other seen,
             λ found. subst (λ (x : Option Found). Visible (replayed script) water k x) (sym found) seen,
           );
     }

@@ -23,23 +23,28 @@ use Rattle.omid_top.specs.Promise.{KeepsPromise, KeepsSplit, WritesSplit}
 
 pub promise_kept : (script : ScriptData) (h : List Item) → h ≡ replayed script → Isolated h → SerialIfStrict script.setup h → Explained script.setup h → Answers script h → Planned script h → KeepsService script.setup (replayed script) → KeepsPromise script
 promise_kept script h is isolated serial explained answers planned service = record {
-  isolated = subst (λ (x : List Item). Isolated x) is isolated;
-  serial = subst (λ (x : List Item). SerialIfStrict script.setup x) is serial;
-  explained = subst (λ (x : List Item). Explained script.setup x) is explained;
+  promise = record {
+    isolated = subst (λ (x : List Item). Isolated x) is isolated;
+    serial = subst (λ (x : List Item). SerialIfStrict script.setup x) is serial;
+    explained = subst (λ (x : List Item). Explained script.setup x) is explained;
+    planned = subst (λ (x : List Item). Planned script x) is planned;
+    service = service;
+  };
   answers = subst (λ (x : List Item). Answers script x) is answers;
-  planned = subst (λ (x : List Item). Planned script x) is planned;
-  service = service;
 }
 
 -- the same of a history over split stores
-pub split_kept : (script : ScriptData) (whole : ClusterModel) → whole.state.setup ≡ script.setup → Isolated whole.history → Explained whole.state.setup whole.history → Answers script whole.history → Served script whole.history → Planned script whole.history → KeepsService script.setup whole.history → KeepsSplit script whole.history
-split_kept script whole setup isolated explained answers served planned service = record {
-  isolated = isolated;
-  explained = subst (λ (numbers : SetupNumbers). Explained numbers whole.history) setup explained;
+pub split_kept : (script : ScriptData) (whole : ClusterModel) → whole.state.setup ≡ script.setup → Isolated whole.history → SerialIfStrict whole.state.setup whole.history → Explained whole.state.setup whole.history → Answers script whole.history → Served script whole.history → Planned script whole.history → KeepsService script.setup whole.history → KeepsSplit script whole.history
+split_kept script whole setup isolated serial explained answers served planned service = record {
+  promise = record {
+    isolated = isolated;
+    serial = subst (λ (numbers : SetupNumbers). SerialIfStrict numbers whole.history) setup serial;
+    explained = subst (λ (numbers : SetupNumbers). Explained numbers whole.history) setup explained;
+    planned = planned;
+    service = service;
+  };
   answers = answers;
   served = served;
-  planned = planned;
-  service = service;
 }
 
 pub split_written : (script : ScriptData) (whole : ClusterModel) (writes : List ℕ → Type 0) (h : List Item) → SplitsTo script whole → KeepsSplit script whole.history → h ≡ whole.history → writes (printed h) → WritesSplit script writes

@@ -1,17 +1,13 @@
 -- What is promised of the history of a script.
 use Rattle.std.specs.Prelude.{ℕ, List, [], ◌⊎◌, Option, Result, Ok, Err, take}
 use Rattle.history_book.specs.declared.item.Item.{Item}
-use Rattle.history_book.specs.Isolation.{Isolated}
 use Rattle.history_json.specs.Json.{json_printed}
-use Rattle.cause_rules.specs.Explained.{Explained}
-use Rattle.cause_rules.specs.Strict.{SerialIfStrict}
 use Rattle.port_io.specs.Ports.{Gains}
 use Rattle.script_data.specs.Data.{ScriptData}
 use Rattle.session_script.specs.Script.{BadLine}
 use Rattle.command_semantics.specs.Runs.{replayed}
 use Rattle.command_semantics.specs.Answers.{Answers}
-use Rattle.command_semantics.specs.Planned.{Planned}
-use Rattle.service_rules.specs.Service.{KeepsService}
+use Rattle.script_service.specs.Promise.{Promise}
 use Rattle.turn_rules.specs.declared.turn.Turn.{Turn}
 use Rattle.cluster_core.specs.ClusterModel.{ClusterModel}
 use Rattle.run_driver.specs.Runs.{RunsTo}
@@ -20,16 +16,10 @@ use Rattle.split_driver.specs.Splits.{SplitsTo, TearsAt}
 use Rattle.history_text.specs.Text.{printed}
 use Rattle.omid_top.specs.Texts.{bad_line_text, spent_text, torn_text}
 
--- The history of the script, carried out in file order, is snapshot isolated, is serial where the script asks for strict reads, shows
--- the cause of every refusal, answers every line, has the faults, times and readings that the script plans, and what its sessions are
--- told may be relied on.
+-- The history of the script, carried out in file order, keeps the promise, and answers every line.
 pub record KeepsPromise (script : ScriptData) : Type 0 where
-  pub isolated : Isolated (replayed script)
-  pub serial : SerialIfStrict script.setup (replayed script)
-  pub explained : Explained script.setup (replayed script)
+  pub promise : Promise script (replayed script)
   pub answers : Answers script (replayed script)
-  pub planned : Planned script (replayed script)
-  pub service : KeepsService script.setup (replayed script)
 
 -- the sink got a front of the text
 abbrev pub GainsFront : Option (List ℕ) → Option (List ℕ) → List ℕ → Type 0
@@ -58,14 +48,11 @@ IsCutRun (Ok script) held now = WritesRun script (GainsFront held now)
 IsCutRun (Err bad) held now = GainsFront held now (bad_line_text bad)
 
 -- ---- over split stores
--- the same promise of the history of such a run, which serves the script besides
+-- the history of such a run keeps the same promise, answers every line, and serves the script
 pub record KeepsSplit (script : ScriptData) (history : List Item) : Type 0 where
-  pub isolated : Isolated history
-  pub explained : Explained script.setup history
+  pub promise : Promise script history
   pub answers : Answers script history
   pub served : Served script history
-  pub planned : Planned script history
-  pub service : KeepsService script.setup history
 
 -- the text of a history was written that the logs of all actors settle into, each of which is of its actor's lines
 pub record WritesSplit (script : ScriptData) (writes : List ℕ → Type 0) : Type 0 where

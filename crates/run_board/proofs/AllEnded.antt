@@ -65,7 +65,7 @@ none_of_both actor (x ∷ xs) ys none others =
     let k = none_both x (seat_of xs actor) (same_actor x.actor actor) none in
     none_by x (seat_of (xs ++ ys) actor) (same_actor x.actor actor) k.0 (none_of_both actor xs ys k.1 others)
 
-other_way : (a b : Actor) (same : Bool) → same_actor a b ≡ same → same_actor b a ≡ false → same ≡ false
+pub other_way : (a b : Actor) (same : Bool) → same_actor a b ≡ same → same_actor b a ≡ false → same ≡ false
 other_way a b false is not = refl
 other_way a b true is not = absurd (true≢false (sym (ap (λ (x : Actor). same_actor x a) (sym (actor_same a b is)) ∙ same_itself a) ∙ not))
 

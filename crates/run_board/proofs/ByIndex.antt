@@ -13,17 +13,17 @@ use Rattle.run_board.specs.declared.seated.Seated.{Seated}
 use Rattle.run_board.specs.Seating.{after_turn, is_seat_of, seated_of, sits_at, SitOnce}
 
 -- ---- one element alone may pass a test
-abbrev IsAlone : {X : Type 0} → (X → Bool) → List X → ℕ → Type 0
+abbrev pub IsAlone : {X : Type 0} → (X → Bool) → List X → ℕ → Type 0
 IsAlone {X} test xs i = (j : ℕ) (x : X) → slice_get xs j ≡ Some x → test x ≡ true → j ≡ i
 
-fails : (here : Bool) (j i : ℕ) → (here ≡ true → j ≡ i) → (j ≡ i → ⊥) → here ≡ false
+pub fails : (here : Bool) (j i : ℕ) → (here ≡ true → j ≡ i) → (j ≡ i → ⊥) → here ≡ false
 fails true j i alone other = absurd (other (alone refl))
 fails false j i alone other = refl
 
-alone_left : {X : Type 0} (test : X → Bool) (y : X) (ys : List X) (i : ℕ) → IsAlone test (y ∷ ys) (suc i) → IsAlone test ys i
+pub alone_left : {X : Type 0} (test : X → Bool) (y : X) (ys : List X) (i : ℕ) → IsAlone test (y ∷ ys) (suc i) → IsAlone test ys i
 alone_left test y ys i alone j x is passes = let same : suc j ≡ suc i = alone (suc j) x is passes in omega (arith, same)
 
-not_first : {X : Type 0} (test : X → Bool) (y : X) (ys : List X) (i : ℕ) → IsAlone test (y ∷ ys) (suc i) → test y ≡ false
+pub not_first : {X : Type 0} (test : X → Bool) (y : X) (ys : List X) (i : ℕ) → IsAlone test (y ∷ ys) (suc i) → test y ≡ false
 not_first test y ys i alone = fails (test y) 0 (suc i) (alone 0 y refl) (λ (same : 0 ≡ suc i). omega (arith, same))
 
 find_alone : {X : Type 0} (test : X → Bool) (xs : List X) (i : ℕ) (x : X) → slice_get xs i ≡ Some x → test x ≡ true → IsAlone test xs i → find test xs ≡ Some x
@@ -43,7 +43,7 @@ map_alone test f stays (y ∷ ys) zero x is alone =
     λ k. f (same_Some y x is k) ∷ rest k
 map_alone test f stays (y ∷ ys) (suc i) x is alone = λ k. stays y (not_first test y ys i alone) k ∷ map_alone test f stays ys i x is (alone_left test y ys i alone) k
 
-missed_by : {X : Type 0} (x : X) (rest : Option X) (here : Bool) → cond here (Some x) rest ≡ None → (here ≡ false) × (rest ≡ None)
+pub missed_by : {X : Type 0} (x : X) (rest : Option X) (here : Bool) → cond here (Some x) rest ≡ None → (here ≡ false) × (rest ≡ None)
 missed_by x rest true is = absurd (none-some x (sym is))
 missed_by x rest false is = (refl, is)
 
@@ -55,10 +55,11 @@ map_missed test f stays (x ∷ xs) is = let none : (test x ≡ false) × (find t
 abbrev if_of : Actor → (Seated → Seated) → Seated → Seated
 if_of actor f s = cond (same_actor s.seat.actor actor) (f s) s
 
-is_its : (seated : List Seated) (i : ℕ) (actor : Actor) (s : Seated) → sits_at seated i actor ≡ true → slice_get seated i ≡ Some s → same_actor s.seat.actor actor ≡ true
+pub is_its : (seated : List Seated) (i : ℕ) (actor : Actor) (s : Seated) → sits_at seated i actor ≡ true → slice_get seated i ≡ Some s → same_actor s.seat.actor actor ≡ true
 is_its seated i actor s sits is = ap (λ (found : Option Seated). is_seat_of found actor) (sym is) ∙ sits
 
-only : (seated : List Seated) (i : ℕ) (actor : Actor) (s : Seated) → SitOnce seated → sits_at seated i actor ≡ true → slice_get seated i ≡ Some s → IsAlone (λ (x : Seated). same_actor x.seat.actor actor) seated i
+-- who sits at an index sits nowhere else
+pub only : (seated : List Seated) (i : ℕ) (actor : Actor) (s : Seated) → SitOnce seated → sits_at seated i actor ≡ true → slice_get seated i ≡ Some s → IsAlone (λ (x : Seated). same_actor x.seat.actor actor) seated i
 only seated i actor s once sits is j x there passes = once j i x s there is (actor_same x.seat.actor actor passes ∙ sym (actor_same s.seat.actor actor (is_its seated i actor s sits is)))
 
 pub found_at : (seated : List Seated) (i : ℕ) (actor : Actor) (s : Seated) → SitOnce seated → sits_at seated i actor ≡ true → slice_get seated i ≡ Some s → seated_of seated actor ≡ Some s

@@ -1,9 +1,9 @@
 -- Where nothing is ahead of an actor it has no line left, since each line with nothing left to do was passed.
-use Rattle.std.proofs.Common.{◌≡◌, ℕ, zero, suc, Bool, true, false, cond, List, [], ◌∷◌, Option, Some, None, refl, sym, ◌∙◌, ap, subst}
-use Rattle.std.specs.Prelude.{drop, filter, fold, slice_get}
+use Rattle.std.proofs.Common.{◌≡◌, ℕ, zero, suc, ◌≤◌, arith, length, leb, Bool, true, false, cond, List, [], ◌∷◌, Option, Some, None, refl, sym, ◌∙◌, ap, subst}
+use Rattle.std.specs.Prelude.{◌↔◌, IsTrue, drop, filter, fold, slice_get}
 use Rattle.std.specs.Option.{option_map}
-use Rattle.std.proofs.lemmas.Bool.{true≢false}
-use Rattle.std.proofs.lemmas.Option.{same_Some, none-some}
+use Rattle.std.proofs.lemmas.Bool.{le-leb, leb-true, true≢false}
+use Rattle.std.proofs.lemmas.Option.{same_Some, none-some, slice_get_past}
 use Rattle.stamp_base.specs.SetupNumbers.{SetupNumbers}
 use Rattle.history_book.specs.declared.item.Actor.{Actor}
 use Rattle.history_book.specs.declared.item.Actor.TheVariants.{Session}
@@ -22,6 +22,7 @@ use Rattle.command_semantics.specs.Runs.{Played, clocks_of}
 use Rattle.command_semantics.specs.Views.{view_of}
 use Rattle.command_semantics.proofs.ScriptWalks.{actor_same}
 use Rattle.turn_rules.specs.declared.ahead.NextAction.TheVariants.{Passes}
+use Rattle.turn_rules.specs.declared.seat.Holds.{Holds}
 use Rattle.turn_rules.specs.declared.seat.Seat.{Seat}
 use Rattle.turn_rules.specs.declared.turn.Turn.{Turn}
 use Rattle.turn_rules.specs.Waiting.{own_opens, own_next}
@@ -31,7 +32,11 @@ use Rattle.turn_rules.proofs.AimsAlike.{Alike, ahead_alike, passed_alike}
 use Rattle.turn_rules.proofs.AllSeats.{has_seat}
 use Rattle.turn_rules.proofs.SeatLists.{find_true, drop_get, drop_next}
 use Rattle.turn_rules.proofs.SeatsOn.{passed_actor, passed_seat}
+use Rattle.run_board.specs.declared.seated.Seated.{Seated}
+use Rattle.run_board.specs.Run.{SitsAt}
+use Rattle.run_board.specs.Seating.{seated_of}
 use Rattle.run_board.specs.Steps.{place_in}
+use Rattle.run_board.proofs.Found.{IsFound, is_found}
 
 -- ---- a seat that has passed what it can
 -- its present line has something left to do
@@ -132,3 +137,32 @@ seat_ended script turns actor aim (Some seat) fit is passes ahead =
 
 pub has_ended : (script : ScriptData) (turns : List Turn) (actor : Actor) (aim : ℕ) → AreLinesOf script.setup script.lines → own_ahead script (carried script turns) actor aim ≡ Passes → slice_get (lines_of script actor) (place_in (seat_of (carried script turns).seats actor)) ≡ None
 has_ended script turns actor aim fit ahead = seat_ended script turns actor aim (seat_of (carried script turns).seats actor) fit refl (through_carried script turns actor) ahead
+
+-- ---- where an actor's lines end
+none_past : {X : Type 0} (xs : List X) (i : ℕ) → slice_get xs i ≡ None → length xs ≤ i
+none_past [] i none = omega arith
+none_past (x ∷ xs) zero none = absurd (none-some x (sym none))
+none_past (x ∷ xs) (suc i) none = let less : length xs ≤ i = none_past xs i none in omega (arith, less)
+
+end_of : {X : Type 0} (xs : List X) (count i : ℕ) → count ≡ length xs → IsTrue (leb count i) ↔ (slice_get xs i ≡ None)
+end_of xs count i is = (
+  λ less. let within : count ≤ i = leb-true count i less in slice_get_past xs i (omega (arith, within, is)),
+  λ none. let within : length xs ≤ i = none_past xs i none in le-leb count i (omega (arith, within, is)),
+)
+
+abbrev pub Ends : ScriptData → Actor → ℕ → Bool → Type 0
+Ends script actor done ended = IsTrue ended ↔ (slice_get (lines_of script actor) done ≡ None)
+
+-- beside a seat all lines of its actor stand
+pub ends_seated : (script : ScriptData) (turns : List Turn) (names : List (List ℕ)) (held : List Holds) (seated : List Seated) (actor : Actor) (s : Seated) (done : ℕ) → SitsAt script (carried script turns) names held seated → seated_of seated actor ≡ Some s → (count : ℕ) → count ≡ length s.lines.items → Ends script actor done (leb count done)
+ends_seated script turns names held seated actor s done k is count counted =
+    let found : IsFound script (Some s) (seat_of (carried script turns).seats actor) = is_found script (carried script turns) names held seated actor (Some s) k is in
+    let same : s.seat.actor ≡ actor = actor_same s.seat.actor actor (find_true (λ (x : Seated). same_actor x.seat.actor actor) seated s is) in
+    subst (λ (lines : List Line). IsTrue (leb count done) ↔ (slice_get lines done ≡ None)) (found.1.lines ∙ ap (λ (a : Actor). lines_of script a) same) (end_of s.lines.items count done counted)
+
+-- an actor without a seat has no line
+pub ends_unseated : (script : ScriptData) (turns : List Turn) (names : List (List ℕ)) (held : List Holds) (seated : List Seated) (actor : Actor) (done : ℕ) → AreLinesOf script.setup script.lines → SitsAt script (carried script turns) names held seated → seated_of seated actor ≡ None → Ends script actor done true
+ends_unseated script turns names held seated actor done fit k is =
+    let none : seat_of (carried script turns).seats actor ≡ None = is_found script (carried script turns) names held seated actor None k is in
+    let lines : lines_of script actor ≡ [] = no_own_lines script.setup actor script.lines fit (λ fits. has_seat script actor turns fits none) in
+    (λ t. ap (λ (ls : List Line). slice_get ls done) lines, λ ended. cc)

@@ -24,6 +24,7 @@ mod OtherViews
 mod PassedOnce
 mod OneActor
 mod ByIndex
+mod Giving
 mod SeatedOnce
 mod OthersSit
 mod Advancing

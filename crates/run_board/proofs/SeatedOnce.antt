@@ -5,23 +5,23 @@ use Rattle.std.specs.Prelude.{map, slice_get}
 use Rattle.std.specs.Option.{option_map}
 use Rattle.std.proofs.lemmas.List.{length-append}
 use Rattle.std.proofs.lemmas.Option.{same_Some, none-some, slice_get-map}
-use Rattle.stamp_base.specs.SetupNumbers.{SetupNumbers}
 use Rattle.history_book.specs.declared.item.Actor.{Actor}
 use Rattle.history_book.specs.declared.item.Actor.TheVariants.{Clock, Node, Session, Janitor}
 use Rattle.history_book.proofs.MemberLemmas.{slice_get-push}
 use Rattle.machine.specs.declared.event.Event.{Event}
+use Rattle.script_data.specs.declared.line.Line.{Line}
 use Rattle.script_data.specs.Data.{ScriptData}
 use Rattle.command_semantics.specs.declared.point.Interruption.{Interruption}
 use Rattle.command_semantics.specs.Runs.{step_of}
 use Rattle.turn_rules.specs.declared.seat.Holds.{Holds}
 use Rattle.turn_rules.specs.declared.seat.Seat.{Seat}
 use Rattle.turn_rules.specs.declared.turn.Turn.{Turn}
-use Rattle.turn_rules.specs.Seats.{first_seat, first_seats, seats_of}
+use Rattle.turn_rules.specs.Seats.{first_seat, seats_of}
 use Rattle.turn_rules.specs.Carried.{Carried, event_of, moved, with_event, seat_passed, all_passed, turned_by, turned, at_first, carried}
 use Rattle.turn_rules.proofs.SeatsOn.{passed_actor, moved_actor}
 use Rattle.run_board.specs.declared.seated.Seated.{Seated}
 use Rattle.run_board.specs.Run.{SitsAt}
-use Rattle.run_board.specs.Seating.{after_turn, SitOnce}
+use Rattle.run_board.specs.Seating.{after_turn, SitOnce, AreSeatedFirst}
 use Rattle.run_board.proofs.OneActor.{same_seat}
 
 -- ---- no two of a list are of one actor
@@ -81,19 +81,22 @@ first_two nodes zero seat is = ap (λ (s : Seat). first_index nodes s.actor) (sy
 first_two nodes (suc zero) seat is = ap (λ (s : Seat). first_index nodes s.actor) (sym (same_Some (first_seat Janitor) seat is))
 first_two nodes (suc (suc i)) seat is = absurd (none-some seat is)
 
-first_lie : (setup : SetupNumbers) → LieFrom 0 (first_index setup.nodes) (first_seats setup)
-first_lie setup =
-    let index : Actor → ℕ = first_index setup.nodes in
-    let nodes : List Seat = seats_of (λ n. Node n) setup.nodes in
-    let sessions : List Seat = seats_of (λ s. Session s) 16 in
-    let last : LieFrom (2 + length nodes) index sessions = subst (λ (n : ℕ). LieFrom (2 + n) index sessions) (sym (many_of (λ n. Node n) setup.nodes)) (kind_lies index (λ s. Session s) (2 + setup.nodes) 16 (λ m. refl)) in
-    lie_both index (first_seat Clock ∷ first_seat Janitor ∷ []) (nodes ++ sessions) 0 (first_two setup.nodes) (lie_both index nodes sessions 2 (kind_lies index (λ n. Node n) 2 setup.nodes (λ m. refl)) last)
+abbrev first_of : ℕ → List Seat
+first_of nodes = first_seat Clock ∷ first_seat Janitor ∷ seats_of (λ n. Node n) nodes ++ seats_of (λ s. Session s) 16
 
-first_once : (setup : SetupNumbers) → OneSeatEach (first_seats setup)
-first_once setup i j a b first second same =
-    let here : first_index setup.nodes a.actor ≡ 0 + i = first_lie setup i a first in
-    let there : first_index setup.nodes b.actor ≡ 0 + j = first_lie setup j b second in
-    let both : first_index setup.nodes a.actor ≡ first_index setup.nodes b.actor = ap (λ (actor : Actor). first_index setup.nodes actor) same in
+first_lie : (nodes : ℕ) → LieFrom 0 (first_index nodes) (first_of nodes)
+first_lie nodes =
+    let index : Actor → ℕ = first_index nodes in
+    let all : List Seat = seats_of (λ n. Node n) nodes in
+    let sessions : List Seat = seats_of (λ s. Session s) 16 in
+    let last : LieFrom (2 + length all) index sessions = subst (λ (n : ℕ). LieFrom (2 + n) index sessions) (sym (many_of (λ n. Node n) nodes)) (kind_lies index (λ s. Session s) (2 + nodes) 16 (λ m. refl)) in
+    lie_both index (first_seat Clock ∷ first_seat Janitor ∷ []) (all ++ sessions) 0 (first_two nodes) (lie_both index all sessions 2 (kind_lies index (λ n. Node n) 2 nodes (λ m. refl)) last)
+
+first_once : (nodes : ℕ) → OneSeatEach (first_of nodes)
+first_once nodes i j a b first second same =
+    let here : first_index nodes a.actor ≡ 0 + i = first_lie nodes i a first in
+    let there : first_index nodes b.actor ≡ 0 + j = first_lie nodes j b second in
+    let both : first_index nodes a.actor ≡ first_index nodes b.actor = ap (λ (actor : Actor). first_index nodes actor) same in
     omega (arith, here, there, both)
 
 -- ---- turns keep the actors of seats
@@ -109,14 +112,20 @@ all_once script [] c once = once
 all_once script (t ∷ turns) c once = all_once script turns (turned script c t) (turned_once script c t (event_of script c t) once)
 
 seats_once : (script : ScriptData) (turns : List Turn) → OneSeatEach (carried script turns).seats
-seats_once script turns = all_once script turns (all_passed script (at_first script)) (passed_once script (at_first script) (first_once script.setup))
+seats_once script turns = all_once script turns (all_passed script (at_first script)) (passed_once script (at_first script) (first_once script.setup.nodes))
 
 -- ---- so do those with their lines beside them
-pub sit_once : (script : ScriptData) (turns : List Turn) (names : List (List ℕ)) (held : List Holds) (seated : List Seated) → SitsAt script (carried script turns) names held seated → SitOnce seated
-sit_once script turns names held seated k i j a b first second same =
+once_beside : (seats : List Seat) (seated : List Seated) → map (λ (s : Seated). s.seat) seated ≡ seats → OneSeatEach seats → SitOnce seated
+once_beside seats seated are once i j a b first second same =
     let seat_of_one : Seated → Seat = λ s. s.seat in
-    let once : OneSeatEach (map seat_of_one seated) = subst (λ (seats : List Seat). OneSeatEach seats) (sym k.seats) (seats_once script turns) in
-    once i j a.seat b.seat (slice_get-map seat_of_one seated i ∙ ap (λ (o : Option Seated). option_map seat_of_one o) first) (slice_get-map seat_of_one seated j ∙ ap (λ (o : Option Seated). option_map seat_of_one o) second) same
+    let each : OneSeatEach (map seat_of_one seated) = subst (λ (xs : List Seat). OneSeatEach xs) (sym are) once in
+    each i j a.seat b.seat (slice_get-map seat_of_one seated i ∙ ap (λ (o : Option Seated). option_map seat_of_one o) first) (slice_get-map seat_of_one seated j ∙ ap (λ (o : Option Seated). option_map seat_of_one o) second) same
+
+pub sit_once : (script : ScriptData) (turns : List Turn) (names : List (List ℕ)) (held : List Holds) (seated : List Seated) → SitsAt script (carried script turns) names held seated → SitOnce seated
+sit_once script turns names held seated k = once_beside (carried script turns).seats seated k.seats (seats_once script turns)
+
+pub first_sit_once : (nodes : ℕ) (lines : List Line) (seated : List Seated) → AreSeatedFirst nodes lines seated → SitOnce seated
+first_sit_once nodes lines seated k = once_beside (first_of nodes) seated k.seats (first_once nodes)
 
 pub moved_once : (t : Turn) (halt : Option Interruption) (asked : Bool) (seated : List Seated) → SitOnce seated → SitOnce (map (after_turn t halt asked) seated)
 moved_once t halt asked seated once = mapped_once (after_turn t halt asked) (λ (s : Seated). s.seat.actor) (λ (s : Seated). s.seat.actor) (same_seat t halt asked) seated once

@@ -15,10 +15,10 @@ map_push : (all : List Seated) (s : Seated) → map (λ (x : Seated). x.seat) (a
 map_push [] s = refl
 map_push (x ∷ all) s = ap (λ seats. x.seat ∷ seats) (map_push all s)
 
-pub one_more_sits : (lines : List Line) (sitting : List Seat) (old new : List Seated) (actor : Actor) (added : Seated) → AreSeated lines sitting old → new ≡ old ++ added ∷ [] → added.seat ≡ first_seat actor → added.lines.items ≡ own_lines actor lines → AreSeated lines (sitting ++ first_seat actor ∷ []) new
-one_more_sits lines sitting old new actor added k is seat own = record {
+pub one_more_sits : (sitting : List Seat) (old new : List Seated) (actor : Actor) (added : Seated) → AreSeated [] sitting old → new ≡ old ++ added ∷ [] → added.seat ≡ first_seat actor → added.lines.items ≡ [] → AreSeated [] (sitting ++ first_seat actor ∷ []) new
+one_more_sits sitting old new actor added k is seat none = record {
   seats = ap (λ all. map (λ (x : Seated). x.seat) all) is ∙ map_push old added ∙ (λ i. k.seats i ++ seat i ∷ []);
-  own = subst (λ all. All (λ (s : Seated). s.lines.items ≡ own_lines s.seat.actor lines) all) (sym is) (All-push (λ (s : Seated). s.lines.items ≡ own_lines s.seat.actor lines) old added k.own (own ∙ ap (λ (s : Seat). own_lines s.actor lines) (sym seat)));
+  own = subst (λ all. All (λ (s : Seated). s.lines.items ≡ own_lines s.seat.actor []) all) (sym is) (All-push (λ (s : Seated). s.lines.items ≡ own_lines s.seat.actor []) old added k.own none);
   place = subst (λ all. All (λ (s : Seated). s.seat.place ≡ 0) all) (sym is) (All-push (λ (s : Seated). s.seat.place ≡ 0) old added k.place (ap (λ (s : Seat). s.place) seat));
 }
 

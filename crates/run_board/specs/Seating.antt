@@ -84,9 +84,13 @@ pub record AreSeated (lines : List Line) (sitting : List Seat) (all : List Seate
   pub own : All (λ s. s.lines.items ≡ own_lines s.seat.actor lines) all
   pub place : All (λ s. s.seat.place ≡ 0) all
 
--- the actor sits down behind those that sit
-abbrev pub SitsDown : List Line → Actor → List Seated → List Seated → Type 0
-SitsDown lines actor old new = (sitting : List Seat) → AreSeated lines sitting old → AreSeated lines (sitting ++ first_seat actor ∷ []) new
+-- the actor sits down behind those that sit, none of which has a line
+abbrev pub SitsDown : Actor → List Seated → List Seated → Type 0
+SitsDown actor old new = (sitting : List Seat) → AreSeated [] sitting old → AreSeated [] (sitting ++ first_seat actor ∷ []) new
+
+-- each that sits has its own lines, this one among them where it is of that actor
+abbrev pub TakesLine : Line → List Seated → List Seated → Type 0
+TakesLine line old new = (lines : List Line) (sitting : List Seat) → SitOnce old → AreSeated lines sitting old → AreSeated (lines ++ line ∷ []) sitting new
 
 -- all actors sit before their first lines
 abbrev pub AreSeatedFirst : ℕ → List Line → List Seated → Type 0

@@ -31,7 +31,7 @@ use stamp_base::{NoMemory, NodeNo, SessionNo, Stage, Term};
 use std::alloc::Global;
 use std::marker::Model;
 use std::sync::ledger::Ledger;
-use thread_scripts::{are_at_their_ends, is_same};
+use thread_scripts::is_same;
 use thread_steps::{ActorShare, Cursors, StageStep};
 use turn_rules::{
     Turn, turns_answer, turns_answer_so_far, turns_are_planned, turns_are_planned_so_far,
@@ -177,10 +177,20 @@ impl<L: Ledger> Play<L> {
     fn is_over(&self, script: &Script, shares: &[ActorShare<L>]) -> bool
         ensures { IsTrue result ↔ IsOver (data_of script.now) self.now shares.now }
     {
-        let cursors = self.cursors.as_slice();
-        shares.len() == cursors.len()
+        shares.len() == self.cursors.as_slice().len()
             && is_same(self.run.script(), script)
-            && are_at_their_ends(script, cursors)
+            && self.are_at_their_ends()
+    }
+
+    // Whether no actor has a line behind its cursor. An actor's lines were counted when it sat down.
+    fn are_at_their_ends(&self) -> bool
+        ensures { IsTrue result ↔ AreAtTheirEnds self.now.ran.script self.now.cursors }
+    {
+        let run = &self.run;
+        self.cursors
+            .as_slice()
+            .iter()
+            .all(|cursor| run.ends_at(&cursor.actor, cursor.done))
     }
 
     fn close(self, shares: Vec<ActorShare<L>>) -> (Cluster, Vec<Turn>)

@@ -1,10 +1,11 @@
 // What a script run tells of actors and stages.
-ghost use Rattle.std.specs.Prelude.{◌≡◌, ◌<◌, Some, None, true, length, MatchOption, IfSome};
+ghost use Rattle.std.specs.Prelude.{◌≡◌, ◌<◌, ◌↔◌, Some, None, true, length, slice_get, IsTrue, MatchOption, IfSome};
 ghost use Rattle.machine.specs.Readers as read;
 ghost use Rattle.command_semantics.specs.Clocks.{HaveRoom};
 ghost use Rattle.command_semantics.specs.Next.{reading_at};
 ghost use Rattle.command_semantics.specs.Runs.{clocks_of};
 ghost use Rattle.turn_rules.specs.declared.ahead.NextAction.TheVariants.{Passes};
+ghost use Rattle.turn_rules.specs.Seats.{lines_of};
 ghost use Rattle.turn_rules.specs.Carried.{ahead_at, aimed_node, own_ahead, event_of, made_by, name_posted};
 ghost use Rattle.turn_rules.specs.Lawful as lawful;
 ghost use Rattle.run_board.specs.Run.{reached_by};
@@ -14,10 +15,12 @@ use crate::ScriptRun;
 use crate::making::is_lacking;
 use crate::marks::holds_at;
 use crate::seated::seated_of;
+use command_semantics::View;
 use history_book::Actor;
-use machine::Event;
+use machine::{Doing, Event};
 use script_data::{Line, Verb};
 use stamp_base::{NodeNo, SessionNo, Stage, Term};
+use system_parts::Place;
 use turn_rules::{NextAction, Seat, Turn, own_event, stage_turn};
 
 impl ScriptRun {
@@ -28,6 +31,16 @@ impl ScriptRun {
         match seated_of(self.seated.as_slice(), actor) {
             Some(seated) => seated.seat.place,
             None => 0,
+        }
+    }
+
+    /// Whether the actor has no line behind the first so many.
+    pub(crate) fn ends_at(&self, actor: &Actor, done: u64) -> bool
+        ensures { IsTrue result ↔ (slice_get (lines_of self.now.script actor.now) done ≡ None) }
+    {
+        match seated_of(self.seated.as_slice(), actor) {
+            Some(seated) => seated.lines.len() as u64 <= done,
+            None => true,
         }
     }
 
@@ -122,8 +135,8 @@ impl ScriptRun {
     pub fn has_turn(&self, node: NodeNo, stage: Stage, session: SessionNo) -> bool
         ensures { result ≡ has_turn (state_of self.now) node stage session }
     {
-        let view = self.planned.view(Actor::Session(session));
-        stage_turn(stage, node, session, &view).is_some()
+        let (request, commit) = self.planned.cluster.in_flight(session);
+        stage_turn(stage, node, session, &asking(request, commit)).is_some()
     }
 
     /// The event of a stage's turn.
@@ -165,5 +178,17 @@ fn event_ahead(ahead: &NextAction) -> Option<Event>
     match ahead {
         NextAction::Makes(event) => Some(*event),
         NextAction::Waits(_) | NextAction::Passes => None,
+    }
+}
+
+// What a stage looks at of a session that has this in flight.
+fn asking(request: Option<(NodeNo, Place)>, commit: bool) -> View
+    ensures { (result.request ≡ request) × (result.commit ≡ commit) }
+{
+    View {
+        doing: Doing::Gone,
+        request,
+        commit,
+        sweeping: false,
     }
 }

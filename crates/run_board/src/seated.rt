@@ -1,9 +1,9 @@
 // The seats of the actors, each with its actor's lines.
-ghost use Rattle.std.specs.Prelude.{◌≡◌, ◌<◌, ◌≤◌, All, true, length, map, IfNone, IfOk, IfSome, OnOk, MatchOption, None, Some};
+ghost use Rattle.std.specs.Prelude.{◌≡◌, ◌<◌, ◌≤◌, [], All, true, length, map, IfNone, IfOk, IfSome, OnOk, MatchOption, None, Some};
 ghost use Rattle.history_book.specs.declared.item.Actor.TheVariants.{Node, Session};
 ghost use Rattle.planned_cluster.specs.Fitting.{SessionIsThere};
 ghost use Rattle.planned_cluster.specs.Standing.{clocks_at};
-ghost use Rattle.run_board.specs.Seating.{own_lines, line_of, seated_of, sits_at, gone_on_with, after_turn, after_passing, after_passes, passing_of, touched, CanPass, AreSeatedFirst, SitOnce, SitsDown};
+ghost use Rattle.run_board.specs.Seating.{line_of, seated_of, sits_at, gone_on_with, after_turn, after_passing, after_passes, passing_of, touched, CanPass, AreSeatedFirst, SitOnce, SitsDown, TakesLine};
 
 use command_semantics::Interruption;
 use history_book::Actor;
@@ -66,69 +66,68 @@ pub fn all_seated(alloc: Global, nodes: u64, lines: &[Line]) -> Result<Vec<Seate
     requires { nodes ≤ 8 }
     ensures { IfOk result (λ all. AreSeatedFirst nodes lines.now all.items) }
 {
-    let mut all = Vec::new(alloc);
-    seat(alloc, Actor::Clock, lines, &mut all)?;
-    seat(alloc, Actor::Janitor, lines, &mut all)?;
-    for node in 0..nodes {
-        seat_node(alloc, node, lines, &mut all)?;
-    }
-    for session in 0..SessionNo::COUNT as u64 {
-        seat_session(alloc, session, lines, &mut all)?;
+    let mut all = without_lines(alloc, nodes)?;
+    for line in lines {
+        give_line(line, &mut all)?;
     }
     Ok(all)
 }
 
-fn seat_node(
-    alloc: Global,
-    number: u64,
-    lines: &[Line],
-    all: &mut Vec<Seated>,
-) -> Result<(), NoMemory>
+// The seats of all actors, each without a line.
+fn without_lines(alloc: Global, nodes: u64) -> Result<Vec<Seated>, NoMemory>
+    requires { nodes ≤ 8 }
+    ensures { IfOk result (λ all. AreSeatedFirst nodes [] all.items) }
+{
+    let mut all = Vec::new(alloc);
+    seat(alloc, Actor::Clock, &mut all)?;
+    seat(alloc, Actor::Janitor, &mut all)?;
+    for node in 0..nodes {
+        seat_node(alloc, node, &mut all)?;
+    }
+    for session in 0..SessionNo::COUNT as u64 {
+        seat_session(alloc, session, &mut all)?;
+    }
+    Ok(all)
+}
+
+fn seat_node(alloc: Global, number: u64, all: &mut Vec<Seated>) -> Result<(), NoMemory>
     requires { number < 8 }
-    ensures { OnOk result (SitsDown lines.now (Node number) all.old.items all.new.items) }
+    ensures { OnOk result (SitsDown (Node number) all.old.items all.new.items) }
 {
     match NodeNo::new(number) {
-        Some(node) => seat(alloc, Actor::Node(node), lines, all),
+        Some(node) => seat(alloc, Actor::Node(node), all),
         None => unreachable!(),
     }
 }
 
-fn seat_session(
-    alloc: Global,
-    number: u64,
-    lines: &[Line],
-    all: &mut Vec<Seated>,
-) -> Result<(), NoMemory>
+fn seat_session(alloc: Global, number: u64, all: &mut Vec<Seated>) -> Result<(), NoMemory>
     requires { number < 16 }
-    ensures { OnOk result (SitsDown lines.now (Session number) all.old.items all.new.items) }
+    ensures { OnOk result (SitsDown (Session number) all.old.items all.new.items) }
 {
     match SessionNo::new(number) {
-        Some(session) => seat(alloc, Actor::Session(session), lines, all),
+        Some(session) => seat(alloc, Actor::Session(session), all),
         None => unreachable!(),
     }
 }
 
-fn seat(alloc: Global, actor: Actor, lines: &[Line], all: &mut Vec<Seated>) -> Result<(), NoMemory>
-    ensures { OnOk result (SitsDown lines.now actor all.old.items all.new.items) }
+fn seat(alloc: Global, actor: Actor, all: &mut Vec<Seated>) -> Result<(), NoMemory>
+    ensures { OnOk result (SitsDown actor all.old.items all.new.items) }
 {
-    let own = own_lines(alloc, &actor, lines)?;
     all.push(Seated {
         seat: Seat::first(actor),
-        lines: own,
+        lines: Vec::new(alloc),
     })?;
     Ok(())
 }
 
-fn own_lines(alloc: Global, actor: &Actor, lines: &[Line]) -> Result<Vec<Line>, NoMemory>
-    ensures { IfOk result (λ own. own.items ≡ own_lines actor.now lines.now) }
+// The line behind those of its actor.
+fn give_line(line: &Line, all: &mut Vec<Seated>) -> Result<(), NoMemory>
+    ensures { OnOk result (TakesLine line.now all.old.items all.new.items) }
 {
-    let mut own = Vec::new(alloc);
-    for line in lines {
-        if line.actor == *actor {
-            own.extend_from_slice(&[*line])?;
-        }
+    if let Some(index) = index_of(all.as_slice(), &line.actor) {
+        all[index].lines.extend_from_slice(&[*line])?;
     }
-    Ok(own)
+    Ok(())
 }
 
 /// Where the actor sits.

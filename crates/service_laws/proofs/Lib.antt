@@ -9,4 +9,13 @@ mod CalmItems
 mod ToldBefore
 mod StampsKept
 mod OneCopyLaw
+mod Unwritten
+mod OpenRows
+mod ErasedRows
+mod SweptRows
+mod WritesBefore
+mod OwnCells
+mod ReadTurns
+mod OwnReads
+mod OwnKept
 pub mod ServiceKept

@@ -1,4 +1,5 @@
 pub mod Told
 pub mod Stamps
 pub mod OneCopy
+pub mod OwnWrites
 pub mod Service

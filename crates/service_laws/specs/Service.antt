@@ -10,10 +10,12 @@ use Rattle.cause_laws.specs.ShownInvariant.{ExplainedInvariant}
 use Rattle.service_rules.specs.Service.{KeepsService}
 use Rattle.service_laws.specs.Told.{ToldInvariant}
 use Rattle.service_laws.specs.Stamps.{StampInvariant}
+use Rattle.service_laws.specs.OwnWrites.{OwnInvariant}
 
 pub record ServiceInvariant (w : State) (h : List Item) : Type 0 where
   pub told : ToldInvariant w h
   pub stamps : StampInvariant w h
+  pub own : OwnInvariant w h
 
 -- before the first event
 abbrev pub ServiceAtFirst : Type 0

@@ -11,8 +11,8 @@ pub fn events_keep_service()
     ensures { EventsKeepService }
 {}
 
-/// Where events have kept it, users may rely on the history: told outcomes are true, stamps keep to real time, and with strict reads
-/// there is one copy.
+/// Where events have kept it, users may rely on the history: told outcomes are true, stamps keep to real time, own writes stand,
+/// and with strict reads there is one copy.
 pub fn service_stands()
     ensures { ServiceNow }
 {}

@@ -2,3 +2,4 @@ mod Walks
 mod WorkedTold
 mod WorkedStamps
 mod WorkedCopies
+mod WorkedOwn

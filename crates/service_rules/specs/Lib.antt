@@ -1,5 +1,7 @@
 pub mod Told
 pub mod Stamps
 pub mod OneCopy
+pub mod OwnWrites
 pub mod Service
 pub mod Worked
+pub mod WorkedOwn

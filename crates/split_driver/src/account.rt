@@ -3,7 +3,7 @@ ghost use Rattle.std.specs.Prelude.{◌≡◌, ◌==◌, [], OnOk, if◌then◌e
 ghost use Rattle.std.specs.List.{list_any};
 ghost use Rattle.log_refinement.specs.Owed as owing;
 
-use crate::owing::{after_repeat, leaves_cells, owed_after, owed_first, same_actor};
+use crate::owing::{after_due, after_repeat, leaves_cells, owed_after, owed_first, same_actor};
 use history_book::{Actor, Item, StoreStep};
 use log_refinement::Owed;
 use script_data::Verb;
@@ -53,7 +53,7 @@ impl Account {
         ensures { result ≡ owing.is_paid self.now }
     {
         match self.owed {
-            Owed::Nothing => true,
+            Owed::Nothing | Owed::Denied => true,
             Owed::Erasure => self.unerased.is_empty(),
             _ => false,
         }
@@ -65,7 +65,8 @@ impl Account {
     {
         let items = entry.kept.as_slice();
         self.add_all(actor, is_step(&entry.event), items)?;
-        self.owed = after_repeat(actor, &entry.event, items, self.owed);
+        let owed = after_due(actor, &entry.event, items, self.owed);
+        self.owed = after_repeat(actor, &entry.event, items, owed);
         Ok(())
     }
 

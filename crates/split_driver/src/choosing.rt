@@ -11,7 +11,7 @@ use crate::later::later_event;
 use crate::looking::Sight;
 use command_semantics::{Point, View, next_event};
 use history_book::Actor;
-use log_refinement::Owed;
+use log_refinement::{Due, Owed};
 use script_data::Line;
 use split_stores::Event;
 use stamp_base::{NodeNo, SessionNo};
@@ -63,15 +63,23 @@ fn owed_event(actor: &Actor, owed: &Owed) -> Choice
     }
 }
 
-/// An answer, which is refused where no request is left, and else a step.
+/// The event of the node that is due, which is refused where the request is not there, and else a step.
 fn paying_event(session: SessionNo, owed: &Owed) -> Event
     ensures { IsLater (Actor.Session session) result }
 {
     match owed {
-        Owed::Answer { node } => Event::Answer {
-            node: *node,
-            session,
-        },
+        Owed::Answer { node, due } => due_event(*node, session, *due),
         _ => Event::Step { session },
+    }
+}
+
+fn due_event(node: NodeNo, session: SessionNo, due: Due) -> Event
+    ensures { IsLater (Actor.Session session) result }
+{
+    match due {
+        Due::Accept => Event::Accept { node, session },
+        Due::Decide => Event::Decide { node, session },
+        Due::Put => Event::Put { node, session },
+        Due::Answer => Event::Answer { node, session },
     }
 }

@@ -1,6 +1,6 @@
 // What the run of an actor's line looks at.
 ghost use Rattle.std.specs.Prelude.{◌≡◌};
-ghost use Rattle.split_driver.specs.Sights.{IsSightOf, commit_found, place_found, view_of};
+ghost use Rattle.split_driver.specs.Sights.{IsSightOf, commit_found, may_wait, place_found, view_of};
 
 use command_semantics::View;
 use history_book::Actor;
@@ -40,9 +40,37 @@ pub(crate) fn look<R: Wait>(rt: &R, split: &Split, actor: Actor) -> Sight
 fn look_at_session<R: Wait>(rt: &R, split: &Split, session: SessionNo) -> Sight
     ensures { IsSightOf (Actor.Session session) result }
 {
-    let request = split.request_of(rt, session);
+    let doing = split.doing(rt, session);
+    if may_wait(&doing.doing()) {
+        look_for_request(rt, split, session, doing.asked())
+    } else {
+        let request = SeenRequest::none(session);
+        Sight::Session { doing, request }
+    }
+}
+
+/// The session is looked at behind its request, which may have ended meanwhile.
+fn look_for_request<R: Wait>(
+    rt: &R,
+    split: &Split,
+    session: SessionNo,
+    asked: Option<NodeNo>,
+) -> Sight
+    ensures { IsSightOf (Actor.Session session) result }
+{
+    let request = split.request_of(rt, session, asked);
     let doing = split.doing(rt, session);
     Sight::Session { doing, request }
+}
+
+/// Whether the session may wait for a request.
+fn may_wait(doing: &Option<Doing>) -> bool
+    ensures { result ≡ may_wait doing.now }
+{
+    !matches!(
+        doing,
+        Some(Doing::Free | Doing::Open | Doing::Reading | Doing::Completing)
+    )
 }
 
 impl Sight {
@@ -52,7 +80,7 @@ impl Sight {
     {
         match self {
             Sight::Session { doing, request } => View {
-                doing: doing.doing(),
+                doing: doing.doing().unwrap_or(Doing::Gone),
                 request: place_found(&request.found()),
                 commit: commit_found(&request.found()),
                 sweeping: false,

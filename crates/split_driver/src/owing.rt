@@ -4,10 +4,10 @@ ghost use Rattle.command_semantics.specs.Answers as answers;
 ghost use Rattle.log_refinement.specs.Owed as owing;
 
 use history_book::{Actor, Cause, Item, StoreStep};
-use log_refinement::Owed;
+use log_refinement::{Due, Owed};
 use script_data::Verb;
 use split_stores::Event;
-use stamp_base::{KeyNo, NodeNo, Store, TxnId};
+use stamp_base::{KeyNo, NodeNo, SessionNo, Store, TxnId};
 
 /// What a line owes by the item with which it opens.
 pub(crate) fn owed_first(verb: &Verb, item: &Item) -> Owed
@@ -21,9 +21,19 @@ pub(crate) fn owed_first(verb: &Verb, item: &Item) -> Owed
                 ..
             },
         ) => Owed::Read { key: *key },
-        (Verb::Begin { .. }, Item::AskBegin { node, .. }) => Owed::Answer { node: *node },
-        (Verb::Commit { .. }, Item::AskCommit { node, .. }) => Owed::Answer { node: *node },
+        (Verb::Begin { .. }, Item::AskBegin { node, .. }) => asked(*node),
+        (Verb::Commit { .. }, Item::AskCommit { node, .. }) => asked(*node),
         _ => Owed::Nothing,
+    }
+}
+
+/// The node has just been asked.
+fn asked(node: NodeNo) -> Owed
+    ensures { result ≡ Owed.Answer node Due.Accept }
+{
+    Owed::Answer {
+        node,
+        due: Due::Accept,
     }
 }
 
@@ -34,7 +44,8 @@ pub(crate) fn owed_after(actor: &Actor, steps: bool, owed: Owed, item: &Item) ->
     match owed {
         Owed::Nothing => Owed::Nothing,
         Owed::Read { key } => unless(ends_read(actor, key, item), owed),
-        Owed::Answer { node } => after_asking(actor, node, item),
+        Owed::Answer { node, due } => after_asking(actor, node, due, item),
+        Owed::Denied => Owed::Denied,
         Owed::Removal { start } => unless(steps && removes(actor, start, item), owed),
         Owed::Erasure => unless(steps && ends_completion(actor, item), owed),
         Owed::Quiet => unless(steps && is_idle(actor, item), owed),
@@ -47,12 +58,88 @@ fn unless(ended: bool, owed: Owed) -> Owed
     if ended { Owed::Nothing } else { owed }
 }
 
+/// What is owed after the event, which kept these items: the log shows how far the request has come by the events that were due.
+pub(crate) fn after_due(actor: &Actor, event: &Event, items: &[Item], owed: Owed) -> Owed
+    ensures { result ≡ owing.after_due actor.now event.now items.now owed }
+{
+    match owed {
+        Owed::Answer { node, due } if is_due(actor, node, due, event) => {
+            when_due(actor, node, due, items)
+        }
+        _ => owed,
+    }
+}
+
+/// The event is due, of the session and at the node that it asked.
+fn is_due(actor: &Actor, asked: NodeNo, due: Due, event: &Event) -> bool
+    ensures { result ≡ owing.is_due actor.now asked due event.now }
+{
+    match (due, *event) {
+        (Due::Accept, Event::Accept { node, session }) => is_own(actor, session) && node == asked,
+        (Due::Decide, Event::Decide { node, session }) => is_own(actor, session) && node == asked,
+        (Due::Put, Event::Put { node, session }) => is_own(actor, session) && node == asked,
+        (Due::Answer, Event::Answer { node, session }) => is_own(actor, session) && node == asked,
+        _ => false,
+    }
+}
+
+fn is_own(actor: &Actor, session: SessionNo) -> bool
+    ensures { result ≡ answers.same_actor (Actor.Session session) actor.now }
+{
+    same_actor(&Actor::Session(session), actor)
+}
+
+fn when_due(actor: &Actor, node: NodeNo, due: Due, items: &[Item]) -> Owed
+    ensures { result ≡ owing.when_due actor.now node due items.now }
+{
+    match items {
+        [] => Owed::Answer { node, due },
+        [first, ..] if denies_request(actor, first) => Owed::Denied,
+        [first, ..] => Owed::Answer {
+            node,
+            due: due_after(due, first),
+        },
+    }
+}
+
+/// What is due behind the first item of the event that was due. A put has ended also where it finds a mark, or fails.
+fn due_after(due: Due, item: &Item) -> Due
+    ensures { result ≡ owing.due_after due item.now }
+{
+    match (due, item) {
+        (Due::Accept, Item::Accept { .. }) => Due::Decide,
+        (Due::Decide, Item::Draw { commit: None, .. }) => Due::Answer,
+        (
+            Due::Decide,
+            Item::Draw {
+                commit: Some(_),
+                ..
+            },
+        ) => Due::Put,
+        (Due::Put, Item::Placed { .. } | Item::Step { .. } | Item::Fault { .. }) => Due::Answer,
+        _ => due,
+    }
+}
+
+/// The node has no request of the session.
+fn denies_request(actor: &Actor, item: &Item) -> bool
+    ensures { result ≡ owing.denies_request actor.now item.now }
+{
+    match *item {
+        Item::Refused {
+            cause: Cause::NoRequest { session },
+            ..
+        } => is_own(actor, session),
+        _ => false,
+    }
+}
+
 /// What is owed after the event, which kept these items.
 pub(crate) fn after_repeat(actor: &Actor, event: &Event, items: &[Item], owed: Owed) -> Owed
     ensures { result ≡ owing.after_repeat actor.now event.now items.now owed }
 {
     match owed {
-        Owed::Answer { node } => unless(repeats(actor, node, event, items), owed),
+        Owed::Answer { node, .. } => unless(repeats(actor, node, event, items), owed),
         _ => owed,
     }
 }
@@ -99,53 +186,41 @@ fn ends_read(actor: &Actor, owed: KeyNo, item: &Item) -> bool
 
 // ---- asks
 
-fn after_asking(actor: &Actor, asked: NodeNo, item: &Item) -> Owed
-    ensures { result ≡ owing.after_asking actor.now asked item.now }
+fn after_asking(actor: &Actor, asked: NodeNo, due: Due, item: &Item) -> Owed
+    ensures { result ≡ owing.after_asking actor.now asked due item.now }
 {
     match *item {
         Item::Begin { session, .. } if same_actor(&Actor::Session(session), actor) => Owed::Nothing,
         Item::Committed { session, start, .. } if same_actor(&Actor::Session(session), actor) => {
             Owed::Removal { start }
         }
-        Item::Refused { actor: who, cause } => after_refusal(actor, asked, &who, &cause),
+        Item::Refused { actor: who, cause } => after_refusal(actor, asked, due, &who, &cause),
         Item::Fault { actor: who, store } if fails_record(asked, &who, store) => Owed::Nothing,
-        _ => Owed::Answer { node: asked },
+        _ => Owed::Answer { node: asked, due },
     }
 }
 
-fn after_refusal(actor: &Actor, asked: NodeNo, who: &Actor, cause: &Cause) -> Owed
-    ensures { result ≡ owing.after_refusal actor.now asked who.now cause.now }
+fn after_refusal(actor: &Actor, asked: NodeNo, due: Due, who: &Actor, cause: &Cause) -> Owed
+    ensures { result ≡ owing.after_refusal actor.now asked due who.now cause.now }
 {
-    if denies_request(actor, cause) {
-        Owed::Nothing
-    } else if is_lost(asked, cause) {
+    if is_lost(asked, cause) {
         Owed::Quiet
     } else if same_actor(who, actor) {
-        after_own_refusal(asked, cause)
+        after_own_refusal(asked, due, cause)
     } else {
-        Owed::Answer { node: asked }
+        Owed::Answer { node: asked, due }
     }
 }
 
-fn after_own_refusal(asked: NodeNo, cause: &Cause) -> Owed
-    ensures { result ≡ owing.after_own_refusal asked cause.now }
+fn after_own_refusal(asked: NodeNo, due: Due, cause: &Cause) -> Owed
+    ensures { result ≡ owing.after_own_refusal asked due cause.now }
 {
     if leaves_cells(cause) {
         Owed::Erasure
     } else if leaves_nothing(cause) {
         Owed::Nothing
     } else {
-        Owed::Answer { node: asked }
-    }
-}
-
-/// The refusal says that the node has no request of the session.
-fn denies_request(actor: &Actor, cause: &Cause) -> bool
-    ensures { result ≡ owing.denies_request actor.now cause.now }
-{
-    match *cause {
-        Cause::NoRequest { session } => same_actor(&Actor::Session(session), actor),
-        _ => false,
+        Owed::Answer { node: asked, due }
     }
 }
 

@@ -1,6 +1,8 @@
 -- Parts that agree may make their event, and the call that it asks of a store is one that was counted.
-use Rattle.std.proofs.Common.{◌≡◌, ℕ, ◌≤◌, Bool, slice_get, Option, Some, None, refl, arith}
+use Rattle.std.proofs.Common.{◌≡◌, ℕ, zero, suc, ◌≤◌, Bool, List, [], ◌∷◌, slice_get, Option, Some, None, refl, arith}
 use Rattle.std.specs.Option.{option_or}
+use Rattle.std.specs.Prelude.{All, slice_index_or}
+use Rattle.std.proofs.lemmas.List.Elements.{All-head, All-tail}
 use Rattle.stamp_base.specs.declared.stores.Store.{Store}
 use Rattle.stamp_base.specs.declared.stores.Store.TheVariants as store
 use Rattle.history_book.specs.declared.cause.Cause.{Cause}
@@ -26,7 +28,7 @@ use Rattle.split_parts.specs.declared.event.Event.{Event}
 use Rattle.split_parts.specs.declared.event.Event.TheVariants as event
 use Rattle.split_parts.specs.Acts.{timed_by, asked_of}
 use Rattle.split_parts.specs.Agrees.{Agrees, CallsFit, HasAsked, HasAskedIf, HasAskedAt, store_by}
-use Rattle.split_parts.specs.Parts.{Parts, filled, lead_by}
+use Rattle.split_parts.specs.Parts.{Parts, filled}
 
 -- ---- states
 begins_free : (s : state.State) → begin_refusal s ≡ None → s ≡ state.TheVariants.Free
@@ -67,9 +69,14 @@ waits_at None session e asked = tt
 waits_at (Some i) session e asked = waits_if (held_of i session) e asked
 
 -- ---- the event may be made
-pub can_make : (l : Parts) (e : Event) → Agrees l e → lead_by l.node ≤ 1000000 → CanMake (filled l) (timed_by l e)
-can_make l (event.Take node) agrees few = omega (arith, agrees.clock, few)
-can_make l (event.Renew node) agrees few = omega (arith, agrees.clock, few)
+lead_few : (leads : List ℕ) (node : ℕ) → All (λ lead. lead ≤ 1000000) leads → slice_index_or leads node 0 ≤ 1000000
+lead_few [] node few = omega arith
+lead_few (lead ∷ leads) zero few = All-head (λ lead. lead ≤ 1000000) lead leads few
+lead_few (lead ∷ leads) (suc node) few = lead_few leads node (All-tail (λ lead. lead ≤ 1000000) lead leads few)
+
+pub can_make : (l : Parts) (e : Event) → Agrees l e → All (λ lead. lead ≤ 1000000) l.plan.leads → CanMake (filled l) (timed_by l e)
+can_make l (event.Take node) agrees few = omega (arith, agrees.clock, lead_few l.plan.leads node few)
+can_make l (event.Renew node) agrees few = omega (arith, agrees.clock, lead_few l.plan.leads node few)
 can_make l (event.Extend node) agrees few = agrees.parts
 can_make l (event.Crash node) agrees few = λ session post c at there. waits_at post session c.entry (agrees.parts session post c at there)
 can_make l (event.AskBegin session node) agrees few = λ c post there at may. agrees.parts c post there at (begins_free c.entry.state may)

@@ -1,7 +1,7 @@
 -- For split_stores too.
 -- What is found in the filled state where a part is lent, and what follows for facts of what is found there.
 use Rattle.std.proofs.Common.{◌≡◌, ℕ, zero, suc, ◌<◌, ◌≤◌, ◌↔◌, Bool, true, false, nat_lt, List, [], ◌∷◌, length, replicate, slice_get, slice_set, Option, Some, None, refl, sym, ap, ◌∙◌, subst, arith}
-use Rattle.std.specs.Prelude.{slice_index_or, IfSome, IsSomeAnd, IsTrue, if◌then◌else◌}
+use Rattle.std.specs.Prelude.{option_map, slice_index_or, IfSome, IsSomeAnd, IsTrue, if◌then◌else◌}
 use Rattle.std.proofs.lemmas.Option.{same_Some}
 use Rattle.system_parts.specs.Rows.{looked}
 use Rattle.system_parts.specs.declared.asks.Ask.{Ask}
@@ -13,20 +13,27 @@ use Rattle.machine.specs.Calls.{KeepsShadowNext}
 use Rattle.isolation_laws.specs.Words.{ClientAt}
 use Rattle.cause_laws.specs.RequestCalls.{PostAt}
 use Rattle.split_parts.specs.Agrees.{HasNode, IsAsked}
-use Rattle.split_parts.specs.Lookups.{post_by}
-use Rattle.split_parts.specs.Parts.{Node, Parts, filled, lent_clients, lent_nodes, or_else, setup_by, setup_of}
+use Rattle.split_parts.specs.Lookups.{client_lent, post_by, session_at}
+use Rattle.split_parts.specs.Parts.{Node, Parts, Session, client_or, filled, lent_clients, lent_nodes, setup_of}
 
 -- ---- sessions
-client_lent : (n i : ℕ) (clients : List Client) (sessions : List (Option Client)) (c : Client) → i < n → i < length clients → slice_index_or sessions i None ≡ Some c → slice_get (lent_clients n clients sessions) i ≡ Some c
-unfolding lent_clients
-client_lent zero i clients sessions c less within at = absurd (omega (arith, less))
-client_lent (suc n) i [] sessions c less within at = absurd (omega (arith, within))
-client_lent (suc n) i (d ∷ clients) [] c less within at = absurd (cc)
-client_lent (suc n) zero (d ∷ clients) (s ∷ sessions) c less within at = ap (λ (x : Option Client). Some (or_else x d)) at
-client_lent (suc n) (suc i) (d ∷ clients) (s ∷ sessions) c less within at = client_lent n i clients sessions c (omega (arith, less)) (omega (arith, within)) at
+client_first : (s : Option Session) (d c : Client) → option_map (λ (own : Session). own.client) s ≡ Some c → Some (client_or s d) ≡ Some c
+client_first None d c at = absurd (cc)
+client_first (Some own) d c at = at
 
-pub client_there : (l : Parts) (session : ℕ) (c : Client) → session < 16 → slice_index_or l.sessions session None ≡ Some c → slice_get (filled l).clients session ≡ Some c
-client_there l session c within at = client_lent 16 session _ l.sessions c within within at
+client_in : (n i : ℕ) (clients : List Client) (sessions : List (Option Session)) (c : Client) → i < n → i < length clients → option_map (λ (own : Session). own.client) (slice_index_or sessions i None) ≡ Some c → slice_get (lent_clients n clients sessions) i ≡ Some c
+unfolding lent_clients
+client_in zero i clients sessions c less within at = absurd (omega (arith, less))
+client_in (suc n) i [] sessions c less within at = absurd (omega (arith, within))
+client_in (suc n) i (d ∷ clients) [] c less within at = absurd (cc)
+client_in (suc n) zero (d ∷ clients) (s ∷ sessions) c less within at = client_first s d c at
+client_in (suc n) (suc i) (d ∷ clients) (s ∷ sessions) c less within at = client_in n i clients sessions c (omega (arith, less)) (omega (arith, within)) at
+
+pub client_there : (l : Parts) (session : ℕ) (c : Client) → session < 16 → client_lent l session ≡ Some c → slice_get (filled l).clients session ≡ Some c
+client_there l session c within at = client_in 16 session _ l.sessions c within within at
+
+pub own_there : (l : Parts) (session : ℕ) (own : Session) → session < 16 → session_at l session ≡ Some own → slice_get (filled l).clients session ≡ Some own.client
+own_there l session own within at = client_there l session own.client within (ap (option_map (λ (o : Session). o.client)) at)
 
 -- ---- the node
 node_in : (k i : ℕ) (post : Option InstanceEntry) → i < k → slice_get (slice_set (replicate k None) i post) i ≡ Some post
@@ -46,41 +53,41 @@ node_set_by k i post false is = node_out k i post (grind (arith, is))
 node_set : (k i : ℕ) (post : Option InstanceEntry) → slice_get (slice_set (replicate k None) i post) i ≡ (if nat_lt i k then Some post else None)
 node_set k i post = node_set_by k i post (nat_lt i k) refl
 
-node_by : (part : Option Node) (node : ℕ) → IsSomeAnd part (λ n. n.node ≡ node) → slice_get (lent_nodes (replicate (setup_by part).nodes None) part) node ≡ post_by part
-node_by None node has = absurd (has)
-node_by (Some n) node has = ap (λ i. slice_get (slice_set (replicate n.setup.nodes None) n.node n.instance) i) (sym has) ∙ node_set n.setup.nodes n.node n.instance
+node_by : (nodes : ℕ) (part : Option Node) (node : ℕ) → IsSomeAnd part (λ n. n.node ≡ node) → slice_get (lent_nodes (replicate nodes None) part) node ≡ post_by nodes part
+node_by nodes None node has = absurd (has)
+node_by nodes (Some n) node has = ap (λ i. slice_get (slice_set (replicate nodes None) n.node n.instance) i) (sym has) ∙ node_set nodes n.node n.instance
 
-pub post_there : (l : Parts) (node : ℕ) → HasNode l node → slice_get (filled l).nodes node ≡ post_by l.node
-post_there l node has = node_by l.node node has
+pub post_there : (l : Parts) (node : ℕ) → HasNode l node → slice_get (filled l).nodes node ≡ post_by l.plan.setup.nodes l.node
+post_there l node has = node_by l.plan.setup.nodes l.node node has
 
 -- ---- a fact of what is found there
 -- of the client
-pub of_client : (l : Parts) (session : ℕ) (c : Client) (R : Type 0) (P : Client → Type 0) → session < 16 → slice_index_or l.sessions session None ≡ Some c → (R ↔ P c) → R ↔ ((d : Client) → ClientAt (filled l).clients session d → P d)
+pub of_client : (l : Parts) (session : ℕ) (c : Client) (R : Type 0) (P : Client → Type 0) → session < 16 → client_lent l session ≡ Some c → (R ↔ P c) → R ↔ ((d : Client) → ClientAt (filled l).clients session d → P d)
 of_client l session c R P within at iff =
     let there = client_there l session c within at in
     (λ r d found. subst P (same_Some c d (sym there ∙ found)) (iff.0 r), λ all. iff.1 (all c there))
 
 -- of the instance
-pub of_post : (l : Parts) (node : ℕ) (post : Option InstanceEntry) (R : Type 0) (P : Option InstanceEntry → Type 0) → HasNode l node → post_by l.node ≡ Some post → (R ↔ P post) → R ↔ ((p : Option InstanceEntry) → PostAt (filled l) node p → P p)
+pub of_post : (l : Parts) (node : ℕ) (post : Option InstanceEntry) (R : Type 0) (P : Option InstanceEntry → Type 0) → HasNode l node → post_by l.plan.setup.nodes l.node ≡ Some post → (R ↔ P post) → R ↔ ((p : Option InstanceEntry) → PostAt (filled l) node p → P p)
 of_post l node post R P has at iff =
     let there = post_there l node has ∙ at in
     (λ r p found. subst P (same_Some post p (sym there ∙ found)) (iff.0 r), λ all. iff.1 (all post there))
 
 -- of both
-pub of_both : (l : Parts) (node session : ℕ) (post : Option InstanceEntry) (c : Client) (R : Type 0) (P : Option InstanceEntry → Client → Type 0) → session < 16 → HasNode l node → slice_index_or l.sessions session None ≡ Some c → post_by l.node ≡ Some post → (R ↔ P post c) → R ↔ ((p : Option InstanceEntry) (d : Client) → PostAt (filled l) node p → ClientAt (filled l).clients session d → P p d)
+pub of_both : (l : Parts) (node session : ℕ) (post : Option InstanceEntry) (c : Client) (R : Type 0) (P : Option InstanceEntry → Client → Type 0) → session < 16 → HasNode l node → client_lent l session ≡ Some c → post_by l.plan.setup.nodes l.node ≡ Some post → (R ↔ P post c) → R ↔ ((p : Option InstanceEntry) (d : Client) → PostAt (filled l) node p → ClientAt (filled l).clients session d → P p d)
 of_both l node session post c R P within has at there iff =
     let client = client_there l session c within at in
     let held = post_there l node has ∙ there in
     (λ r p d found met. subst (λ x. P p x) (same_Some c d (sym client ∙ met)) (subst (λ x. P x c) (same_Some post p (sym held ∙ found)) (iff.0 r)), λ all. iff.1 (all post c held client))
 
-pub no_both : (l : Parts) (node session : ℕ) (P : Option InstanceEntry → Client → Type 0) → HasNode l node → post_by l.node ≡ None → IsTrue true ↔ ((p : Option InstanceEntry) (d : Client) → PostAt (filled l) node p → ClientAt (filled l).clients session d → P p d)
+pub no_both : (l : Parts) (node session : ℕ) (P : Option InstanceEntry → Client → Type 0) → HasNode l node → post_by l.plan.setup.nodes l.node ≡ None → IsTrue true ↔ ((p : Option InstanceEntry) (d : Client) → PostAt (filled l) node p → ClientAt (filled l).clients session d → P p d)
 no_both l node session P has none = (λ r p d found met. absurd (nothing_there (post_there l node has ∙ none) found), λ all. refl)
   where
     nothing_there : {T : Type 0} {a : Option T} {x : T} → a ≡ None → a ≡ Some x → ⊥
     nothing_there none some = absurd (cc)
 
 -- the same, the client first
-pub of_turned : (l : Parts) (node session : ℕ) (post : Option InstanceEntry) (c : Client) (R : Type 0) (P : Client → Option InstanceEntry → Type 0) → session < 16 → HasNode l node → slice_index_or l.sessions session None ≡ Some c → post_by l.node ≡ Some post → (R ↔ P c post) → R ↔ ((d : Client) (p : Option InstanceEntry) → ClientAt (filled l).clients session d → PostAt (filled l) node p → P d p)
+pub of_turned : (l : Parts) (node session : ℕ) (post : Option InstanceEntry) (c : Client) (R : Type 0) (P : Client → Option InstanceEntry → Type 0) → session < 16 → HasNode l node → client_lent l session ≡ Some c → post_by l.plan.setup.nodes l.node ≡ Some post → (R ↔ P c post) → R ↔ ((d : Client) (p : Option InstanceEntry) → ClientAt (filled l).clients session d → PostAt (filled l) node p → P d p)
 of_turned l node session post c R P within has at there iff =
     let both = of_both l node session post c R (λ p d. P d p) within has at there iff in
     (λ r d p met found. both.0 r p d found met, λ all. both.1 (λ p d found met. all d p met found))
@@ -102,7 +109,7 @@ sweeps_none None = tt
 sweeps_none (Some s) = keeps_none (sweep_ask s)
 
 -- ---- no session is beyond the sixteenth
-as_many : (n : ℕ) (clients : List Client) (sessions : List (Option Client)) → length (lent_clients n clients sessions) ≡ length clients
+as_many : (n : ℕ) (clients : List Client) (sessions : List (Option Session)) → length (lent_clients n clients sessions) ≡ length clients
 unfolding lent_clients
 as_many zero clients sessions = refl
 as_many (suc n) [] sessions = refl

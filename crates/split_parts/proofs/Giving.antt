@@ -1,14 +1,15 @@
 -- Parts that are given from a state, and what giving leaves alone.
 use Rattle.std.proofs.Common.{◌≡◌, ℕ, zero, suc, List, [], ◌∷◌, length, slice_set, Option, Some, None, refl, ap, arith}
-use Rattle.std.specs.Prelude.{slice_index_or, IfSome}
+use Rattle.std.specs.Prelude.{◌<◌, ◌^◌, slice_index_or, IfSome}
 use Rattle.stamp_base.specs.declared.stores.Store.{Store}
 use Rattle.stamp_base.specs.declared.stores.Store.TheVariants as store
+use Rattle.port_io.specs.Planned.{PlannedFault}
 use Rattle.system_parts.specs.Rows.{Row}
 use Rattle.system_parts.specs.Pairs.{Pairs}
 use Rattle.system_parts.specs.Record.{MasterRecord, Leasing}
 use Rattle.system_parts.specs.Instance.{InstanceEntry}
 use Rattle.machine.specs.State.{State}
-use Rattle.split_parts.specs.Agrees.{CallsFit, AreFew}
+use Rattle.split_parts.specs.Agrees.{CallsFit}
 use Rattle.split_parts.specs.Parts.{Parts, Node, CellRows, Marks, Record, or_else, given, given_node, given_rows, given_pairs, given_master, given_from, lent_nodes, lent_rows, lent_pairs, lent_master, with_lent, called, cells_called, table_called, master_called, fate_of, cells_fate, table_fate, master_fate}
 use Rattle.split_parts.proofs.Handing.{sessions_back, sessions_twice}
 
@@ -107,33 +108,33 @@ given_called (Some store.Cells) l w = ap (λ (p : Option CellRows). record (give
 given_called (Some store.Table) l w = ap (λ (p : Option Marks). record (given_from l w) { table = p }) (pairs_called w.pairs l.table)
 given_called (Some store.Master) l w = ap (λ (p : Option Record). record (given_from l w) { master = p }) (record_called w.master l.master)
 
-rows_fate : (rows : List Row) (part : Option CellRows) → cells_fate (given_rows rows part) ≡ cells_fate part
-rows_fate rows None = refl
-rows_fate rows (Some p) = refl
+rows_fate : (faults : List PlannedFault) (rows : List Row) (part : Option CellRows) → cells_fate faults (given_rows rows part) ≡ cells_fate faults part
+rows_fate faults rows None = refl
+rows_fate faults rows (Some p) = refl
 
-pairs_fate : (pairs : Pairs) (part : Option Marks) → table_fate (given_pairs pairs part) ≡ table_fate part
-pairs_fate pairs None = refl
-pairs_fate pairs (Some p) = refl
+pairs_fate : (faults : List PlannedFault) (pairs : Pairs) (part : Option Marks) → table_fate faults (given_pairs pairs part) ≡ table_fate faults part
+pairs_fate faults pairs None = refl
+pairs_fate faults pairs (Some p) = refl
 
-record_fate : (master : MasterRecord) (part : Option Record) → master_fate (given_master master part) ≡ master_fate part
-record_fate master None = refl
-record_fate master (Some p) = refl
+record_fate : (faults : List PlannedFault) (master : MasterRecord) (part : Option Record) → master_fate faults (given_master master part) ≡ master_fate faults part
+record_fate faults master None = refl
+record_fate faults master (Some p) = refl
 
 pub given_fate : (asked : Option Store) (l : Parts) (w : State) → fate_of (given_from l w) asked ≡ fate_of l asked
 given_fate None l w = refl
-given_fate (Some store.Cells) l w = rows_fate w.rows l.cells
-given_fate (Some store.Table) l w = pairs_fate w.pairs l.table
-given_fate (Some store.Master) l w = record_fate w.master l.master
+given_fate (Some store.Cells) l w = rows_fate l.plan.faults w.rows l.cells
+given_fate (Some store.Table) l w = pairs_fate l.plan.faults w.pairs l.table
+given_fate (Some store.Master) l w = record_fate l.plan.faults w.master l.master
 
-rows_fit : (rows : List Row) (part : Option CellRows) → IfSome part (λ p. AreFew p.calls) → IfSome (given_rows rows part) (λ p. AreFew p.calls)
+rows_fit : (rows : List Row) (part : Option CellRows) → IfSome part (λ p. p.calls < 2 ^ 60) → IfSome (given_rows rows part) (λ p. p.calls < 2 ^ 60)
 rows_fit rows None few = tt
 rows_fit rows (Some p) few = few
 
-pairs_fit : (pairs : Pairs) (part : Option Marks) → IfSome part (λ p. AreFew p.calls) → IfSome (given_pairs pairs part) (λ p. AreFew p.calls)
+pairs_fit : (pairs : Pairs) (part : Option Marks) → IfSome part (λ p. p.calls < 2 ^ 60) → IfSome (given_pairs pairs part) (λ p. p.calls < 2 ^ 60)
 pairs_fit pairs None few = tt
 pairs_fit pairs (Some p) few = few
 
-record_fit : (master : MasterRecord) (part : Option Record) → IfSome part (λ p. AreFew p.calls) → IfSome (given_master master part) (λ p. AreFew p.calls)
+record_fit : (master : MasterRecord) (part : Option Record) → IfSome part (λ p. p.calls < 2 ^ 60) → IfSome (given_master master part) (λ p. p.calls < 2 ^ 60)
 record_fit master None few = tt
 record_fit master (Some p) few = few
 
@@ -149,6 +150,6 @@ given_leases rules master None same = tt
 given_leases rules master (Some p) same = same
 
 -- parts are the same where each of them is
-pub same_parts : (a b : Parts) → a.sessions ≡ b.sessions → a.janitor ≡ b.janitor → a.clock ≡ b.clock → a.node ≡ b.node → a.cells ≡ b.cells → a.table ≡ b.table → a.master ≡ b.master → a.names ≡ b.names → a ≡ b
-same_parts a b sessions janitor clock node cells table master names =
-    λ k. record { sessions = sessions k; janitor = janitor k; clock = clock k; node = node k; cells = cells k; table = table k; master = master k; names = names k }
+pub same_parts : (a b : Parts) → a.plan ≡ b.plan → a.sessions ≡ b.sessions → a.janitor ≡ b.janitor → a.clock ≡ b.clock → a.node ≡ b.node → a.cells ≡ b.cells → a.table ≡ b.table → a.master ≡ b.master → a.names ≡ b.names → a ≡ b
+same_parts a b plan sessions janitor clock node cells table master names =
+    λ k. record { plan = plan k; sessions = sessions k; janitor = janitor k; clock = clock k; node = node k; cells = cells k; table = table k; master = master k; names = names k }

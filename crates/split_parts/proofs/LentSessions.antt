@@ -3,36 +3,35 @@
 use Rattle.std.proofs.Common.{◌≡◌, ℕ, zero, suc, ◌+◌, ◌<◌, List, length, None, Option, Some, refl, sym, ap, ◌∙◌, subst, arith, inl, inr, ◌⊎◌, ⊎_elim}
 use Rattle.std.specs.Prelude.{IsSome, slice_index_or, slice_set}
 use Rattle.std.proofs.lemmas.List.{get_or-set_same, get_or-set_other, length-set}
-use Rattle.machine.specs.State.{Client}
-use Rattle.split_parts.specs.Agrees.{HasSession}
-use Rattle.split_parts.specs.Lending.{HasSessionsBelow, no_parts}
-use Rattle.split_parts.specs.Parts.{Parts}
+use Rattle.script_data.specs.Data.{ScriptData}
+use Rattle.split_parts.specs.Lending.{LendsBelow, LendsSession, no_parts}
+use Rattle.split_parts.specs.Parts.{Parts, Session}
 
-pub has_set : (sessions : List (Option Client)) (s : ℕ) (c : Client) → s < length sessions → IsSome (slice_index_or (slice_set sessions s (Some c)) s None)
+pub has_set : (sessions : List (Option Session)) (s : ℕ) (c : Session) → s < length sessions → IsSome (slice_index_or (slice_set sessions s (Some c)) s None)
 has_set sessions s c there = subst IsSome (sym (get_or-set_same sessions s (Some c) None there)) refl
 
 -- the one session that is lent
-pub lent_session : (l m : Parts) (s n : ℕ) (c : Client) → l ≡ record m { sessions = slice_set m.sessions n (Some c) } → m ≡ no_parts → n ≡ s → n < 16 → HasSession l s
-lent_session l m s n c with_one none same less =
-    subst (λ k. HasSession l k) same (subst (λ (sessions : List (Option Client)). IsSome (slice_index_or sessions n None)) (sym (ap (λ (p : Parts). p.sessions) with_one)) (has_set m.sessions n c (omega (arith, less, ap (λ (p : Parts). length p.sessions) none))))
+pub lent_session : (l m : Parts) (plan : ScriptData) (s n : ℕ) (c : Session) → l ≡ record m { sessions = slice_set m.sessions n (Some c) } → m ≡ no_parts plan → n ≡ s → n < 16 → LendsSession l s
+lent_session l m plan s n c with_one none same less =
+    subst (λ k. LendsSession l k) same (subst (λ (sessions : List (Option Session)). IsSome (slice_index_or sessions n None)) (sym (ap (λ (p : Parts). p.sessions) with_one)) (has_set m.sessions n c (omega (arith, less, ap (λ (p : Parts). length p.sessions) none))))
 
 -- it is lent still where other parts are lent too
-pub kept_session : (l m : Parts) (s : ℕ) → l.sessions ≡ m.sessions → HasSession m s → HasSession l s
-kept_session l m s same has = subst (λ (sessions : List (Option Client)). IsSome (slice_index_or sessions s None)) (sym same) has
+pub kept_session : (l m : Parts) (s : ℕ) → l.sessions ≡ m.sessions → LendsSession m s → LendsSession l s
+kept_session l m s same has = subst (λ (sessions : List (Option Session)). IsSome (slice_index_or sessions s None)) (sym same) has
 
-pub kept_below : (l m : Parts) (n : ℕ) → l.sessions ≡ m.sessions → HasSessionsBelow n m → HasSessionsBelow n l
+pub kept_below : (l m : Parts) (n : ℕ) → l.sessions ≡ m.sessions → LendsBelow n m → LendsBelow n l
 kept_below l m n same has = record { all = ap length same ∙ has.all; each = λ session less. kept_session l m session same (has.each session less) }
 
-pub none_below : HasSessionsBelow 0 no_parts
-none_below = record { all = refl; each = λ session less. absurd (omega (arith, less)) }
+pub none_below : (plan : ScriptData) → LendsBelow 0 (no_parts plan)
+none_below plan = record { all = refl; each = λ session less. absurd (omega (arith, less)) }
 
-session_is : (n s : ℕ) → s < n + 1 → (s ≡ n) ⊎ (s < n)
+pub session_is : (n s : ℕ) → s < n + 1 → (s ≡ n) ⊎ (s < n)
 session_is zero zero less = inl refl
 session_is zero (suc s) less = absurd (omega (arith, less))
 session_is (suc n) zero less = inr (omega arith)
 session_is (suc n) (suc s) less = ⊎_elim (λ (e : s ≡ n). inl (ap suc e)) (λ (h : s < n). inr (omega (arith, h))) (session_is n s (omega (arith, less)))
 
-pub below_more : (l : Parts) (n : ℕ) (c : Client) → n < 16 → HasSessionsBelow n l → HasSessionsBelow (n + 1) (record l { sessions = slice_set l.sessions n (Some c) })
+pub below_more : (l : Parts) (n : ℕ) (c : Session) → n < 16 → LendsBelow n l → LendsBelow (n + 1) (record l { sessions = slice_set l.sessions n (Some c) })
 below_more l n c less h = record {
   all = length-set l.sessions n (Some c) ∙ h.all;
   each = λ session below. ⊎_elim

@@ -1,7 +1,6 @@
 mod Handing
 mod Giving
 mod Agreement
-mod PlanLemmas
 mod OneMore
 mod Filled
 mod Directly

@@ -34,12 +34,12 @@ with_janitor l part sweep = record l { node = Some part; janitor = Some sweep }
 abbrev janitor_direct : Parts → Option Sweeping → Effect (Option Sweeping) → Direct (Option (Option Sweeping))
 janitor_direct l sweep effect = record { set = janitor_set l; old = Some sweep; effect = on_janitor effect }
 
-directs_janitor : (l : Parts) (e : Event) (fate : Fate) (n : ℕ) (part : Node) (sweep : Option Sweeping) (g : Option InstanceEntry → Effect (Option Sweeping)) → part.node ≡ n → part.node < part.setup.nodes → stepped (filled (with_janitor l part sweep)) e fate ≡ of_sweep (filled (with_janitor l part sweep)) n g → IsDirect (with_janitor l part sweep) e fate (janitor_direct (with_janitor l part sweep) sweep (g part.instance))
+directs_janitor : (l : Parts) (e : Event) (fate : Fate) (n : ℕ) (part : Node) (sweep : Option Sweeping) (g : Option InstanceEntry → Effect (Option Sweeping)) → part.node ≡ n → part.node < l.plan.setup.nodes → stepped (filled (with_janitor l part sweep)) e fate ≡ of_sweep (filled (with_janitor l part sweep)) n g → IsDirect (with_janitor l part sweep) e fate (janitor_direct (with_janitor l part sweep) sweep (g part.instance))
 directs_janitor l e fate n part sweep g node within is =
     let p : Parts = with_janitor l part sweep in
-    let w : State = opening part.setup in
+    let w : State = opening (setup_of l) in
     let effect : Effect (Option Sweeping) = g part.instance in
-    let found : slice_get (filled p).nodes n ≡ Some part.instance = post_there p n node ∙ post_is part within in
+    let found : slice_get (filled p).nodes n ≡ Some part.instance = post_there p n node ∙ post_is l.plan.setup.nodes part within in
     direct_by p e fate (janitor_direct p sweep effect) (record (filled p) { sweep = effect.parts }) refl
     (is ∙ (λ k. at_post (filled p) (found k) (λ post. step_by (g post) (λ y. record (filled p) { sweep = y }))))
     (λ k. record p {
@@ -53,7 +53,7 @@ directs_janitor l e fate n part sweep g node within is =
 
 pub janitor_made : (l now : Parts) (e : Event) (fate : Fate) (n : ℕ) (f : Option InstanceEntry → Option Sweeping → Effect (Option Sweeping)) (before items : List Item) (result : Result Unit Stopped) → HasPost l n → IsSome l.janitor → ((p : Parts) → stepped (filled p) e fate ≡ of_sweep (filled p) n (λ i. f i (filled p).sweep)) → now ≡ janitor_set l now.janitor → MakesOfJanitor f l.node l.janitor now.janitor before items result → Makes (lent_effect l e fate) l now before items result
 janitor_made l now e fate n f before items result has lent is others made =
-    let at = node_lent l.node n has in
+    let at = node_lent l.plan.setup.nodes l.node n has in
     let sweep = some_of l.janitor lent in
     let same : with_janitor l at.0 sweep.0 ≡ l = λ k. record l { node = sym at.1 k; janitor = sym sweep.1 k } in
     let others_too : now ≡ janitor_set (with_janitor l at.0 sweep.0) now.janitor = others ∙ ap (λ (p : Parts). janitor_set p now.janitor) (sym same) in

@@ -11,30 +11,34 @@ use Rattle.event_parts.specs.declared.stopped.Stopped.TheVariants.{Refused, Stor
 use Rattle.split_parts.specs.declared.acting.Acted.{Acted}
 use Rattle.split_parts.specs.declared.event.Event.{Event}
 use Rattle.split_parts.specs.declared.event.Event.TheVariants as event
-use Rattle.split_parts.specs.Parts.{Parts, filled, given, given_from, base_by, reading_by, fate_of, called}
+use Rattle.split_parts.specs.Parts.{Parts, filled, given, given_from, base_by, reading_of, fate_of, called}
 
--- the event of the machine: a tick goes up to the base clock with its rise, and a reading is that of the lent node's clock
+-- the event of the machine: a tick goes up to the base clock with its rise, and a reading is the base clock with the node's lead
+abbrev pub timed_at : ℕ → List ℕ → Event → machine.Event
+timed_at base leads (event.Tick by) = timed.Tick (base + by)
+timed_at base leads (event.Note actor note) = timed.Note actor note
+timed_at base leads (event.Take node) = timed.Take node (reading_of base leads node)
+timed_at base leads (event.Renew node) = timed.Renew node (reading_of base leads node)
+timed_at base leads (event.Extend node) = timed.Extend node
+timed_at base leads (event.Crash node) = timed.Crash node
+timed_at base leads (event.AskBegin session node) = timed.AskBegin session node
+timed_at base leads (event.AskCommit session node) = timed.AskCommit session node
+timed_at base leads (event.Accept node session) = timed.Accept node session (reading_of base leads node)
+timed_at base leads (event.Decide node session) = timed.Decide node session
+timed_at base leads (event.Put node session) = timed.Put node session
+timed_at base leads (event.Answer node session) = timed.Answer node session
+timed_at base leads (event.Write session key value) = timed.Write session key value
+timed_at base leads (event.Fetch session key) = timed.Fetch session key
+timed_at base leads (event.Step session) = timed.Step session
+timed_at base leads (event.Heal session) = timed.Heal session
+timed_at base leads (event.Abort session) = timed.Abort session
+timed_at base leads (event.Vanish session) = timed.Vanish session
+timed_at base leads (event.SweepOpen node txn) = timed.SweepOpen node txn
+timed_at base leads event.SweepStep = timed.SweepStep
+
+-- at the lent base clock, by the leads of the plan
 abbrev pub timed_by : Parts → Event → machine.Event
-timed_by l (event.Tick by) = timed.Tick (base_by l.clock + by)
-timed_by l (event.Note actor note) = timed.Note actor note
-timed_by l (event.Take node) = timed.Take node (reading_by l)
-timed_by l (event.Renew node) = timed.Renew node (reading_by l)
-timed_by l (event.Extend node) = timed.Extend node
-timed_by l (event.Crash node) = timed.Crash node
-timed_by l (event.AskBegin session node) = timed.AskBegin session node
-timed_by l (event.AskCommit session node) = timed.AskCommit session node
-timed_by l (event.Accept node session) = timed.Accept node session (reading_by l)
-timed_by l (event.Decide node session) = timed.Decide node session
-timed_by l (event.Put node session) = timed.Put node session
-timed_by l (event.Answer node session) = timed.Answer node session
-timed_by l (event.Write session key value) = timed.Write session key value
-timed_by l (event.Fetch session key) = timed.Fetch session key
-timed_by l (event.Step session) = timed.Step session
-timed_by l (event.Heal session) = timed.Heal session
-timed_by l (event.Abort session) = timed.Abort session
-timed_by l (event.Vanish session) = timed.Vanish session
-timed_by l (event.SweepOpen node txn) = timed.SweepOpen node txn
-timed_by l event.SweepStep = timed.SweepStep
+timed_by l e = timed_at (base_by l.clock) l.plan.leads e
 
 -- the store that the event asks of the parts
 abbrev pub asked_of : Parts → machine.Event → Option Store

@@ -20,12 +20,12 @@ use Rattle.cluster_core.specs.Required.{MayExtend, MayHeal, MayMakeStep, MaySwee
 use Rattle.cluster_core.specs.Served.{held_in}
 use Rattle.split_parts.specs.declared.event.Event.{Event}
 use Rattle.split_parts.specs.declared.event.Event.TheVariants as event
-use Rattle.split_parts.specs.Parts.{Parts, Calls, filled, base_by}
+use Rattle.split_parts.specs.Parts.{Parts, filled, base_by}
 use Rattle.split_parts.specs.Acts.{timed_by, asked_of}
 
 -- ---- the parts that an event has to do with
 abbrev pub HasSession : Parts → ℕ → Type 0
-HasSession l session = IsSome (slice_index_or l.sessions session None)
+HasSession l session = IsSomeAnd (slice_index_or l.sessions session None) (λ s. s.number ≡ session)
 
 abbrev pub HasNode : Parts → ℕ → Type 0
 HasNode l node = IsSomeAnd l.node (λ n. n.node ≡ node)
@@ -60,22 +60,22 @@ HasParts l event.SweepStep = IsSome l.janitor × HasStore l (asked_of l (timed_b
 
 -- ---- numbers
 -- the base clock stays far from the end of the numbers
+abbrev pub ClockAllows : ℕ → Event → Type 0
+ClockAllows base (event.Tick by) = base + by ≤ 2 ^ 60
+ClockAllows base (event.Take node) = base ≤ 2 ^ 60
+ClockAllows base (event.Renew node) = base ≤ 2 ^ 60
+ClockAllows base (event.Accept node session) = base ≤ 2 ^ 60
+ClockAllows base _ = Unit {0}
+
 abbrev pub ClockFits : Parts → Event → Type 0
-ClockFits l (event.Tick by) = base_by l.clock + by ≤ 2 ^ 60
-ClockFits l (event.Take node) = base_by l.clock ≤ 2 ^ 60
-ClockFits l (event.Renew node) = base_by l.clock ≤ 2 ^ 60
-ClockFits l (event.Accept node session) = base_by l.clock ≤ 2 ^ 60
-ClockFits l _ = Unit {0}
+ClockFits l e = ClockAllows (base_by l.clock) e
 
 -- so does the count of calls on the store that the event has to do with
-abbrev pub AreFew : Calls → Type 0
-AreFew calls = calls.made < 2 ^ 60
-
 abbrev pub CallsFit : Parts → Option Store → Type 0
 CallsFit l None = Unit {0}
-CallsFit l (Some store.Cells) = IfSome l.cells (λ part. AreFew part.calls)
-CallsFit l (Some store.Table) = IfSome l.table (λ part. AreFew part.calls)
-CallsFit l (Some store.Master) = IfSome l.master (λ part. AreFew part.calls)
+CallsFit l (Some store.Cells) = IfSome l.cells (λ part. part.calls < 2 ^ 60)
+CallsFit l (Some store.Table) = IfSome l.table (λ part. part.calls < 2 ^ 60)
+CallsFit l (Some store.Master) = IfSome l.master (λ part. part.calls < 2 ^ 60)
 
 abbrev pub store_by : Parts → Event → Option Store
 store_by l (event.Take node) = Some store.Master

@@ -17,19 +17,19 @@ use Rattle.event_parts.specs.declared.stopped.Stopped.{Stopped}
 use Rattle.system_parts.specs.Pairs.{Pairs}
 use Rattle.system_parts.specs.Record.{MasterRecord}
 use Rattle.system_parts.specs.Sweep.{Sweeping}
-use Rattle.split_parts.specs.Parts.{Parts, Node, Marks, CellRows, Record, filled, given_from, given_pairs, given_rows, lent_pairs, lent_rows}
+use Rattle.split_parts.specs.Parts.{Parts, Session, Node, Marks, CellRows, Record, filled, given_from, given_pairs, given_rows, lent_pairs, lent_rows}
 
 -- the effect on a client, as one on a lent session
-abbrev pub on_session : Effect Client → Effect (Option Client)
-on_session effect = record { parts = Some effect.parts; items = effect.items; stop = effect.stop }
+abbrev pub on_session : Session → Effect Client → Effect (Option Session)
+on_session own effect = record { parts = Some (record own { client = effect.parts }); items = effect.items; stop = effect.stop }
 
 -- on a client and the rows, as on a lent session and the lent cells
-abbrev pub on_cells : CellRows → Effect (Client × List Row) → Effect (Option Client × Option CellRows)
-on_cells part effect = record { parts = (Some effect.parts.0, Some (record part { rows = effect.parts.1 })); items = effect.items; stop = effect.stop }
+abbrev pub on_cells : Session → CellRows → Effect (Client × List Row) → Effect (Option Session × Option CellRows)
+on_cells own part effect = record { parts = (Some (record own { client = effect.parts.0 }), Some (record part { rows = effect.parts.1 })); items = effect.items; stop = effect.stop }
 
 -- on a client and a post, as on a lent session and the lent node
-abbrev pub on_node : Node → Effect (Client × Option InstanceEntry) → Effect (Option Client × Option Node)
-on_node part effect = record { parts = (Some effect.parts.0, Some (record part { instance = effect.parts.1 })); items = effect.items; stop = effect.stop }
+abbrev pub on_node : Session → Node → Effect (Client × Option InstanceEntry) → Effect (Option Session × Option Node)
+on_node own part effect = record { parts = (Some (record own { client = effect.parts.0 }), Some (record part { instance = effect.parts.1 })); items = effect.items; stop = effect.stop }
 
 -- an effect on a client that leaves the rows
 abbrev pub on_rows : List Row → Effect Client → Effect (Client × List Row)
@@ -40,16 +40,16 @@ abbrev pub turned : Effect (Option InstanceEntry × Client) → Effect (Client �
 turned effect = record { parts = (effect.parts.1, effect.parts.0); items = effect.items; stop = effect.stop }
 
 -- where the parts are lent, the call made the event of them
-abbrev pub MakesOfSession : (Client → Effect Client) → Option Client → Option Client → List Item → List Item → Result Unit Stopped → Type 0
-MakesOfSession f (Some c) now before after result = Makes (on_session (f c)) (Some c) now before after result
+abbrev pub MakesOfSession : (Client → Effect Client) → Option Session → Option Session → List Item → List Item → Result Unit Stopped → Type 0
+MakesOfSession f (Some own) now before after result = Makes (on_session own (f own.client)) (Some own) now before after result
 MakesOfSession f None now before after result = Unit {0}
 
-abbrev pub MakesOfCells : (Client → List Row → Effect (Client × List Row)) → Option Client → Option CellRows → Option Client → Option CellRows → List Item → List Item → Result Unit Stopped → Type 0
-MakesOfCells f (Some c) (Some part) now left before after result = Makes (on_cells part (f c part.rows)) (Some c, Some part) (now, left) before after result
+abbrev pub MakesOfCells : (Client → List Row → Effect (Client × List Row)) → Option Session → Option CellRows → Option Session → Option CellRows → List Item → List Item → Result Unit Stopped → Type 0
+MakesOfCells f (Some own) (Some part) now left before after result = Makes (on_cells own part (f own.client part.rows)) (Some own, Some part) (now, left) before after result
 MakesOfCells f _ _ now left before after result = Unit {0}
 
-abbrev pub MakesOfNode : (Client → Option InstanceEntry → Effect (Client × Option InstanceEntry)) → Option Client → Option Node → Option Client → Option Node → List Item → List Item → Result Unit Stopped → Type 0
-MakesOfNode f (Some c) (Some part) now left before after result = Makes (on_node part (f c part.instance)) (Some c, Some part) (now, left) before after result
+abbrev pub MakesOfNode : (Client → Option InstanceEntry → Effect (Client × Option InstanceEntry)) → Option Session → Option Node → Option Session → Option Node → List Item → List Item → Result Unit Stopped → Type 0
+MakesOfNode f (Some own) (Some part) now left before after result = Makes (on_node own part (f own.client part.instance)) (Some own, Some part) (now, left) before after result
 MakesOfNode f _ _ now left before after result = Unit {0}
 
 -- on a post and the pairs, as on the lent node and the lent table
@@ -60,7 +60,11 @@ abbrev pub MakesOfTable : (Option InstanceEntry → Pairs → Effect (Option Ins
 MakesOfTable f (Some part) (Some marks) now left before after result = Makes (on_marks part marks (f part.instance marks.pairs)) (Some part, Some marks) (now, left) before after result
 MakesOfTable f _ _ now left before after result = Unit {0}
 
--- on a client or a sweep and both stores, as on the lent session or janitor and the stores that are lent
+-- on a client and both stores, as on the lent session and the stores that are lent
+abbrev pub on_stores : Session → Option CellRows → Option Marks → Effect (Client × List Row × Pairs) → Effect (Option Session × Option CellRows × Option Marks)
+on_stores own cells table effect = record { parts = (Some (record own { client = effect.parts.0 }), given_rows effect.parts.1 cells, given_pairs effect.parts.2 table); items = effect.items; stop = effect.stop }
+
+-- on a sweep, as on the lent janitor
 abbrev pub on_lent : {P : Type 0} → Option CellRows → Option Marks → Effect (P × List Row × Pairs) → Effect (Option P × Option CellRows × Option Marks)
 on_lent cells table effect = record { parts = (Some effect.parts.0, given_rows effect.parts.1 cells, given_pairs effect.parts.2 table); items = effect.items; stop = effect.stop }
 
@@ -71,6 +75,10 @@ abbrev pub on_table_too : {P : Type 0} → Option Marks → Effect (P × List Ro
 on_table_too table effect = record { parts = (effect.parts.0, effect.parts.1, given_pairs effect.parts.2 table); items = effect.items; stop = effect.stop }
 
 -- a store that is not lent is empty
+abbrev pub StepsOfSession : (Client → List Row → Pairs → Effect (Client × List Row × Pairs)) → Option Session → Option CellRows → Option Marks → Option Session → Option CellRows → Option Marks → List Item → List Item → Result Unit Stopped → Type 0
+StepsOfSession f (Some own) cells table now left marks before after result = Makes (on_stores own cells table (f own.client (lent_rows [] cells) (lent_pairs map.empty table))) (Some own, cells, table) (now, left, marks) before after result
+StepsOfSession f None cells table now left marks before after result = Unit {0}
+
 abbrev pub MakesOfStores : {P : Type 0} → (P → List Row → Pairs → Effect (P × List Row × Pairs)) → Option P → Option CellRows → Option Marks → Option P → Option CellRows → Option Marks → List Item → List Item → Result Unit Stopped → Type 0
 MakesOfStores f (Some c) cells table now left marks before after result = Makes (on_lent cells table (f c (lent_rows [] cells) (lent_pairs map.empty table))) (Some c, cells, table) (now, left, marks) before after result
 MakesOfStores f None cells table now left marks before after result = Unit {0}
@@ -99,7 +107,7 @@ lent_effect l e fate = record { parts = given_from l (stepped (filled l) e fate)
 
 -- the node is lent, and is one of the setup's
 abbrev pub HasPost : Parts → ℕ → Type 0
-HasPost l node = IsSomeAnd l.node (λ n. (n.node ≡ node) × (n.node < n.setup.nodes))
+HasPost l node = IsSomeAnd l.node (λ n. (n.node ≡ node) × (n.node < l.plan.setup.nodes))
 
 -- the parts are lent of which the event can be made
 abbrev pub HasAll : Parts → Event → Type 0

@@ -1,4 +1,4 @@
-pub mod Calls
+pub mod Plans
 pub mod Parts
 pub mod Swaps
 pub mod Lookups

@@ -1,12 +1,13 @@
--- The parts that are lent to an event, and the state that is filled up around them.
+-- The parts that are lent to an event, under what the script sets, and the state that is filled up around them.
 use Rattle.std.specs.Prelude.{◌≡◌, ℕ, zero, suc, ◌+◌, List, [], ◌∷◌, slice_set, slice_index_or, Option, None, Some, IfSome}
 use Rattle.std.specs.Borrow.{MutBor}
-use Rattle.stamp_base.specs.SetupNumbers.{SetupNumbers, default_numbers}
-use Rattle.stamp_base.specs.Setups.{numbers_of}
+use Rattle.stamp_base.specs.SetupNumbers.{SetupNumbers}
 use Rattle.stamp_base.specs.declared.stores.Store.{Store}
 use Rattle.stamp_base.specs.declared.stores.Store.TheVariants as store
 use Rattle.port_io.specs.declared.weather.Fate.{Fate}
 use Rattle.port_io.specs.declared.weather.Fate.TheVariants.{Works}
+use Rattle.port_io.specs.Planned.{PlannedFault, planned_fate}
+use Rattle.script_data.specs.Data.{ScriptData}
 use Rattle.system_parts.specs.Rows.{Row}
 use Rattle.system_parts.specs.Pairs.{Pairs}
 use Rattle.system_parts.specs.Record.{MasterRecord, Leasing}
@@ -15,8 +16,7 @@ use Rattle.system_parts.specs.Instance.{InstanceEntry}
 use Rattle.machine.specs.State.{Client, State, opening}
 use Rattle.machine.specs.Events.Take.{rules_of}
 use Rattle.session_script.specs.PostedNames.{Posted}
-use Rattle.split_parts.specs.Calls.{NumberedFault, fate_at}
-use Rattle.split_parts.specs.declared.calls.PlannedCalls.{PlannedCalls}
+use Rattle.split_parts.specs.Plans.{plan_data}
 use Rattle.split_parts.specs.declared.lent.Lent.{Lent}
 use Rattle.split_parts.specs.declared.parts.SessionPart.{SessionPart}
 use Rattle.split_parts.specs.declared.parts.JanitorPart.{JanitorPart}
@@ -28,33 +28,34 @@ use Rattle.split_parts.specs.declared.parts.MasterPart.{MasterPart}
 use Rattle.split_parts.specs.declared.parts.NamesPart.{NamesPart}
 
 -- ---- the parts as contracts see them
--- the planned faults on a store, and how many calls there were
-pub record Calls : Type 0 where
-  pub faults : List NumberedFault
-  pub made : ℕ
+-- a session, which it is, and its client
+pub record Session : Type 0 where
+  pub number : ℕ
+  pub client : Client
 
+-- a node, which it is, and its instance
 pub record Node : Type 0 where
   pub node : ℕ
-  pub lead : ℕ
-  pub setup : SetupNumbers
   pub instance : Option InstanceEntry
 
+-- a store, and how many calls there were on it
 pub record CellRows : Type 0 where
   pub rows : List Row
-  pub calls : Calls
+  pub calls : ℕ
 
 pub record Marks : Type 0 where
   pub pairs : Pairs
-  pub calls : Calls
+  pub calls : ℕ
 
 pub record Record : Type 0 where
   pub rules : Leasing
   pub state : MasterRecord
-  pub calls : Calls
+  pub calls : ℕ
 
--- the parts that are lent, and those that are not
+-- what the script sets, which no lock guards; the parts that are lent, and those that are not
 pub record Parts : Type 0 where
-  pub sessions : List (Option Client)
+  pub plan : ScriptData
+  pub sessions : List (Option Session)
   pub janitor : Option (Option Sweeping)
   pub clock : Option ℕ
   pub node : Option Node
@@ -68,11 +69,8 @@ abbrev pub behind : {P S : Type 0} → (P → S) → Option (MutBor P) → Optio
 behind see None = None
 behind see (Some r) = Some (see r.now)
 
-abbrev pub calls_of : PlannedCalls → Calls
-calls_of c = record { faults = c.faults.items; made = c.made }
-
-abbrev pub session_of : SessionPart → Client
-session_of p = p.client
+abbrev pub session_of : SessionPart → Session
+session_of p = record { number = p.number; client = p.client }
 
 abbrev pub janitor_of : JanitorPart → Option Sweeping
 janitor_of p = p.sweep
@@ -81,26 +79,27 @@ abbrev pub clock_of : ClockPart → ℕ
 clock_of p = p.base
 
 abbrev pub node_of : NodePart → Node
-node_of p = record { node = p.node; lead = p.lead; setup = numbers_of p.setup; instance = p.post }
+node_of p = record { node = p.node; instance = p.post }
 
 abbrev pub cells_of : CellsPart → CellRows
-cells_of p = record { rows = p.cells.rows; calls = calls_of p.calls }
+cells_of p = record { rows = p.cells.rows; calls = p.calls }
 
 abbrev pub table_of : TablePart → Marks
-table_of p = record { pairs = p.table.pairs; calls = calls_of p.calls }
+table_of p = record { pairs = p.table.pairs; calls = p.calls }
 
 abbrev pub master_of : MasterPart → Record
-master_of p = record { rules = p.master.rules; state = p.master.state; calls = calls_of p.calls }
+master_of p = record { rules = p.master.rules; state = p.master.state; calls = p.calls }
 
 abbrev pub names_of : NamesPart → List (List ℕ)
 names_of p = p.names.names
 
-abbrev pub sessions_seen : Lent → List (Option Client)
+abbrev pub sessions_seen : Lent → List (Option Session)
 sessions_seen l =
     behind session_of l.s0 ∷ behind session_of l.s1 ∷ behind session_of l.s2 ∷ behind session_of l.s3 ∷ behind session_of l.s4 ∷ behind session_of l.s5 ∷ behind session_of l.s6 ∷ behind session_of l.s7 ∷ behind session_of l.s8 ∷ behind session_of l.s9 ∷ behind session_of l.s10 ∷ behind session_of l.s11 ∷ behind session_of l.s12 ∷ behind session_of l.s13 ∷ behind session_of l.s14 ∷ behind session_of l.s15 ∷ []
 
 abbrev pub seen : Lent → Parts
 seen l = record {
+  plan = plan_data l.plan.now;
   sessions = sessions_seen l;
   janitor = behind janitor_of l.janitor;
   clock = behind clock_of l.clock;
@@ -117,6 +116,7 @@ posted_of p = p.names
 
 -- what is lent besides the sessions
 pub record Rest : Type 0 where
+  pub plan : ScriptData
   pub janitor : Option (Option Sweeping)
   pub clock : Option ℕ
   pub node : Option Node
@@ -127,6 +127,7 @@ pub record Rest : Type 0 where
 
 abbrev pub rest_of : Lent → Rest
 rest_of l = record {
+  plan = plan_data l.plan.now;
   janitor = behind janitor_of l.janitor;
   clock = behind clock_of l.clock;
   node = behind node_of l.node;
@@ -146,19 +147,29 @@ abbrev pub given : {T : Type 0} → Option T → T → Option T
 given None now = None
 given (Some was) now = Some now
 
--- the clients of which the first n sessions are the lent ones, where they are lent
-unfoldable pub lent_clients : ℕ → List Client → List (Option Client) → List Client
+-- the client of a lent session, or the one that is there
+abbrev pub client_or : Option Session → Client → Client
+client_or None there = there
+client_or (Some own) there = own.client
+
+-- the session, where it is lent, with this client
+abbrev pub given_client : Option Session → Client → Option Session
+given_client None now = None
+given_client (Some own) now = Some (record own { client = now })
+
+-- the clients of which the first n are those of the lent sessions, where they are lent
+unfoldable pub lent_clients : ℕ → List Client → List (Option Session) → List Client
 lent_clients zero clients sessions = clients
 lent_clients (suc n) [] sessions = []
 lent_clients (suc n) (c ∷ clients) [] = c ∷ clients
-lent_clients (suc n) (c ∷ clients) (s ∷ sessions) = or_else s c ∷ lent_clients n clients sessions
+lent_clients (suc n) (c ∷ clients) (s ∷ sessions) = client_or s c ∷ lent_clients n clients sessions
 
 -- the lent sessions of which the first n are as the clients are
-unfoldable pub given_sessions : ℕ → List (Option Client) → List Client → List (Option Client)
+unfoldable pub given_sessions : ℕ → List (Option Session) → List Client → List (Option Session)
 given_sessions zero sessions clients = sessions
 given_sessions (suc n) [] clients = []
 given_sessions (suc n) (s ∷ sessions) [] = s ∷ sessions
-given_sessions (suc n) (s ∷ sessions) (c ∷ clients) = given s c ∷ given_sessions n sessions clients
+given_sessions (suc n) (s ∷ sessions) (c ∷ clients) = given_client s c ∷ given_sessions n sessions clients
 
 abbrev pub lent_nodes : List (Option InstanceEntry) → Option Node → List (Option InstanceEntry)
 lent_nodes nodes None = nodes
@@ -203,7 +214,7 @@ abbrev pub given_master : MasterRecord → Option Record → Option Record
 given_master master None = None
 given_master master (Some part) = Some (record part { state = master })
 
--- the lent parts as the state has them; clock, names and counts stay
+-- the lent parts as the state has them; plan, numbers, clock, names and counts stay
 abbrev pub given_from : Parts → State → Parts
 given_from l w = record l {
   sessions = given_sessions 16 l.sessions w.clients;
@@ -214,13 +225,9 @@ given_from l w = record l {
   master = given_master w.master l.master;
 }
 
--- the setup of the lent node, or what holds where a script sets nothing
-abbrev pub setup_by : Option Node → SetupNumbers
-setup_by None = default_numbers
-setup_by (Some n) = n.setup
-
+-- the setup of the script
 abbrev pub setup_of : Parts → SetupNumbers
-setup_of l = setup_by l.node
+setup_of l = l.plan.setup
 
 -- the state that has the lent parts, and is as at the opening elsewhere
 abbrev pub filled : Parts → State
@@ -235,51 +242,41 @@ abbrev pub base_by : Option ℕ → ℕ
 base_by None = 0
 base_by (Some base) = base
 
-abbrev pub lead_by : Option Node → ℕ
-lead_by None = 0
-lead_by (Some n) = n.lead
+-- what a node's clock shows at this base clock
+abbrev pub reading_of : ℕ → List ℕ → ℕ → ℕ
+reading_of base leads node = base + slice_index_or leads node 0
 
--- the reading of the lent node's clock
-abbrev pub reading_by : Parts → ℕ
-reading_by l = base_by l.clock + lead_by l.node
+abbrev pub cells_fate : List PlannedFault → Option CellRows → Fate
+cells_fate faults None = Works
+cells_fate faults (Some part) = planned_fate faults store.Cells (part.calls + 1)
 
-abbrev pub next_fate : Calls → Fate
-next_fate calls = fate_at calls.faults (calls.made + 1)
+abbrev pub table_fate : List PlannedFault → Option Marks → Fate
+table_fate faults None = Works
+table_fate faults (Some part) = planned_fate faults store.Table (part.calls + 1)
 
-abbrev pub cells_fate : Option CellRows → Fate
-cells_fate None = Works
-cells_fate (Some part) = next_fate part.calls
+abbrev pub master_fate : List PlannedFault → Option Record → Fate
+master_fate faults None = Works
+master_fate faults (Some part) = planned_fate faults store.Master (part.calls + 1)
 
-abbrev pub table_fate : Option Marks → Fate
-table_fate None = Works
-table_fate (Some part) = next_fate part.calls
-
-abbrev pub master_fate : Option Record → Fate
-master_fate None = Works
-master_fate (Some part) = next_fate part.calls
-
--- the planned fate of the next call on the store
+-- the fate that the script plans for the next call on the store
 abbrev pub fate_of : Parts → Option Store → Fate
 fate_of l None = Works
-fate_of l (Some store.Cells) = cells_fate l.cells
-fate_of l (Some store.Table) = table_fate l.table
-fate_of l (Some store.Master) = master_fate l.master
+fate_of l (Some store.Cells) = cells_fate l.plan.faults l.cells
+fate_of l (Some store.Table) = table_fate l.plan.faults l.table
+fate_of l (Some store.Master) = master_fate l.plan.faults l.master
 
 -- ---- what a store call counts
-abbrev pub once_more : Calls → Calls
-once_more calls = record calls { made = calls.made + 1 }
-
 abbrev pub cells_called : Option CellRows → Option CellRows
 cells_called None = None
-cells_called (Some part) = Some (record part { calls = once_more part.calls })
+cells_called (Some part) = Some (record part { calls = part.calls + 1 })
 
 abbrev pub table_called : Option Marks → Option Marks
 table_called None = None
-table_called (Some part) = Some (record part { calls = once_more part.calls })
+table_called (Some part) = Some (record part { calls = part.calls + 1 })
 
 abbrev pub master_called : Option Record → Option Record
 master_called None = None
-master_called (Some part) = Some (record part { calls = once_more part.calls })
+master_called (Some part) = Some (record part { calls = part.calls + 1 })
 
 abbrev pub called : Option Store → Parts → Parts
 called None l = l

@@ -1,15 +1,14 @@
 // Whether the parts that are lent agree, so that the event can be made of them.
-ghost use Rattle.std.specs.Prelude.{◌≡◌, ◌↔◌, ◌<◌, ℕ, IsSome, IsTrue, None, option_map, slice_index_or};
+ghost use Rattle.std.specs.Prelude.{◌≡◌, ◌↔◌, ◌<◌, ℕ, IsSome, IsTrue, option_map};
 ghost use Rattle.system_parts.specs.declared.session.State.TheVariants.{Free, Open};
 ghost use Rattle.machine.specs.Events.Put.{to_place};
 ghost use Rattle.cluster_core.specs.Required.{MayExtend, MayHeal, MayMakeStep, MaySweep};
 ghost use Rattle.cluster_core.specs.Served.{held_in};
 ghost use Rattle.split_parts.specs.Acts.{asked_of, timed_by};
 ghost use Rattle.split_parts.specs.Agrees.{Agrees, CallsFit, ClockFits, Fits, HasNode, HasParts, HasSession, HoldsNoneIn, IsAsked, NotPlaced, store_by, WritesBare};
-ghost use Rattle.split_parts.specs.Lookups.{post_by};
-ghost use Rattle.split_parts.specs.Parts.{behind, filled, seen, session_of, sessions_seen};
+ghost use Rattle.split_parts.specs.Lookups.{client_lent, post_by, session_at};
+ghost use Rattle.split_parts.specs.Parts.{behind, filled, seen, session_of};
 
-use crate::calls::PlannedCalls;
 use crate::parts::SessionPart;
 use crate::{Event, Lent, deciding};
 use event_parts::Client;
@@ -86,15 +85,15 @@ impl Lent<'_> {
     {
         match store {
             Some(Store::Cells) => match &self.cells {
-                Some(part) => part.calls.are_few(),
+                Some(part) => part.calls < FAR,
                 None => true,
             },
             Some(Store::Table) => match &self.table {
-                Some(part) => part.calls.are_few(),
+                Some(part) => part.calls < FAR,
                 None => true,
             },
             Some(Store::Master) => match &self.master {
-                Some(part) => part.calls.are_few(),
+                Some(part) => part.calls < FAR,
                 None => true,
             },
             None => true,
@@ -124,37 +123,47 @@ impl Lent<'_> {
 }
 
 impl Lent<'_> {
-    /// The lent client of the session.
-    pub(crate) fn client(&self, session: SessionNo) -> Option<&Client>
-        ensures { option_map (λ c. c.now) result ≡ slice_index_or (sessions_seen self.now) session None }
+    /// What is lent as the session's part.
+    pub fn session(&self, session: SessionNo) -> Option<&SessionPart>
+        ensures { option_map (λ p. session_of p.now) result ≡ session_at (seen self.now) session }
     {
         match session.index() {
-            0 => client_of(&self.s0),
-            1 => client_of(&self.s1),
-            2 => client_of(&self.s2),
-            3 => client_of(&self.s3),
-            4 => client_of(&self.s4),
-            5 => client_of(&self.s5),
-            6 => client_of(&self.s6),
-            7 => client_of(&self.s7),
-            8 => client_of(&self.s8),
-            9 => client_of(&self.s9),
-            10 => client_of(&self.s10),
-            11 => client_of(&self.s11),
-            12 => client_of(&self.s12),
-            13 => client_of(&self.s13),
-            14 => client_of(&self.s14),
-            15 => client_of(&self.s15),
+            0 => part_of(&self.s0),
+            1 => part_of(&self.s1),
+            2 => part_of(&self.s2),
+            3 => part_of(&self.s3),
+            4 => part_of(&self.s4),
+            5 => part_of(&self.s5),
+            6 => part_of(&self.s6),
+            7 => part_of(&self.s7),
+            8 => part_of(&self.s8),
+            9 => part_of(&self.s9),
+            10 => part_of(&self.s10),
+            11 => part_of(&self.s11),
+            12 => part_of(&self.s12),
+            13 => part_of(&self.s13),
+            14 => part_of(&self.s14),
+            15 => part_of(&self.s15),
             _ => None,
+        }
+    }
+
+    /// The lent client of the session.
+    pub(crate) fn client(&self, session: SessionNo) -> Option<&Client>
+        ensures { option_map (λ c. c.now) result ≡ client_lent (seen self.now) session }
+    {
+        match self.session(session) {
+            Some(part) => Some(&part.client),
+            None => None,
         }
     }
 
     /// What stands at the lent node, where the setup has such a node.
     pub(crate) fn post(&self) -> Option<&Post>
-        ensures { option_map (λ p. p.now) result ≡ post_by (seen self.now).node }
+        ensures { option_map (λ p. p.now) result ≡ post_by (seen self.now).plan.setup.nodes (seen self.now).node }
     {
         match &self.node {
-            Some(part) if part.node.value() < part.setup.nodes => Some(&part.post),
+            Some(part) if part.node.value() < self.plan.setup.nodes => Some(&part.post),
             _ => None,
         }
     }
@@ -293,11 +302,11 @@ impl Lent<'_> {
     }
 }
 
-fn client_of<'a>(part: &'a Option<&mut SessionPart>) -> Option<&'a Client>
-    ensures { option_map (λ c. c.now) result ≡ behind session_of part.now }
+fn part_of<'a>(part: &'a Option<&mut SessionPart>) -> Option<&'a SessionPart>
+    ensures { option_map (λ p. session_of p.now) result ≡ behind session_of part.now }
 {
     match part {
-        Some(part) => Some(&part.client),
+        Some(part) => Some(part),
         None => None,
     }
 }

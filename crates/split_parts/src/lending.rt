@@ -1,19 +1,21 @@
 // Parts that are lent one by one.
 ghost use Rattle.std.specs.Prelude.{◌≡◌, ◌+◌, ◌<◌, slice_set, Some};
 ghost use Rattle.split_parts.specs.Parts.{seen, session_of, sessions_seen, janitor_of, clock_of, node_of, cells_of, table_of, master_of, names_of};
-ghost use Rattle.split_parts.specs.Lending.{HasSessionsBelow, no_parts};
+ghost use Rattle.split_parts.specs.Lending.{LendsBelow, no_parts};
+ghost use Rattle.split_parts.specs.Plans.{plan_data};
 
-use crate::Lent;
 use crate::parts::{
     CellsPart, ClockPart, JanitorPart, MasterPart, NamesPart, NodePart, SessionPart, TablePart,
 };
+use crate::{Lent, Plan};
 
 impl<'a> Lent<'a> {
-    /// Nothing is lent.
-    pub fn none() -> Lent<'a>
-        ensures { seen result ≡ no_parts }
+    /// Nothing is lent, under this plan.
+    pub fn none(plan: &'a Plan) -> Lent<'a>
+        ensures { seen result ≡ no_parts (plan_data plan.now) }
     {
         Lent {
+            plan,
             s0: None,
             s1: None,
             s2: None,
@@ -71,8 +73,9 @@ impl<'a> Lent<'a> {
     #[tactic(auto, using(crate::proofs::LentSessions::below_more))]
     pub fn with_next_session(self, number: usize, part: &'a mut SessionPart) -> Lent<'a>
         requires number { number < 16 }
-        requires below { HasSessionsBelow number (seen self) }
-        ensures { HasSessionsBelow (number + 1) (seen result) }
+        requires below { LendsBelow number (seen self) }
+        ensures plan { (seen result).plan ≡ (seen self.entry).plan }
+        ensures below { LendsBelow (number + 1) (seen result) }
     {
         self.with_session(number, part)
     }

@@ -1,18 +1,20 @@
 // The parts that are lent to one event.
 ghost use Rattle.std.specs.Prelude.{◌≡◌, ◌<◌, slice_index_or, slice_set, None};
-ghost use Rattle.split_parts.specs.Parts.{behind, given, session_of, sessions_seen, rest_of};
+ghost use Rattle.split_parts.specs.Parts.{behind, given_client, session_of, sessions_seen, rest_of};
 ghost use Rattle.split_parts.specs.Swaps.{client_at, client_in};
 
 use crate::parts::{
     CellsPart, ClockPart, JanitorPart, MasterPart, NamesPart, NodePart, SessionPart, TablePart,
 };
+use crate::plan::Plan;
 use cluster_core::ClusterState;
 use stamp_base::SessionNo;
 
-/// The parts that are lent to an event: sixteen sessions by their numbers, the janitor, the clock, a node, the three stores, and
-/// the posted names. More may be lent than the event has to do with.
+/// What the script sets, and the parts that are lent to an event: sixteen sessions by their numbers, the janitor, the clock, a node,
+/// the three stores, and the posted names. More may be lent than the event has to do with.
 #[derive(Drop)]
 pub struct Lent<'a> {
+    pub plan: &'a Plan,
     pub s0: Option<&'a mut SessionPart>,
     pub s1: Option<&'a mut SessionPart>,
     pub s2: Option<&'a mut SessionPart>,
@@ -45,7 +47,7 @@ impl Lent<'_> {
         ensures state { engine.new.state ≡ client_in engine.old.state number (slice_index_or (sessions_seen self.old) number None) }
         ensures history { engine.new.history ≡ engine.old.history }
         ensures sessions { sessions_seen self.new ≡ slice_set (sessions_seen self.old) number
-            (given (slice_index_or (sessions_seen self.old) number None) (client_at engine.old.state number)) }
+            (given_client (slice_index_or (sessions_seen self.old) number None) (client_at engine.old.state number)) }
         ensures rest { rest_of self.new ≡ rest_of self.old }
     {
         match number {
@@ -74,7 +76,7 @@ fn swap_session(engine: &mut ClusterState, number: usize, part: &mut Option<&mut
     requires { number < 16 }
     ensures state { engine.new.state ≡ client_in engine.old.state number (behind session_of part.old) }
     ensures history { engine.new.history ≡ engine.old.history }
-    ensures session { behind session_of part.new ≡ given (behind session_of part.old) (client_at engine.old.state number) }
+    ensures session { behind session_of part.new ≡ given_client (behind session_of part.old) (client_at engine.old.state number) }
 {
     let Some(session) = SessionNo::new(number as u64) else {
         unreachable!();

@@ -1,5 +1,5 @@
 // What an event asks of the parts besides the engine that they fill up: clock and setup, planned fates, and posted names.
-ghost use Rattle.std.specs.Prelude.{◌≡◌, ◌≤◌, ◌^◌, ◌↔◌, IfOk, IsTrue, option_map};
+ghost use Rattle.std.specs.Prelude.{◌≡◌, ◌≤◌, ◌↔◌, All, IfOk, IsTrue, option_map};
 ghost use Rattle.stamp_base.specs.Setups.{numbers_of};
 ghost use Rattle.machine.specs.Machine.{asks, stepped};
 ghost use Rattle.cluster_core.specs.Required.{CanMake};
@@ -7,8 +7,10 @@ ghost use Rattle.cluster_core.specs.ClusterModel.{MakesStep};
 ghost use Rattle.split_parts.specs.Acts.{noted, timed_by};
 ghost use Rattle.split_parts.specs.Agrees.{CallsFit, ClockFits};
 ghost use Rattle.split_parts.specs.Making.{AddsIf, called_after};
-ghost use Rattle.split_parts.specs.Parts.{base_by, behind, called, fate_of, lead_by, LeasesBySetup, posted_of, reading_by, seen, setup_of};
+ghost use Rattle.split_parts.specs.Parts.{base_by, behind, called, fate_of, LeasesBySetup, posted_of, seen, setup_of};
 
+use crate::fates::planned_fate;
+use crate::timing::timed;
 use crate::{Event, Lent};
 use cluster_core::ClusterState;
 use event_parts::Stopped;
@@ -17,15 +19,11 @@ use port_io::{Fate, OneFate};
 use stamp_base::{NoMemory, Setup, Store};
 
 impl Lent<'_> {
-    /// The setup of the lent node, or what holds where a script sets nothing.
+    /// The setup of the script.
     pub(crate) fn setup(&self) -> Setup
-        ensures numbers { numbers_of result ≡ setup_of (seen self.now) }
-        ensures lead { lead_by (seen self.now).node ≤ 1000000 }
+        ensures { numbers_of result ≡ setup_of (seen self.now) }
     {
-        match &self.node {
-            Some(node) => node.setup,
-            None => Setup::default(),
-        }
+        self.plan.setup
     }
 
     /// Whether the lent record leases by the setup, which is that of the parts.
@@ -39,53 +37,14 @@ impl Lent<'_> {
         }
     }
 
-    /// The event of the machine, at the reading of the lent node's clock.
+    /// The event of the machine, at the readings of the nodes' clocks.
     pub(crate) fn timed(&self, event: &Event) -> TimedEvent
         requires { ClockFits (seen self.now) event.now }
-        ensures { result ≡ timed_by (seen self.now) event.now }
+        ensures event { result ≡ timed_by (seen self.now) event.now }
+        ensures leads { All (λ lead. lead ≤ 1000000) (seen self.now).plan.leads }
     {
-        match *event {
-            Event::Tick { by } => TimedEvent::Tick {
-                to: self.base() + by,
-            },
-            Event::Note { actor, note } => TimedEvent::Note { actor, note },
-            Event::Take { node } => TimedEvent::Take {
-                node,
-                reading: self.reading(),
-            },
-            Event::Renew { node } => TimedEvent::Renew {
-                node,
-                reading: self.reading(),
-            },
-            Event::Extend { node } => TimedEvent::Extend { node },
-            Event::Crash { node } => TimedEvent::Crash { node },
-            Event::AskBegin { session, node } => TimedEvent::AskBegin { session, node },
-            Event::AskCommit { session, node } => TimedEvent::AskCommit { session, node },
-            Event::Accept { node, session } => TimedEvent::Accept {
-                node,
-                session,
-                reading: self.reading(),
-            },
-            Event::Decide { node, session } => TimedEvent::Decide { node, session },
-            Event::Put { node, session } => TimedEvent::Put { node, session },
-            Event::Answer { node, session } => TimedEvent::Answer { node, session },
-            Event::Write {
-                session,
-                key,
-                value,
-            } => TimedEvent::Write {
-                session,
-                key,
-                value,
-            },
-            Event::Fetch { session, key } => TimedEvent::Fetch { session, key },
-            Event::Step { session } => TimedEvent::Step { session },
-            Event::Heal { session } => TimedEvent::Heal { session },
-            Event::Abort { session } => TimedEvent::Abort { session },
-            Event::Vanish { session } => TimedEvent::Vanish { session },
-            Event::SweepOpen { node, txn } => TimedEvent::SweepOpen { node, txn },
-            Event::SweepStep => TimedEvent::SweepStep,
-        }
+        self.plan.tell_leads();
+        timed(self.base(), self.plan.leads.as_slice(), event)
     }
 
     /// The base clock.
@@ -98,25 +57,6 @@ impl Lent<'_> {
         }
     }
 
-    /// The reading of the lent node's clock.
-    fn reading(&self) -> u64
-        requires { base_by (seen self.now).clock ≤ 2 ^ 60 }
-        ensures value { result ≡ reading_by (seen self.now) }
-        ensures far { reading_by (seen self.now) ≤ 2 ^ 61 }
-    {
-        self.base() + self.lead()
-    }
-
-    fn lead(&self) -> u64
-        ensures value { result ≡ lead_by (seen self.now).node }
-        ensures few { lead_by (seen self.now).node ≤ 1000000 }
-    {
-        match &self.node {
-            Some(part) => part.lead,
-            None => 0,
-        }
-    }
-
     /// The planned fate of the next call on the store.
     pub(crate) fn fate(&self, store: Option<Store>) -> Fate
         requires { CallsFit (seen self.now) store }
@@ -124,15 +64,15 @@ impl Lent<'_> {
     {
         match store {
             Some(Store::Cells) => match &self.cells {
-                Some(part) => part.calls.fate(),
+                Some(part) => planned_fate(&self.plan.faults, Store::Cells, part.calls + 1),
                 None => Fate::Works,
             },
             Some(Store::Table) => match &self.table {
-                Some(part) => part.calls.fate(),
+                Some(part) => planned_fate(&self.plan.faults, Store::Table, part.calls + 1),
                 None => Fate::Works,
             },
             Some(Store::Master) => match &self.master {
-                Some(part) => part.calls.fate(),
+                Some(part) => planned_fate(&self.plan.faults, Store::Master, part.calls + 1),
                 None => Fate::Works,
             },
             None => Fate::Works,
@@ -149,19 +89,19 @@ impl Lent<'_> {
             Some(Store::Cells) => {
                 if let Some(place) = &mut self.cells {
                     let part = &mut **place;
-                    part.calls.count();
+                    part.calls += 1;
                 }
             }
             Some(Store::Table) => {
                 if let Some(place) = &mut self.table {
                     let part = &mut **place;
-                    part.calls.count();
+                    part.calls += 1;
                 }
             }
             Some(Store::Master) => {
                 if let Some(place) = &mut self.master {
                     let part = &mut **place;
-                    part.calls.count();
+                    part.calls += 1;
                 }
             }
             None => {}

@@ -1,35 +1,46 @@
 // The parts of the system, each of which can be lent alone.
-ghost use Rattle.std.specs.Prelude.{◌≡◌, ◌≤◌, [], None, false};
+ghost use Rattle.std.specs.Prelude.{◌≡◌, [], None};
 ghost use Rattle.machine.specs.State.{client_new};
 ghost use Rattle.session_script.specs.PostedNames.{is_posted};
-ghost use Rattle.split_parts.specs.Calls.{AreNumbered};
+ghost use Rattle.split_parts.specs.Parts.{session_of};
 
-use crate::calls::PlannedCalls;
 use cell_store::Cells;
 use commit_table::Table;
-use event_parts::Client;
+use event_parts::{Client, Stopped};
 use invalidator::Sweep;
 use master_record::Master;
-use port_io::Fate;
 use session_script::PostedNames;
-use stamp_base::{Name, NodeNo, Setup};
+use stamp_base::{Name, NodeNo, SessionNo};
 use std::alloc::Global;
 use takeover_core::Post;
 
-/// A session.
+/// A session, and which it is.
 #[derive(Drop)]
 pub struct SessionPart {
+    pub(crate) number: SessionNo,
     pub(crate) client: Client,
+    // Where its request can be looked for first. No clause says that it stands there.
+    pub(crate) asked: Option<NodeNo>,
 }
 
 impl SessionPart {
-    /// A free session.
-    pub fn new(_: Global) -> SessionPart
-        ensures { result.client ≡ client_new 0 }
+    /// The session is free.
+    pub fn new(_: Global, number: SessionNo) -> SessionPart
+        ensures number { result.number ≡ number }
+        ensures client { result.client ≡ client_new 0 }
     {
         SessionPart {
+            number,
             client: Client::without_cache(),
+            asked: None,
         }
+    }
+
+    /// Which session it is.
+    pub fn number(&self) -> SessionNo
+        ensures { result ≡ self.now.number }
+    {
+        self.number
     }
 
     /// The session with what it has under way.
@@ -37,6 +48,22 @@ impl SessionPart {
         ensures { result.now ≡ self.now.client }
     {
         &self.client
+    }
+
+    /// The node that the session has asked last, if it has asked one.
+    pub fn asked(&self) -> Option<NodeNo>
+        ensures { result ≡ self.now.asked }
+    {
+        self.asked
+    }
+
+    /// The session has asked the node, unless it was refused.
+    pub(crate) fn remember(&mut self, node: NodeNo, made: &Result<(), Stopped>)
+        ensures { session_of self.new ≡ session_of self.old }
+    {
+        if made.is_ok() {
+            self.asked = Some(node);
+        }
     }
 }
 
@@ -77,33 +104,21 @@ impl ClockPart {
     }
 }
 
-/// A node, by how much its clock is ahead of the base clock, the setup, and the instance that the node has, if it has one.
+/// A node, which it is, and the instance that it has, if it has one.
 #[derive(Drop)]
 pub struct NodePart {
     pub(crate) node: NodeNo,
-    pub(crate) lead: u64,
-    pub(crate) setup: Setup,
     pub(crate) post: Post,
-    /// No clock is ahead by more than the skew, sessions keep no decisions, nodes place commits, and reads are not strict.
-    pub ghost plain: { (lead ≤ setup.skew) × (setup.cache ≡ 0) × (setup.direct ≡ false) × (setup.strict ≡ false) },
 }
 
 impl NodePart {
     /// The node has no instance.
-    pub fn new(_: Global, node: NodeNo, lead: u64, setup: Setup) -> NodePart
-        requires lead { lead ≤ setup.skew }
-        requires cache { setup.cache ≡ 0 }
-        requires direct { setup.direct ≡ false }
-        requires strict { setup.strict ≡ false }
+    pub fn new(_: Global, node: NodeNo) -> NodePart
         ensures node { result.node ≡ node }
-        ensures lead { result.lead ≡ lead }
-        ensures setup { result.setup ≡ setup }
         ensures post { result.post ≡ None }
     {
         NodePart {
             node,
-            lead,
-            setup,
             post: Post::vacant(),
         }
     }
@@ -123,69 +138,54 @@ impl NodePart {
     }
 }
 
-/// The cells, with the planned faults of the calls on them.
+/// The cells, and how many calls there were on them.
 #[derive(Drop)]
 pub struct CellsPart {
     pub(crate) cells: Cells,
-    pub(crate) calls: PlannedCalls,
+    pub(crate) calls: u64,
 }
 
 impl CellsPart {
-    /// No call was made so far. Calls are counted from 1.
-    pub fn new(_: Global, cells: Cells, faults: Vec<(u64, Fate)>) -> CellsPart
-        requires { AreNumbered faults.items }
+    /// No call was made so far.
+    pub fn new(_: Global, cells: Cells) -> CellsPart
         ensures cells { result.cells ≡ cells }
-        ensures faults { result.calls.faults.items ≡ faults.items }
-        ensures made { result.calls.made ≡ 0 }
+        ensures calls { result.calls ≡ 0 }
     {
-        CellsPart {
-            cells,
-            calls: PlannedCalls::new(faults),
-        }
+        CellsPart { cells, calls: 0 }
     }
 }
 
-/// The commit table, with the planned faults of the calls on it.
+/// The commit table, and how many calls there were on it.
 #[derive(Drop)]
 pub struct TablePart {
     pub(crate) table: Table,
-    pub(crate) calls: PlannedCalls,
+    pub(crate) calls: u64,
 }
 
 impl TablePart {
-    /// No call was made so far. Calls are counted from 1.
-    pub fn new(_: Global, table: Table, faults: Vec<(u64, Fate)>) -> TablePart
-        requires { AreNumbered faults.items }
+    /// No call was made so far.
+    pub fn new(_: Global, table: Table) -> TablePart
         ensures table { result.table ≡ table }
-        ensures faults { result.calls.faults.items ≡ faults.items }
-        ensures made { result.calls.made ≡ 0 }
+        ensures calls { result.calls ≡ 0 }
     {
-        TablePart {
-            table,
-            calls: PlannedCalls::new(faults),
-        }
+        TablePart { table, calls: 0 }
     }
 }
 
-/// The master record, with the planned faults of the calls on it.
+/// The master record, and how many calls there were on it.
 #[derive(Drop)]
 pub struct MasterPart {
     pub(crate) master: Master,
-    pub(crate) calls: PlannedCalls,
+    pub(crate) calls: u64,
 }
 
 impl MasterPart {
-    /// No call was made so far. Calls are counted from 1.
-    pub fn new(_: Global, master: Master, faults: Vec<(u64, Fate)>) -> MasterPart
-        requires { AreNumbered faults.items }
+    /// No call was made so far.
+    pub fn new(_: Global, master: Master) -> MasterPart
         ensures master { result.master ≡ master }
-        ensures faults { result.calls.faults.items ≡ faults.items }
-        ensures made { result.calls.made ≡ 0 }
+        ensures calls { result.calls ≡ 0 }
     {
-        MasterPart {
-            master,
-            calls: PlannedCalls::new(faults),
-        }
+        MasterPart { master, calls: 0 }
     }
 }
 

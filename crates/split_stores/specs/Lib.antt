@@ -1,5 +1,4 @@
 pub mod Logs
-pub mod Plans
 pub mod Merging
 pub mod Merged
 pub mod Orders

@@ -5,31 +5,42 @@ use Rattle.tick_word.specs.Rule.{seat_limit}
 use Rattle.split_parts.specs.declared.event.Event.{Event}
 use Rattle.split_parts.specs.declared.event.Event.TheVariants as event
 use Rattle.split_parts.specs.Agrees.{HasParts}
+use Rattle.split_parts.specs.Lookups.{session_at}
 use Rattle.split_stores.specs.Logs.{Logged, CanRise}
 use Rattle.split_parts.specs.Parts.{Parts}
+
+-- a session that is lent as this one is it
+abbrev pub IsSession : Parts → ℕ → Type 0
+IsSession l session = IfSome (session_at l session) (λ own. own.number ≡ session)
 
 -- a node that is lent is this one
 abbrev pub IsNode : Parts → ℕ → Type 0
 IsNode l node = IfSome l.node (λ n. n.node ≡ node)
 
--- a node that is lent is the event's
-abbrev pub IsAtNode : Parts → Event → Type 0
-IsAtNode l (event.Take node) = IsNode l node
-IsAtNode l (event.Renew node) = IsNode l node
-IsAtNode l (event.Extend node) = IsNode l node
-IsAtNode l (event.Crash node) = IsNode l node
-IsAtNode l (event.AskBegin session node) = IsNode l node
-IsAtNode l (event.AskCommit session node) = IsNode l node
-IsAtNode l (event.Accept node session) = IsNode l node
-IsAtNode l (event.Decide node session) = IsNode l node
-IsAtNode l (event.Put node session) = IsNode l node
-IsAtNode l (event.Answer node session) = IsNode l node
-IsAtNode l (event.SweepOpen node txn) = IsNode l node
-IsAtNode l _ = Unit {0}
+-- a session and a node that are lent are the event's
+abbrev pub IsInPlace : Parts → Event → Type 0
+IsInPlace l (event.Take node) = IsNode l node
+IsInPlace l (event.Renew node) = IsNode l node
+IsInPlace l (event.Extend node) = IsNode l node
+IsInPlace l (event.Crash node) = ((session : ℕ) → session < 16 → IsSession l session) × IsNode l node
+IsInPlace l (event.AskBegin session node) = IsSession l session × IsNode l node
+IsInPlace l (event.AskCommit session node) = IsSession l session × IsNode l node
+IsInPlace l (event.Accept node session) = IsSession l session × IsNode l node
+IsInPlace l (event.Decide node session) = IsSession l session × IsNode l node
+IsInPlace l (event.Put node session) = IsNode l node
+IsInPlace l (event.Answer node session) = IsSession l session × IsNode l node
+IsInPlace l (event.Write session key value) = IsSession l session
+IsInPlace l (event.Fetch session key) = IsSession l session
+IsInPlace l (event.Step session) = IsSession l session
+IsInPlace l (event.Heal session) = IsSession l session
+IsInPlace l (event.Abort session) = IsSession l session
+IsInPlace l (event.Vanish session) = IsSession l session
+IsInPlace l (event.SweepOpen node txn) = IsNode l node
+IsInPlace l _ = Unit {0}
 
--- whatever parts of this kind are lent, they are those that the event has to do with, if the node is the event's
+-- whatever parts of this kind are lent, they are those that the event has to do with, if they are in their places
 abbrev pub Suffices : (Parts → Type 0) → Event → Type 0
-Suffices lent e = (l : Parts) → lent l → IsAtNode l e → HasParts l e
+Suffices lent e = (l : Parts) → lent l → IsInPlace l e → HasParts l e
 
 -- the seat is of the word, and there is room for an entry of the event
 pub record IsReady (id : TableId) (e : Event) (log : Logged) : Type 0 where

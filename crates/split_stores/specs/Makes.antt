@@ -5,16 +5,15 @@ use Rattle.stamp_base.specs.declared.memory.NoMemory.{NoMemory}
 use Rattle.tick_word.specs.Rule.{seat_limit}
 use Rattle.event_parts.specs.declared.stopped.Stopped.{Stopped}
 use Rattle.script_data.specs.Data.{ScriptData}
-use Rattle.session_script.specs.declared.script.Script.{Script}
-use Rattle.session_script.specs.Script.{data_of}
 use Rattle.split_parts.specs.declared.acting.Acted.{Acted}
 use Rattle.split_parts.specs.declared.event.Event.{Event}
 use Rattle.split_stores.specs.declared.made.Made.{Made}
 use Rattle.split_stores.specs.declared.made.Made.TheVariants as made
 use Rattle.split_stores.specs.declared.seat.Entry.{Entry}
 use Rattle.split_parts.specs.Acts.{Acts, timed_by}
-use Rattle.split_parts.specs.Agrees.{Agrees}
-use Rattle.split_stores.specs.Locks.{IsAtNode}
+pub use Rattle.split_parts.specs.Plans.{planned_by}
+use Rattle.split_parts.specs.Agrees.{Agrees, HasParts}
+use Rattle.split_stores.specs.Locks.{IsInPlace}
 use Rattle.split_stores.specs.Logs.{Logged, SameLog, Adds}
 use Rattle.split_parts.specs.Parts.{Parts, LeasesBySetup}
 
@@ -38,9 +37,9 @@ IsSpent (made.Spent drawn) = Unit {0}
 IsSpent _ = ⊥
 
 -- ---- where the parts are lent
--- the parts agree, and the node is the event's
+-- the parts are the event's, and agree
 abbrev pub Fit : Parts → Event → Type 0
-Fit l e = IsAtNode l e × Agrees l e
+Fit l e = IsInPlace l e × Agrees l e
 
 -- nothing was done
 pub record LeavesAll (old new : Parts) (acted : Acted) : Type 0 where
@@ -72,13 +71,23 @@ Inside e old new before after (made.Stopped stopped) = LogsWhatIsDone e old new 
 Inside e old new before after (made.Spent drawn) = ⊥
 Inside e old new before after made.NoMemory = SameLog before after × (new ≡ old)
 
+-- there are parts that the event has to do with, lent under this plan, and what was made of them was logged and answered
+pub record MadeOfParts (plan : ScriptData) (e : Event) (answer : Made) (before after : Logged) : Type 0 where
+  pub old : Parts
+  pub new : Parts
+  pub planned : old.plan ≡ plan
+  pub has : IsInPlace old e → HasParts old e
+  pub inside : Inside e old new before after answer
+
+-- so it is with an event that was logged
+abbrev pub MadeOf : ScriptData → Event → Made → Logged → Logged → Type 0
+MadeOf plan e made.Did old new = MadeOfParts plan e made.Did old new
+MadeOf plan e (made.Stopped stopped) old new = MadeOfParts plan e (made.Stopped stopped) old new
+MadeOf plan e _ old new = Unit {0}
+
 -- ---- the parts behind their locks
 -- which word gives their ticks, for how many seats, and what the script sets
 pub record Shared : Type 0 where
   pub id : TableId
   pub seats : ℕ
   pub plan : ScriptData
-
--- the script without its lines
-abbrev pub planned_by : Script → ScriptData
-planned_by script = record (data_of script) { lines = [] }

@@ -1,14 +1,13 @@
 -- The history of the logs of all seats: their entries in the order of ticks, each one step of the machine.
-use Rattle.std.specs.Prelude.{◌≡◌, ◌≢◌, ℕ, ◌+◌, ◌⊎◌, List, [], ◌∷◌, flat_map, length, take, slice_get, slice_index_or, Option, None, Some}
+use Rattle.std.specs.Prelude.{◌≡◌, ◌≢◌, ℕ, ◌+◌, ◌⊎◌, List, [], ◌∷◌, flat_map, length, take, slice_get, Option, None, Some}
 use Rattle.history_book.specs.declared.item.Item.{Item}
 use Rattle.history_book.specs.Members.{AtEach}
 use Rattle.machine.specs.declared.event.Event as machine
-use Rattle.machine.specs.declared.event.Event.TheVariants as timed
 use Rattle.script_data.specs.Data.{ScriptData}
 use Rattle.command_semantics.specs.Runs.{Played, played, opening_played, step_of}
 use Rattle.cluster_core.specs.ClusterModel.{ClusterModel}
 use Rattle.split_parts.specs.declared.event.Event.{Event}
-use Rattle.split_parts.specs.declared.event.Event.TheVariants as event
+pub use Rattle.split_parts.specs.Acts.{timed_at}
 use Rattle.split_stores.specs.declared.seat.Entry.{Entry}
 use Rattle.split_stores.specs.declared.settling.SettleStop.{SettleStop}
 use Rattle.split_stores.specs.declared.settling.SettleStop.TheVariants.{Missing, Torn, NoMemory}
@@ -16,33 +15,6 @@ use Rattle.split_stores.specs.Logs.{Logged}
 use Rattle.split_stores.specs.Merging.{logs_of, InTickOrder}
 
 -- ---- one entry
--- what a node's clock shows at this base clock
-abbrev pub reading_of : ℕ → List ℕ → ℕ → ℕ
-reading_of base leads node = base + slice_index_or leads node 0
-
--- the event of the machine: a tick goes up to the base clock with its rise, and a reading is the base clock with the node's lead
-abbrev pub timed_at : ℕ → List ℕ → Event → machine.Event
-timed_at base leads (event.Tick by) = timed.Tick (base + by)
-timed_at base leads (event.Note actor note) = timed.Note actor note
-timed_at base leads (event.Take node) = timed.Take node (reading_of base leads node)
-timed_at base leads (event.Renew node) = timed.Renew node (reading_of base leads node)
-timed_at base leads (event.Extend node) = timed.Extend node
-timed_at base leads (event.Crash node) = timed.Crash node
-timed_at base leads (event.AskBegin session node) = timed.AskBegin session node
-timed_at base leads (event.AskCommit session node) = timed.AskCommit session node
-timed_at base leads (event.Accept node session) = timed.Accept node session (reading_of base leads node)
-timed_at base leads (event.Decide node session) = timed.Decide node session
-timed_at base leads (event.Put node session) = timed.Put node session
-timed_at base leads (event.Answer node session) = timed.Answer node session
-timed_at base leads (event.Write session key value) = timed.Write session key value
-timed_at base leads (event.Fetch session key) = timed.Fetch session key
-timed_at base leads (event.Step session) = timed.Step session
-timed_at base leads (event.Heal session) = timed.Heal session
-timed_at base leads (event.Abort session) = timed.Abort session
-timed_at base leads (event.Vanish session) = timed.Vanish session
-timed_at base leads (event.SweepOpen node txn) = timed.SweepOpen node txn
-timed_at base leads event.SweepStep = timed.SweepStep
-
 -- at the base clock of what was played so far
 abbrev pub timed_in : ScriptData → Played → Event → machine.Event
 timed_in script p e = timed_at p.clock script.leads e

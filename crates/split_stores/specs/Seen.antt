@@ -13,9 +13,9 @@ use Rattle.split_stores.specs.declared.searching.HeldRequest.{HeldRequest}
 use Rattle.split_stores.specs.declared.searching.SeenRequest.{SeenRequest}
 
 -- ---- one part
--- what a session is doing, by its part
+-- what this session is doing, by its part, and which node it has asked last; the part of another tells nothing
 abbrev pub doing_seen : ℕ → SessionPart → SeenDoing
-doing_seen session part = record { session = session; doing = client_doing part.client }
+doing_seen session part = record { session = session; doing = if part.number == session then Some (client_doing part.client) else None; asked = part.asked }
 
 -- whether a sweep is open, by the janitor's part
 abbrev pub sweep_seen : JanitorPart → SeenSweep
@@ -34,6 +34,10 @@ held_by node (Some held) = Some (record { node = node; request = held.0; place =
 -- what the part of this node has of the session's request; the part of another has nothing that is looked for
 abbrev pub found_at : ℕ → ℕ → NodePart → Option HeldRequest
 found_at node session part = if part.node == node then held_by node (request_in part.post session) else None
+
+-- the part of this node was looked at before all others
+abbrev pub first_searched : ℕ → ℕ → NodePart → SeenRequest
+first_searched session node part = record { session = session; nodes = 0; found = found_at node session part }
 
 -- no node was looked at
 abbrev pub none_searched : ℕ → SeenRequest

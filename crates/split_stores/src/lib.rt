@@ -10,14 +10,12 @@ mod locking;
 mod made;
 mod merging;
 mod opening;
-mod plan;
 mod searching;
 mod seat;
 mod seen;
 mod settling;
 mod split;
 mod telling;
-mod timing;
 
 pub use gate::{OpenPartGate, PartGate};
 pub use laws::{settled_by_plans, settled_is_ordered, settled_is_planned};
@@ -28,6 +26,6 @@ pub use seen::{SeenDoing, SeenSweep};
 pub use settling::SettleStop;
 pub use split::Split;
 pub use split_parts::{
-    Acted, CellsPart, ClockPart, Event, JanitorPart, Lent, MasterPart, NamesPart, NodePart,
+    Acted, CellsPart, ClockPart, Event, JanitorPart, Lent, MasterPart, NamesPart, NodePart, Plan,
     SessionPart, TablePart, act, agrees,
 };

@@ -2,11 +2,10 @@
 // cells, table, master record, names.
 ghost use Rattle.std.specs.Prelude.{◌≡◌, ◌≤◌, IsSome, length};
 ghost use Rattle.split_parts.specs.declared.event.Event.TheVariants as event;
-ghost use Rattle.split_parts.specs.Agrees.{HasSession};
-ghost use Rattle.split_parts.specs.Lending.{HasSessionsBelow};
+ghost use Rattle.split_parts.specs.Lending.{LendsBelow, LendsSession};
 ghost use Rattle.split_stores.specs.Locks.{IsReady, Suffices};
 ghost use Rattle.split_stores.specs.Logs.{CanRise};
-ghost use Rattle.split_stores.specs.Makes.{Makes, IsSpent};
+ghost use Rattle.split_stores.specs.Makes.{IsSpent, MadeOf, MadeOfParts, Makes};
 ghost use Rattle.tick_word.specs.Rule.{seat_limit};
 
 use crate::inside::Turn;
@@ -18,8 +17,8 @@ use std::sync::Wait;
 use tick_word::SEAT_LIMIT;
 
 impl Split {
-    /// Makes the event of its parts under their locks, which pass the gate, and logs it under one tick with the items that it
-    /// appends. Where the parts do not agree it is logged alone. Where memory is refused, or the seat has drawn all its ticks, no
+    /// Makes the event of its parts under their locks, which pass the gate, by what the script sets, and logs it under one tick with
+    /// the items that it appends. Where the parts do not agree it is logged alone. Where memory is refused, or the seat has drawn all its ticks, no
     /// tick is drawn and all is as before.
     pub fn make<R: Wait, G: PartGate>(
         &self,
@@ -33,6 +32,7 @@ impl Split {
         requires rises { CanRise event seat.old.entries }
         ensures word { seat.new.word ≡ seat.old.word }
         ensures made { Makes event result seat.old seat.new }
+        ensures parts { MadeOf self.now.plan event result seat.old seat.new }
         ensures spent { seat_limit ≤ length seat.old.entries → IsSpent result }
     {
         let drawn = seat.entries().len() as u64;
@@ -52,10 +52,10 @@ impl Split {
     }
 
     /// Locks the event's parts, and makes it there.
-    #[tactic(auto, using(crate::proofs::LockLemmas::has_node))]
+    #[tactic(auto, using(crate::proofs::LockLemmas::has_node, crate::proofs::LockLemmas::has_session))]
     fn at_parts<R: Wait, G: PartGate>(&self, turn: &Turn<'_, R, G>, seat: &mut ActorSeat) -> Made
         requires { IsReady self.now.id turn.now.event seat.old }
-        ensures { Makes turn.now.event result seat.old seat.new }
+        ensures { MadeOfParts self.now.plan turn.now.event result seat.old seat.new }
     {
         match turn.event {
             Event::Tick { .. } => self.at_clock(turn, seat),
@@ -88,21 +88,21 @@ impl Split {
     fn at_clock<R: Wait, G: PartGate>(&self, turn: &Turn<'_, R, G>, seat: &mut ActorSeat) -> Made
         requires ready { IsReady self.now.id turn.now.event seat.old }
         requires parts { Suffices (λ l. IsSome l.clock) turn.now.event }
-        ensures { Makes turn.now.event result seat.old seat.new }
+        ensures { MadeOfParts self.now.plan turn.now.event result seat.old seat.new }
     {
         let mut clock = self.clock.lock(turn.rt);
-        let mut lent = Lent::none().with_clock(&mut clock);
-        turn.inside(&self.word, seat, &mut lent)
+        let mut lent = Lent::none(&self.plan).with_clock(&mut clock);
+        turn.inside(self, seat, &mut lent)
     }
 
     fn at_names<R: Wait, G: PartGate>(&self, turn: &Turn<'_, R, G>, seat: &mut ActorSeat) -> Made
         requires ready { IsReady self.now.id turn.now.event seat.old }
         requires parts { Suffices (λ l. IsSome l.names) turn.now.event }
-        ensures { Makes turn.now.event result seat.old seat.new }
+        ensures { MadeOfParts self.now.plan turn.now.event result seat.old seat.new }
     {
         let mut names = self.names.lock(turn.rt);
-        let mut lent = Lent::none().with_names(&mut names);
-        turn.inside(&self.word, seat, &mut lent)
+        let mut lent = Lent::none(&self.plan).with_names(&mut names);
+        turn.inside(self, seat, &mut lent)
     }
 
     fn at_clock_and_record<R: Wait, G: PartGate>(
@@ -113,16 +113,16 @@ impl Split {
     ) -> Made
         requires ready { IsReady self.now.id turn.now.event seat.old }
         requires parts { Suffices (λ l. IsSome l.clock × IsSome l.node × IsSome l.master) turn.now.event }
-        ensures { Makes turn.now.event result seat.old seat.new }
+        ensures { MadeOfParts self.now.plan turn.now.event result seat.old seat.new }
     {
         let mut clock = self.clock.lock(turn.rt);
         let mut post = self.nodes[node.index()].lock(turn.rt);
         let mut master = self.master.lock(turn.rt);
-        let mut lent = Lent::none()
+        let mut lent = Lent::none(&self.plan)
             .with_clock(&mut clock)
             .with_node(&mut post)
             .with_master(&mut master);
-        turn.inside(&self.word, seat, &mut lent)
+        turn.inside(self, seat, &mut lent)
     }
 
     fn at_record<R: Wait, G: PartGate>(
@@ -133,12 +133,14 @@ impl Split {
     ) -> Made
         requires ready { IsReady self.now.id turn.now.event seat.old }
         requires parts { Suffices (λ l. IsSome l.node × IsSome l.master) turn.now.event }
-        ensures { Makes turn.now.event result seat.old seat.new }
+        ensures { MadeOfParts self.now.plan turn.now.event result seat.old seat.new }
     {
         let mut post = self.nodes[node.index()].lock(turn.rt);
         let mut master = self.master.lock(turn.rt);
-        let mut lent = Lent::none().with_node(&mut post).with_master(&mut master);
-        turn.inside(&self.word, seat, &mut lent)
+        let mut lent = Lent::none(&self.plan)
+            .with_node(&mut post)
+            .with_master(&mut master);
+        turn.inside(self, seat, &mut lent)
     }
 
     #[tactic(auto, using(split_parts::proofs::LentSessions::none_below))]
@@ -149,8 +151,8 @@ impl Split {
         node: NodeNo,
     ) -> Made
         requires ready { IsReady self.now.id turn.now.event seat.old }
-        requires parts { Suffices (λ l. HasSessionsBelow 16 l × IsSome l.node) turn.now.event }
-        ensures { Makes turn.now.event result seat.old seat.new }
+        requires parts { Suffices (λ l. LendsBelow 16 l × IsSome l.node) turn.now.event }
+        ensures { MadeOfParts self.now.plan turn.now.event result seat.old seat.new }
     {
         let mut s0 = self.sessions[0].lock(turn.rt);
         let mut s1 = self.sessions[1].lock(turn.rt);
@@ -169,7 +171,7 @@ impl Split {
         let mut s14 = self.sessions[14].lock(turn.rt);
         let mut s15 = self.sessions[15].lock(turn.rt);
         let mut post = self.nodes[node.index()].lock(turn.rt);
-        let mut lent = Lent::none()
+        let mut lent = Lent::none(&self.plan)
             .with_next_session(0, &mut s0)
             .with_next_session(1, &mut s1)
             .with_next_session(2, &mut s2)
@@ -187,7 +189,7 @@ impl Split {
             .with_next_session(14, &mut s14)
             .with_next_session(15, &mut s15)
             .with_node(&mut post);
-        turn.inside(&self.word, seat, &mut lent)
+        turn.inside(self, seat, &mut lent)
     }
 
     #[tactic(auto, using(split_parts::proofs::LentSessions::has_set))]
@@ -198,12 +200,12 @@ impl Split {
         session: SessionNo,
     ) -> Made
         requires ready { IsReady self.now.id turn.now.event seat.old }
-        requires parts { Suffices (λ l. HasSession l session) turn.now.event }
-        ensures { Makes turn.now.event result seat.old seat.new }
+        requires parts { Suffices (λ l. LendsSession l session) turn.now.event }
+        ensures { MadeOfParts self.now.plan turn.now.event result seat.old seat.new }
     {
         let mut client = self.sessions[session.index()].lock(turn.rt);
-        let mut lent = Lent::none().with_session(session.index(), &mut client);
-        turn.inside(&self.word, seat, &mut lent)
+        let mut lent = Lent::none(&self.plan).with_session(session.index(), &mut client);
+        turn.inside(self, seat, &mut lent)
     }
 
     #[tactic(auto, using(split_parts::proofs::LentSessions::has_set))]
@@ -215,15 +217,15 @@ impl Split {
         node: NodeNo,
     ) -> Made
         requires ready { IsReady self.now.id turn.now.event seat.old }
-        requires parts { Suffices (λ l. HasSession l session × IsSome l.node) turn.now.event }
-        ensures { Makes turn.now.event result seat.old seat.new }
+        requires parts { Suffices (λ l. LendsSession l session × IsSome l.node) turn.now.event }
+        ensures { MadeOfParts self.now.plan turn.now.event result seat.old seat.new }
     {
         let mut client = self.sessions[session.index()].lock(turn.rt);
         let mut post = self.nodes[node.index()].lock(turn.rt);
-        let mut lent = Lent::none()
+        let mut lent = Lent::none(&self.plan)
             .with_session(session.index(), &mut client)
             .with_node(&mut post);
-        turn.inside(&self.word, seat, &mut lent)
+        turn.inside(self, seat, &mut lent)
     }
 
     #[tactic(auto, using(split_parts::proofs::LentSessions::has_set))]
@@ -235,17 +237,17 @@ impl Split {
         node: NodeNo,
     ) -> Made
         requires ready { IsReady self.now.id turn.now.event seat.old }
-        requires parts { Suffices (λ l. HasSession l session × IsSome l.clock × IsSome l.node) turn.now.event }
-        ensures { Makes turn.now.event result seat.old seat.new }
+        requires parts { Suffices (λ l. LendsSession l session × IsSome l.clock × IsSome l.node) turn.now.event }
+        ensures { MadeOfParts self.now.plan turn.now.event result seat.old seat.new }
     {
         let mut client = self.sessions[session.index()].lock(turn.rt);
         let mut clock = self.clock.lock(turn.rt);
         let mut post = self.nodes[node.index()].lock(turn.rt);
-        let mut lent = Lent::none()
+        let mut lent = Lent::none(&self.plan)
             .with_session(session.index(), &mut client)
             .with_clock(&mut clock)
             .with_node(&mut post);
-        turn.inside(&self.word, seat, &mut lent)
+        turn.inside(self, seat, &mut lent)
     }
 
     fn at_node_and_table<R: Wait, G: PartGate>(
@@ -256,12 +258,14 @@ impl Split {
     ) -> Made
         requires ready { IsReady self.now.id turn.now.event seat.old }
         requires parts { Suffices (λ l. IsSome l.node × IsSome l.table) turn.now.event }
-        ensures { Makes turn.now.event result seat.old seat.new }
+        ensures { MadeOfParts self.now.plan turn.now.event result seat.old seat.new }
     {
         let mut post = self.nodes[node.index()].lock(turn.rt);
         let mut table = self.table.lock(turn.rt);
-        let mut lent = Lent::none().with_node(&mut post).with_table(&mut table);
-        turn.inside(&self.word, seat, &mut lent)
+        let mut lent = Lent::none(&self.plan)
+            .with_node(&mut post)
+            .with_table(&mut table);
+        turn.inside(self, seat, &mut lent)
     }
 
     #[tactic(auto, using(split_parts::proofs::LentSessions::has_set))]
@@ -272,15 +276,15 @@ impl Split {
         session: SessionNo,
     ) -> Made
         requires ready { IsReady self.now.id turn.now.event seat.old }
-        requires parts { Suffices (λ l. HasSession l session × IsSome l.cells) turn.now.event }
-        ensures { Makes turn.now.event result seat.old seat.new }
+        requires parts { Suffices (λ l. LendsSession l session × IsSome l.cells) turn.now.event }
+        ensures { MadeOfParts self.now.plan turn.now.event result seat.old seat.new }
     {
         let mut client = self.sessions[session.index()].lock(turn.rt);
         let mut cells = self.cells.lock(turn.rt);
-        let mut lent = Lent::none()
+        let mut lent = Lent::none(&self.plan)
             .with_session(session.index(), &mut client)
             .with_cells(&mut cells);
-        turn.inside(&self.word, seat, &mut lent)
+        turn.inside(self, seat, &mut lent)
     }
 
     fn at_janitor_and_node<R: Wait, G: PartGate>(
@@ -291,12 +295,14 @@ impl Split {
     ) -> Made
         requires ready { IsReady self.now.id turn.now.event seat.old }
         requires parts { Suffices (λ l. IsSome l.janitor × IsSome l.node) turn.now.event }
-        ensures { Makes turn.now.event result seat.old seat.new }
+        ensures { MadeOfParts self.now.plan turn.now.event result seat.old seat.new }
     {
         let mut janitor = self.janitor.lock(turn.rt);
         let mut post = self.nodes[node.index()].lock(turn.rt);
-        let mut lent = Lent::none().with_janitor(&mut janitor).with_node(&mut post);
-        turn.inside(&self.word, seat, &mut lent)
+        let mut lent = Lent::none(&self.plan)
+            .with_janitor(&mut janitor)
+            .with_node(&mut post);
+        turn.inside(self, seat, &mut lent)
     }
 
     /// The store that a step asks is known once its session is locked.
@@ -309,34 +315,34 @@ impl Split {
     ) -> Made
         requires ready { IsReady self.now.id turn.now.event seat.old }
         requires step { turn.now.event ≡ event.Step session }
-        ensures { Makes turn.now.event result seat.old seat.new }
+        ensures { MadeOfParts self.now.plan turn.now.event result seat.old seat.new }
     {
         let mut client = self.sessions[session.index()].lock(turn.rt);
         match next_store(client.client()) {
             None => {
-                let mut lent = Lent::none().with_session(session.index(), &mut client);
-                turn.inside(&self.word, seat, &mut lent)
+                let mut lent = Lent::none(&self.plan).with_session(session.index(), &mut client);
+                turn.inside(self, seat, &mut lent)
             }
             Some(Store::Cells) => {
                 let mut cells = self.cells.lock(turn.rt);
-                let mut lent = Lent::none()
+                let mut lent = Lent::none(&self.plan)
                     .with_session(session.index(), &mut client)
                     .with_cells(&mut cells);
-                turn.inside(&self.word, seat, &mut lent)
+                turn.inside(self, seat, &mut lent)
             }
             Some(Store::Table) => {
                 let mut table = self.table.lock(turn.rt);
-                let mut lent = Lent::none()
+                let mut lent = Lent::none(&self.plan)
                     .with_session(session.index(), &mut client)
                     .with_table(&mut table);
-                turn.inside(&self.word, seat, &mut lent)
+                turn.inside(self, seat, &mut lent)
             }
             Some(Store::Master) => {
                 let mut master = self.master.lock(turn.rt);
-                let mut lent = Lent::none()
+                let mut lent = Lent::none(&self.plan)
                     .with_session(session.index(), &mut client)
                     .with_master(&mut master);
-                turn.inside(&self.word, seat, &mut lent)
+                turn.inside(self, seat, &mut lent)
             }
         }
     }
@@ -350,34 +356,34 @@ impl Split {
     ) -> Made
         requires ready { IsReady self.now.id turn.now.event seat.old }
         requires step { turn.now.event ≡ event.SweepStep }
-        ensures { Makes turn.now.event result seat.old seat.new }
+        ensures { MadeOfParts self.now.plan turn.now.event result seat.old seat.new }
     {
         let mut janitor = self.janitor.lock(turn.rt);
         match sweep_store(janitor.sweep()) {
             None => {
-                let mut lent = Lent::none().with_janitor(&mut janitor);
-                turn.inside(&self.word, seat, &mut lent)
+                let mut lent = Lent::none(&self.plan).with_janitor(&mut janitor);
+                turn.inside(self, seat, &mut lent)
             }
             Some(Store::Cells) => {
                 let mut cells = self.cells.lock(turn.rt);
-                let mut lent = Lent::none()
+                let mut lent = Lent::none(&self.plan)
                     .with_janitor(&mut janitor)
                     .with_cells(&mut cells);
-                turn.inside(&self.word, seat, &mut lent)
+                turn.inside(self, seat, &mut lent)
             }
             Some(Store::Table) => {
                 let mut table = self.table.lock(turn.rt);
-                let mut lent = Lent::none()
+                let mut lent = Lent::none(&self.plan)
                     .with_janitor(&mut janitor)
                     .with_table(&mut table);
-                turn.inside(&self.word, seat, &mut lent)
+                turn.inside(self, seat, &mut lent)
             }
             Some(Store::Master) => {
                 let mut master = self.master.lock(turn.rt);
-                let mut lent = Lent::none()
+                let mut lent = Lent::none(&self.plan)
                     .with_janitor(&mut janitor)
                     .with_master(&mut master);
-                turn.inside(&self.word, seat, &mut lent)
+                turn.inside(self, seat, &mut lent)
             }
         }
     }

@@ -1,12 +1,8 @@
 // The parts of the system as they are at first.
-ghost use Rattle.std.specs.Prelude.{◌≡◌, ◌≤◌, [], All, IfOk, false, vec_len};
+ghost use Rattle.std.specs.Prelude.{◌≡◌, ◌≤◌, [], All, IfOk, vec_len};
 ghost use Rattle.split_stores.specs.Logs.{IsNew};
-ghost use Rattle.split_stores.specs.Plans.{plan_data};
-ghost use Rattle.split_stores.specs.Makes.{planned_by};
 
-use crate::plan::Plan;
 use crate::seat::ActorSeat;
-use session_script::Script;
 use split_parts::{NodePart, SessionPart};
 use stamp_base::{NoMemory, NodeNo, SessionNo};
 use std::alloc::Global;
@@ -34,37 +30,22 @@ pub(crate) fn cut(
     Ok(seats)
 }
 
-/// What the script sets.
-pub(crate) fn plan_of(alloc: Global, script: &Script) -> Result<Plan, NoMemory>
-    ensures { IfOk result (λ plan. plan_data plan ≡ planned_by script.now) }
-{
-    let mut leads = Vec::new(alloc);
-    leads.extend_from_slice(&script.leads)?;
-    let mut faults = Vec::new(alloc);
-    faults.extend_from_slice(&script.faults)?;
-    Ok(Plan {
-        setup: script.setup,
-        leads,
-        faults,
-    })
-}
-
 /// All sessions, which are free.
 pub(crate) fn free_sessions(alloc: Global) -> Result<Vec<Mutex<SessionPart>>, NoMemory>
     ensures { IfOk result (λ sessions. vec_len sessions ≡ 16) }
 {
     let mut sessions = Vec::new(alloc);
-    for _number in 0..SessionNo::COUNT {
-        sessions.push(Mutex::new(SessionPart::new(alloc)))?;
+    for number in 0..SessionNo::COUNT {
+        let Some(session) = SessionNo::new(number as u64) else {
+            unreachable!();
+        };
+        sessions.push(Mutex::new(SessionPart::new(alloc, session)))?;
     }
     Ok(sessions)
 }
 
-/// All nodes, without an instance. A node that is none of the setup's has a clock that is not ahead.
-pub(crate) fn vacant_nodes(alloc: Global, script: &Script) -> Result<Vec<Mutex<NodePart>>, NoMemory>
-    requires cache { script.now.setup.cache ≡ 0 }
-    requires direct { script.now.setup.direct ≡ false }
-    requires strict { script.now.setup.strict ≡ false }
+/// All nodes, without an instance.
+pub(crate) fn vacant_nodes(alloc: Global) -> Result<Vec<Mutex<NodePart>>, NoMemory>
     ensures { IfOk result (λ nodes. vec_len nodes ≡ 8) }
 {
     let mut nodes = Vec::new(alloc);
@@ -72,19 +53,7 @@ pub(crate) fn vacant_nodes(alloc: Global, script: &Script) -> Result<Vec<Mutex<N
         let Some(node) = NodeNo::new(number as u64) else {
             unreachable!();
         };
-        let lead = lead_of(script, number);
-        nodes.push(Mutex::new(NodePart::new(alloc, node, lead, script.setup)))?;
+        nodes.push(Mutex::new(NodePart::new(alloc, node)))?;
     }
     Ok(nodes)
-}
-
-/// By how much the clock of the node of this number is ahead.
-fn lead_of(script: &Script, number: usize) -> u64
-    ensures { result ≤ script.now.setup.skew }
-{
-    if number < script.leads.len() {
-        script.leads[number]
-    } else {
-        0
-    }
 }

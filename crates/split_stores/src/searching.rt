@@ -1,6 +1,6 @@
 // The nodes, looked at one after the other for the request of a session.
 ghost use Rattle.std.specs.Prelude.{◌≡◌, ◌<◌, None};
-ghost use Rattle.split_stores.specs.Seen.{found_at, held_by, none_searched, request_in, searched};
+ghost use Rattle.split_stores.specs.Seen.{first_searched, found_at, held_by, none_searched, request_in, searched};
 
 use split_parts::NodePart;
 use stamp_base::{NodeNo, SessionNo};
@@ -16,7 +16,7 @@ pub struct HeldRequest {
 }
 
 /// How far the nodes were looked at for a session's request, in their order from the first on, and what the last of them had of it:
-/// the nodes before that had nothing. It is made by looks at their parts alone.
+/// the nodes before that had nothing. One node may be looked at before all others. It is made by looks at their parts alone.
 #[derive(Clone, Copy, Debug, PartialEq, Eq)]
 pub struct SeenRequest {
     session: SessionNo,
@@ -25,14 +25,25 @@ pub struct SeenRequest {
 }
 
 impl SeenRequest {
-    /// No node was looked at yet.
-    pub(crate) fn none(session: SessionNo) -> SeenRequest
+    /// No node was looked at.
+    pub fn none(session: SessionNo) -> SeenRequest
         ensures { result ≡ none_searched session }
     {
         SeenRequest {
             session,
             nodes: 0,
             found: None,
+        }
+    }
+
+    /// What the part of this node has, before all others.
+    pub(crate) fn first(session: SessionNo, node: NodeNo, part: &NodePart) -> SeenRequest
+        ensures { result ≡ first_searched session node part.now }
+    {
+        SeenRequest {
+            session,
+            nodes: 0,
+            found: found_at(node.index(), session, part),
         }
     }
 

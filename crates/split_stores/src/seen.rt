@@ -1,29 +1,32 @@
 // What is seen of a part while it is locked. Each value is made by a look at a part alone.
-ghost use Rattle.std.specs.Prelude.{◌≡◌};
+ghost use Rattle.std.specs.Prelude.{◌≡◌, ◌==◌, if◌then◌else◌, None, Some};
 ghost use Rattle.machine.specs.Readers as read;
 ghost use Rattle.split_stores.specs.Seen.{doing_seen, sweep_seen};
 
 use event_parts::Client;
 use machine::Doing;
 use split_parts::{JanitorPart, SessionPart};
-use stamp_base::SessionNo;
+use stamp_base::{NodeNo, SessionNo};
 use system_parts::State;
 
-/// What a session was doing when its part was looked at.
+/// What a session was doing when its part was looked at. The part of another session tells nothing of it: a lock does not tell whose
+/// part it holds.
 #[derive(Clone, Copy, Debug, PartialEq, Eq)]
 pub struct SeenDoing {
     session: SessionNo,
-    doing: Doing,
+    doing: Option<Doing>,
+    asked: Option<NodeNo>,
 }
 
 impl SeenDoing {
-    /// By the part of this session.
+    /// What the part tells of this session.
     pub(crate) fn at(session: SessionNo, part: &SessionPart) -> SeenDoing
         ensures { result ≡ doing_seen session part.now }
     {
         SeenDoing {
             session,
-            doing: doing_of(part.client()),
+            doing: told_of(session, part),
+            asked: part.asked(),
         }
     }
 
@@ -34,10 +37,18 @@ impl SeenDoing {
         self.session
     }
 
-    pub fn doing(&self) -> Doing
+    /// What it was doing, if this was its part.
+    pub fn doing(&self) -> Option<Doing>
         ensures { result ≡ self.now.doing }
     {
         self.doing
+    }
+
+    /// The node that it had asked last, if it had asked one.
+    pub fn asked(&self) -> Option<NodeNo>
+        ensures { result ≡ self.now.asked }
+    {
+        self.asked
     }
 }
 
@@ -60,6 +71,16 @@ impl SeenSweep {
         ensures { result ≡ self.now.is_open }
     {
         self.is_open
+    }
+}
+
+fn told_of(session: SessionNo, part: &SessionPart) -> Option<Doing>
+    ensures { result ≡ (if part.now.number == session then Some (read.client_doing part.now.client) else None) }
+{
+    if part.number() == session {
+        Some(doing_of(part.client()))
+    } else {
+        None
     }
 }
 

@@ -1,27 +1,26 @@
 // The parts of the system, each behind a lock of its own.
 ghost use Rattle.std.specs.Prelude.{◌≡◌, ◌≤◌, All, IfOk, false, length};
 ghost use Rattle.split_stores.specs.Logs.{IsNew};
-ghost use Rattle.split_stores.specs.Makes.{planned_by};
+ghost use Rattle.split_parts.specs.Plans.{planned_by};
 
-use crate::opening::{cut, free_sessions, plan_of, vacant_nodes};
-use crate::plan::Plan;
+use crate::opening::{cut, free_sessions, vacant_nodes};
 use crate::seat::ActorSeat;
 use cell_store::Cells;
 use commit_table::Table;
 use master_record::Master;
 use session_script::Script;
 use split_parts::{
-    CellsPart, ClockPart, JanitorPart, MasterPart, NamesPart, NodePart, SessionPart, TablePart,
-    faults_on,
+    CellsPart, ClockPart, JanitorPart, MasterPart, NamesPart, NodePart, Plan, SessionPart,
+    TablePart,
 };
-use stamp_base::{NoMemory, Store};
+use stamp_base::NoMemory;
 use std::alloc::Global;
 use std::marker::Model;
 use std::sync::Mutex;
 use tick_word::TickWord;
 
-/// The parts of the system, each behind a lock of its own, and the word that gives ticks. A part is locked before those that
-/// stand below it here.
+/// The parts of the system, each behind a lock of its own, what the script sets, and the word that gives ticks. A part is locked before
+/// those that stand below it here.
 #[derive(Drop)]
 pub struct Split {
     pub(crate) sessions: Vec<Mutex<SessionPart>>,
@@ -40,7 +39,7 @@ pub struct Split {
 impl Model for Split {
     ghost use Rattle.std.specs.Prelude.{◌≡◌, ◌≤◌, vec_len};
     ghost use Rattle.split_stores.specs.Makes.{Shared};
-    ghost use Rattle.split_stores.specs.Plans.{plan_data};
+    ghost use Rattle.split_parts.specs.Plans.{plan_data};
 
     ghost Value = { Shared };
 
@@ -50,8 +49,7 @@ impl Model for Split {
 }
 
 impl Split {
-    /// The parts at their beginning, as the script sets them, and a seat for each actor. The planned faults are divided by their
-    /// stores.
+    /// The parts at their beginning, what the script sets, and a seat for each actor.
     pub fn open(
         alloc: Global,
         script: &Script,
@@ -87,21 +85,18 @@ fn parts_of(
     ensures word { IfOk result (λ split. (split.id ≡ word.id) × (split.seats ≡ word.seats)) }
 {
     let setup = script.setup;
-    let cells = faults_on(alloc, &script.faults, Store::Cells)?;
-    let table = faults_on(alloc, &script.faults, Store::Table)?;
-    let master = faults_on(alloc, &script.faults, Store::Master)?;
     let free = Master::free(setup.lease, setup.skew, setup.range);
     Ok(Split {
         sessions: free_sessions(alloc)?,
         janitor: Mutex::new(JanitorPart::new(alloc)),
         clock: Mutex::new(ClockPart::new(alloc)),
-        nodes: vacant_nodes(alloc, script)?,
-        cells: Mutex::new(CellsPart::new(alloc, Cells::new(alloc), cells)),
-        table: Mutex::new(TablePart::new(alloc, Table::new(alloc), table)),
-        master: Mutex::new(MasterPart::new(alloc, free, master)),
+        nodes: vacant_nodes(alloc)?,
+        cells: Mutex::new(CellsPart::new(alloc, Cells::new(alloc))),
+        table: Mutex::new(TablePart::new(alloc, Table::new(alloc))),
+        master: Mutex::new(MasterPart::new(alloc, free)),
         names: Mutex::new(NamesPart::new(alloc)),
         word,
         actors,
-        plan: plan_of(alloc, script)?,
+        plan: Plan::new(alloc, script)?,
     })
 }

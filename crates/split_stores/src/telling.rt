@@ -1,12 +1,12 @@
-// What the parts hold when their locks are taken. What each look sees is exact; that a lock is that of this part, and what stands there
-// when it is taken, no clause says: whoever chooses by it may find it changed.
+// What the parts hold when their locks are taken. What each look sees is exact, and the part of another session or node tells nothing.
+// What stands there when a lock is taken no clause says: whoever chooses by it may find it changed.
 ghost use Rattle.std.specs.Prelude.{◌≡◌};
 ghost use Rattle.split_stores.specs.Seen.{IsSearched};
 
 use crate::Split;
 use crate::searching::SeenRequest;
 use crate::seen::{SeenDoing, SeenSweep};
-use stamp_base::{Name, SessionNo};
+use stamp_base::{Name, NodeNo, SessionNo};
 use std::sync::Wait;
 
 impl Split {
@@ -17,8 +17,28 @@ impl Split {
         SeenDoing::at(session, &self.sessions[session.index()].lock(rt))
     }
 
-    /// The request of the session: the nodes are looked at in their order, up to the first that holds it.
-    pub fn request_of<R: Wait>(&self, rt: &R, session: SessionNo) -> SeenRequest
+    /// The request of the session. It is looked for at this node first, if one is named, which holds it where the session has asked it
+    /// last; and else at all nodes in their order, up to the first that holds it.
+    pub fn request_of<R: Wait>(
+        &self,
+        rt: &R,
+        session: SessionNo,
+        first: Option<NodeNo>,
+    ) -> SeenRequest
+        ensures session { result.session ≡ session }
+        ensures searched { IsSearched result }
+    {
+        if let Some(node) = first {
+            let seen = SeenRequest::first(session, node, &self.nodes[node.index()].lock(rt));
+            if seen.found().is_some() {
+                return seen;
+            }
+        }
+        self.search(rt, session)
+    }
+
+    /// The request of the session, by a look at the nodes in their order, up to the first that holds it.
+    fn search<R: Wait>(&self, rt: &R, session: SessionNo) -> SeenRequest
         ensures session { result.session ≡ session }
         ensures searched { IsSearched result }
     {

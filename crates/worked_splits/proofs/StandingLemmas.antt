@@ -14,7 +14,7 @@ use Rattle.machine.specs.Events.Take.{rules_of}
 use Rattle.machine.specs.State.{Client, State}
 use Rattle.split_parts.specs.declared.acting.Acted.{Acted}
 use Rattle.split_parts.specs.Acts.{Acts, asked_of, noted, step_of}
-use Rattle.split_parts.specs.Parts.{CellRows, Node, Parts, Record, called, cells_called, given, given_from, given_master, given_node, given_rows, given_sessions, master_called, setup_by}
+use Rattle.split_parts.specs.Parts.{CellRows, Node, Parts, Record, Session, called, cells_called, given, given_client, given_from, given_master, given_node, given_rows, given_sessions, master_called}
 use Rattle.worked_splits.specs.Standing.{Stands}
 
 -- ---- given from a state
@@ -22,21 +22,21 @@ given_there : {T : Type 0} → (part : Option T) (now : T) → IsSome part → I
 given_there None now there = search rules
 given_there (Some was) now there = refl
 
-session_given : (n session : ℕ) (sessions : List (Option Client)) (clients : List Client) → IsSome (slice_index_or sessions session None) → IsSome (slice_index_or (given_sessions n sessions clients) session None)
+client_given : (number : ℕ) (own : Option Session) (c : Client) → IsSomeAnd own (λ o. o.number ≡ number) → IsSomeAnd (given_client own c) (λ o. o.number ≡ number)
+client_given number None c there = absurd there
+client_given number (Some own) c there = there
+
+session_given : (n session number : ℕ) (sessions : List (Option Session)) (clients : List Client) → IsSomeAnd (slice_index_or sessions session None) (λ o. o.number ≡ number) → IsSomeAnd (slice_index_or (given_sessions n sessions clients) session None) (λ o. o.number ≡ number)
 unfolding given_sessions
-session_given zero session sessions clients there = there
-session_given (suc n) session [] clients there = search rules
-session_given (suc n) session (s ∷ sessions) [] there = there
-session_given (suc n) zero (s ∷ sessions) (c ∷ clients) there = given_there s c there
-session_given (suc n) (suc session) (s ∷ sessions) (c ∷ clients) there = session_given n session sessions clients there
+session_given zero session number sessions clients there = there
+session_given (suc n) session number [] clients there = there
+session_given (suc n) session number (s ∷ sessions) [] there = there
+session_given (suc n) zero number (s ∷ sessions) (c ∷ clients) there = client_given number s c there
+session_given (suc n) (suc session) number (s ∷ sessions) (c ∷ clients) there = session_given n session number sessions clients there
 
 node_given : (node : ℕ) (nodes : List (Option InstanceEntry)) (part : Option Node) → IsSomeAnd part (λ n. n.node ≡ node) → IsSomeAnd (given_node nodes part) (λ n. n.node ≡ node)
 node_given node nodes None there = absurd there
 node_given node nodes (Some n) there = there
-
-setup_given : (nodes : List (Option InstanceEntry)) (part : Option Node) → setup_by (given_node nodes part) ≡ setup_by part
-setup_given nodes None = refl
-setup_given nodes (Some n) = refl
 
 cells_given : (rows : List Row) (part : Option CellRows) → IsSome part → IsSome (given_rows rows part)
 cells_given rows None there = search rules
@@ -55,12 +55,12 @@ rules_given setup master (Some there) leases = leases
 
 stands_given : (session node : ℕ) (l : Parts) (w : State) → Stands session node l → Stands session node (given_from l w)
 stands_given session node l w is = record {
-  session_there = session_given 16 session l.sessions w.clients is.session_there;
+  session_there = session_given 16 session session l.sessions w.clients is.session_there;
   clock = is.clock;
   node_there = node_given node w.nodes l.node is.node_there;
   cells = cells_given w.rows l.cells is.cells;
   master = master_given w.master l.master is.master;
-  leases = subst (λ (setup : SetupNumbers). HasRules setup (given_master w.master l.master)) (sym (setup_given w.nodes l.node)) (rules_given (setup_by l.node) w.master l.master is.leases);
+  leases = rules_given l.plan.setup w.master l.master is.leases;
 }
 
 -- ---- with a call counted
@@ -100,7 +100,7 @@ stands_called session node (Some store.Master) l is = record {
   node_there = is.node_there;
   cells = is.cells;
   master = master_counted l.master is.master;
-  leases = rules_counted (setup_by l.node) l.master is.leases;
+  leases = rules_counted l.plan.setup l.master is.leases;
 }
 
 -- ---- with the event noted

@@ -3,7 +3,7 @@ use Rattle.std.specs.Prelude.{ℕ, IsSome}
 use Rattle.split_parts.specs.Agrees.{HasNode, HasSession}
 use Rattle.split_parts.specs.Parts.{Parts, LeasesBySetup}
 
--- the session, the clock, the node, the cells and the master record are lent, which leases by the node's setup
+-- the session, the clock, the node, the cells and the master record are lent, which leases by the setup
 pub record Stands (session node : ℕ) (l : Parts) : Type 0 where
   pub session_there : HasSession l session
   pub clock : IsSome l.clock

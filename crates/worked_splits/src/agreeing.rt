@@ -4,13 +4,14 @@ ghost use Rattle.split_parts.specs.Agrees.{HasParts};
 ghost use Rattle.split_parts.specs.Parts.{seen};
 ghost use Rattle.worked_splits.specs.Standing.{Stands};
 
+use crate::reading::read;
 use cell_store::Cells;
 use master_record::Master;
 use port_io::CalmWeather;
 use split_stores::{
-    CellsPart, ClockPart, Event, Lent, MasterPart, NodePart, SessionPart, act, agrees,
+    CellsPart, ClockPart, Event, Lent, MasterPart, NodePart, Plan, SessionPart, act, agrees,
 };
-use stamp_base::{KeyNo, NodeNo, SessionNo, Setup, Stamp, Value};
+use stamp_base::{KeyNo, NodeNo, SessionNo, Stamp, Value};
 use std::alloc::Global;
 use std::test::Fail;
 
@@ -45,14 +46,19 @@ fn begins(alloc: Global, lent: &mut Lent<'_>) -> bool
 
 /// What `agrees` says of the first write of the session that has begun, over these cells. None where it could not begin.
 fn write_agrees(alloc: Global, value: Value, cells: Cells) -> Option<bool> {
-    let setup = Setup::default();
-    let record = Master::free(setup.lease, setup.skew, setup.range);
-    let mut session = SessionPart::new(alloc);
+    let Ok(script) = read(alloc, "") else {
+        return None;
+    };
+    let Ok(plan) = Plan::new(alloc, &script) else {
+        return None;
+    };
+    let record = Master::free(plan.setup.lease, plan.setup.skew, plan.setup.range);
+    let mut session = SessionPart::new(alloc, SessionNo::FIRST);
     let mut clock = ClockPart::new(alloc);
-    let mut node = NodePart::new(alloc, NodeNo::FIRST, 0, setup);
-    let mut cells = CellsPart::new(alloc, cells, Vec::new(alloc));
-    let mut master = MasterPart::new(alloc, record, Vec::new(alloc));
-    let mut lent = Lent::none();
+    let mut node = NodePart::new(alloc, NodeNo::FIRST);
+    let mut cells = CellsPart::new(alloc, cells);
+    let mut master = MasterPart::new(alloc, record);
+    let mut lent = Lent::none(&plan);
     lent.s0 = Some(&mut session);
     lent.clock = Some(&mut clock);
     lent.node = Some(&mut node);

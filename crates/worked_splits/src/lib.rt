@@ -12,6 +12,8 @@ mod meeting;
 #[cfg(test)]
 mod orders;
 #[cfg(test)]
+mod places;
+#[cfg(test)]
 mod reading;
 #[cfg(test)]
 mod refusing;

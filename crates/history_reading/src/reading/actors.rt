@@ -76,8 +76,9 @@ fn note_kind(word: &[u8], bytes: &[u8]) -> Option<Note>
     None
 }
 
+/// The stage of this name.
 #[tactic(auto, unfolding(crate::specs::ReadActors::stage_at))]
-fn stage(bytes: &[u8]) -> Option<Stage>
+pub fn stage(bytes: &[u8]) -> Option<Stage>
     ensures { result ≡ stage_at bytes.now }
 {
     if is_word(bytes, b"request") {
@@ -92,8 +93,9 @@ fn stage(bytes: &[u8]) -> Option<Stage>
     None
 }
 
+/// The store of this name.
 #[tactic(auto, unfolding(crate::specs::ReadActors::store_at))]
-fn store(bytes: &[u8]) -> Option<Store>
+pub fn store(bytes: &[u8]) -> Option<Store>
     ensures { result ≡ store_at bytes.now }
 {
     if is_word(bytes, b"cells") {

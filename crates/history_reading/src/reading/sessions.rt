@@ -145,8 +145,9 @@ fn found(bytes: &[u8]) -> Option<Option<Found>>
     Some(Some(Found { from, value }))
 }
 
+/// How a transaction ended, by its word.
 #[tactic(auto, unfolding(crate::specs::ReadSessions::ending_at))]
-fn ending(bytes: &[u8]) -> Option<Ending>
+pub fn ending(bytes: &[u8]) -> Option<Ending>
     ensures { result ≡ ending_at bytes.now }
 {
     if is_word(bytes, b"read-only") {

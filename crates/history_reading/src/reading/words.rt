@@ -53,6 +53,7 @@ pub fn is_word(bytes: &[u8], word: &[u8]) -> bool
     rest.is_empty()
 }
 
+/// The bytes after the text, where they begin with it.
 #[tactic(auto, unfolding(crate::specs::ReadWords::after_text))]
 pub fn after<'a>(text: &[u8], bytes: &'a [u8]) -> Option<&'a [u8]>
     ensures { option_map (λ rest. rest.now) result ≡ after_text text.now bytes.now }
@@ -69,6 +70,7 @@ pub fn after<'a>(text: &[u8], bytes: &'a [u8]) -> Option<&'a [u8]>
     Some(rest)
 }
 
+/// The number of the digits in front, as far as it has 64 bits, and what follows them.
 #[tactic(auto, unfolding(crate::specs::ReadWords::number_from))]
 pub fn number(bytes: &[u8]) -> (u64, &[u8])
     ensures { (result.0, result.1.now) ≡ number_from 0 bytes.now }
@@ -125,6 +127,7 @@ pub fn letter(bytes: &[u8]) -> Option<(u64, &[u8])>
     }
 }
 
+/// The node of this number.
 #[tactic(auto, unfolding(crate::specs::ReadWords::node_of))]
 pub fn node_of(number: u64) -> Option<NodeNo>
     ensures { result ≡ node_of number }
@@ -132,6 +135,7 @@ pub fn node_of(number: u64) -> Option<NodeNo>
     NodeNo::new(number)
 }
 
+/// The session of this number.
 #[tactic(auto, unfolding(crate::specs::ReadWords::session_of))]
 pub fn session_of(number: u64) -> Option<SessionNo>
     ensures { result ≡ session_of number }
@@ -139,6 +143,7 @@ pub fn session_of(number: u64) -> Option<SessionNo>
     SessionNo::new(number)
 }
 
+/// The key of this number.
 #[tactic(auto, unfolding(crate::specs::ReadWords::key_of))]
 pub fn key_of(number: u64) -> Option<KeyNo>
     ensures { result ≡ key_of number }
@@ -146,6 +151,7 @@ pub fn key_of(number: u64) -> Option<KeyNo>
     KeyNo::new(number)
 }
 
+/// The stamp that the number is.
 #[tactic(auto, unfolding(crate::specs::ReadWords::stamp_of))]
 pub fn stamp_of(number: u64) -> Option<Stamp>
     ensures { result ≡ stamp_of number }
@@ -153,6 +159,7 @@ pub fn stamp_of(number: u64) -> Option<Stamp>
     Stamp::new(number)
 }
 
+/// The term that the number is.
 #[tactic(auto, unfolding(crate::specs::ReadWords::term_of))]
 pub fn term_of(number: u64) -> Option<Term>
     ensures { result ≡ term_of number }
@@ -169,6 +176,7 @@ pub fn last_stamp(text: &[u8], bytes: &[u8]) -> Option<Stamp>
     stamp_of(number)
 }
 
+/// The value that the bytes are.
 #[tactic(auto, unfolding(crate::specs::ReadWords::value_at))]
 pub fn value(bytes: &[u8]) -> Option<Value>
     ensures { result ≡ value_at bytes.now }
@@ -176,6 +184,7 @@ pub fn value(bytes: &[u8]) -> Option<Value>
     Value::new(bytes)
 }
 
+/// The name that the bytes are.
 #[tactic(auto, unfolding(crate::specs::ReadWords::name_at))]
 pub fn name(bytes: &[u8]) -> Option<Name>
     ensures { result ≡ name_at bytes.now }
@@ -183,6 +192,7 @@ pub fn name(bytes: &[u8]) -> Option<Name>
     Name::new(bytes)
 }
 
+/// The actor of this name.
 #[tactic(auto, unfolding(crate::specs::ReadWords::actor_at))]
 pub fn actor(bytes: &[u8]) -> Option<Actor>
     ensures { result ≡ actor_at bytes.now }

@@ -4,7 +4,7 @@ ghost use Rattle.history_text.specs.CauseText.{cause_text};
 ghost use Rattle.history_book.specs.declared.item.Item.TheVariants.{Refused};
 ghost use Rattle.history_text.specs.Fits.{FitsCause, FitsItem};
 
-use super::words::{print_actor, print_node, print_one, print_two};
+use super::words::{print_one, print_two, push_actor, push_node};
 use crate::line::LineBuf;
 use history_book::{Actor, Cause};
 use stamp_base::{NodeNo, Term};
@@ -15,13 +15,13 @@ pub fn print_refused(actor: Actor, cause: Cause, line: &mut LineBuf)
     ensures len { length line.new ≤ 200 }
 {
     line.set_text(b"refused ");
-    print_actor(actor, line);
+    push_actor(actor, line);
     line.push_text(b" ");
-    print_cause(cause, line);
+    push_cause(cause, line);
 }
 
 /// Adds the cause's text.
-fn print_cause(cause: Cause, line: &mut LineBuf)
+pub fn push_cause(cause: Cause, line: &mut LineBuf)
     requires { length line.old + 100 ≤ 256 }
     ensures text { line.new ≡ line.old ++ cause_text cause }
     ensures fits { FitsCause cause }
@@ -72,7 +72,7 @@ fn print_crashed(node: NodeNo, term: Term, line: &mut LineBuf)
     ensures len { length line.new ≤ length line.old + 40 }
 {
     line.push_text(b"crashed node=");
-    print_node(node, line);
+    push_node(node, line);
     print_one(b" term=", term.value(), line);
 }
 
@@ -83,5 +83,5 @@ fn print_no_oracle(node: NodeNo, line: &mut LineBuf)
     ensures len { length line.new ≤ length line.old + 16 }
 {
     line.push_text(b"no-oracle node=");
-    print_node(node, line);
+    push_node(node, line);
 }

@@ -5,7 +5,7 @@ ghost use Rattle.history_book.specs.declared.item.Item.TheVariants as item;
 ghost use Rattle.history_text.specs.Fits.{FitsAnswer, FitsCommit, FitsItem, FitsNote};
 
 use super::words::{
-    print_actor, print_key, print_node, print_one, print_session, print_stage, print_store,
+    print_one, push_actor, push_key, push_node, push_session, push_stage, push_store,
 };
 use crate::line::LineBuf;
 use history_book::{Actor, Ending, Found, Note};
@@ -17,7 +17,7 @@ pub fn print_note(actor: Actor, note: Note, line: &mut LineBuf)
     ensures len { length line.new ≤ 200 }
 {
     line.set_text(b"note ");
-    print_actor(actor, line);
+    push_actor(actor, line);
     line.push_text(b" ");
     print_note_text(note, line);
 }
@@ -39,11 +39,11 @@ fn print_note_text(note: Note, line: &mut LineBuf)
         }
         Note::Hold(stage) => {
             line.push_text(b"hold ");
-            print_stage(stage, line);
+            push_stage(stage, line);
         }
         Note::Free(stage) => {
             line.push_text(b"free ");
-            print_stage(stage, line);
+            push_stage(stage, line);
         }
     }
 }
@@ -62,7 +62,7 @@ pub fn print_take(
     ensures len { length line.new ≤ 200 }
 {
     line.set_text(b"take ");
-    print_node(node, line);
+    push_node(node, line);
     line.push_field(b" reading=", reading);
     line.push_field(b" term=", term.value());
     line.push_field(b" epoch=", epoch);
@@ -76,7 +76,7 @@ pub fn print_renew(node: NodeNo, reading: u64, term: Term, until: u64, line: &mu
     ensures len { length line.new ≤ 200 }
 {
     line.set_text(b"renew ");
-    print_node(node, line);
+    push_node(node, line);
     line.push_field(b" reading=", reading);
     line.push_field(b" term=", term.value());
     line.push_field(b" until=", until);
@@ -88,7 +88,7 @@ pub fn print_extend(node: NodeNo, term: Term, ceiling: u64, line: &mut LineBuf)
     ensures len { length line.new ≤ 200 }
 {
     line.set_text(b"extend ");
-    print_node(node, line);
+    push_node(node, line);
     line.push_field(b" term=", term.value());
     line.push_field(b" ceiling=", ceiling);
 }
@@ -99,9 +99,9 @@ pub fn print_ask_begin(session: SessionNo, node: NodeNo, line: &mut LineBuf)
     ensures len { length line.new ≤ 200 }
 {
     line.set_text(b"ask-begin ");
-    print_session(session, line);
+    push_session(session, line);
     line.push_text(b" ");
-    print_node(node, line);
+    push_node(node, line);
 }
 
 pub fn print_ask_commit(session: SessionNo, node: NodeNo, start: Stamp, line: &mut LineBuf)
@@ -110,9 +110,9 @@ pub fn print_ask_commit(session: SessionNo, node: NodeNo, start: Stamp, line: &m
     ensures len { length line.new ≤ 200 }
 {
     line.set_text(b"ask-commit ");
-    print_session(session, line);
+    push_session(session, line);
     line.push_text(b" ");
-    print_node(node, line);
+    push_node(node, line);
     line.push_field(b" start=", start.value());
 }
 
@@ -122,9 +122,9 @@ pub fn print_accept(session: SessionNo, node: NodeNo, term: Term, reading: u64, 
     ensures len { length line.new ≤ 200 }
 {
     line.set_text(b"accept ");
-    print_session(session, line);
+    push_session(session, line);
     line.push_text(b" ");
-    print_node(node, line);
+    push_node(node, line);
     line.push_field(b" term=", term.value());
     line.push_field(b" reading=", reading);
 }
@@ -142,9 +142,9 @@ pub fn print_draw(
     ensures len { length line.new ≤ 200 }
 {
     line.set_text(b"draw ");
-    print_session(session, line);
+    push_session(session, line);
     line.push_text(b" ");
-    print_node(node, line);
+    push_node(node, line);
     line.push_field(b" term=", term.value());
     line.push_field(b" start=", start.value());
     print_commit(commit, line);
@@ -168,7 +168,7 @@ pub fn print_begin(session: SessionNo, start: Stamp, line: &mut LineBuf)
     ensures len { length line.new ≤ 200 }
 {
     line.set_text(b"begin ");
-    print_session(session, line);
+    push_session(session, line);
     line.push_field(b" start=", start.value());
 }
 
@@ -178,10 +178,10 @@ pub fn print_write(session: SessionNo, start: Stamp, key: KeyNo, value: Value, l
     ensures len { length line.new ≤ 200 }
 {
     line.set_text(b"write ");
-    print_session(session, line);
+    push_session(session, line);
     line.push_field(b" start=", start.value());
     line.push_text(b" ");
-    print_key(key, line);
+    push_key(key, line);
     line.push_text(b" ");
     line.push_text(value.as_slice());
 }
@@ -198,10 +198,10 @@ pub fn print_read(
     ensures len { length line.new ≤ 200 }
 {
     line.set_text(b"read ");
-    print_session(session, line);
+    push_session(session, line);
     line.push_field(b" start=", start.value());
     line.push_text(b" ");
-    print_key(key, line);
+    push_key(key, line);
     line.push_text(b" ");
     print_answer(answer, line);
 }
@@ -245,7 +245,7 @@ pub fn print_committed(session: SessionNo, start: Stamp, commit: Stamp, line: &m
     ensures len { length line.new ≤ 200 }
 {
     line.set_text(b"committed ");
-    print_session(session, line);
+    push_session(session, line);
     line.push_field(b" start=", start.value());
     line.push_field(b" commit=", commit.value());
 }
@@ -256,7 +256,7 @@ pub fn print_mark(actor: Actor, start: Stamp, line: &mut LineBuf)
     ensures len { length line.new ≤ 200 }
 {
     line.set_text(b"mark ");
-    print_actor(actor, line);
+    push_actor(actor, line);
     line.push_field(b" start=", start.value());
 }
 
@@ -266,13 +266,14 @@ pub fn print_end(session: SessionNo, start: Stamp, how: Ending, line: &mut LineB
     ensures len { length line.new ≤ 200 }
 {
     line.set_text(b"end ");
-    print_session(session, line);
+    push_session(session, line);
     line.push_field(b" start=", start.value());
     line.push_text(b" ");
-    print_ending(how, line);
+    push_ending(how, line);
 }
 
-fn print_ending(how: Ending, line: &mut LineBuf)
+/// Adds the word for how a transaction ended.
+pub fn push_ending(how: Ending, line: &mut LineBuf)
     requires { length line.old + 9 ≤ 256 }
     ensures text { line.new ≡ line.old ++ ending_text how }
     ensures len { length line.new ≤ length line.old + 9 }
@@ -290,9 +291,9 @@ pub fn print_fault(actor: Actor, store: Store, line: &mut LineBuf)
     ensures len { length line.new ≤ 200 }
 {
     line.set_text(b"fault ");
-    print_actor(actor, line);
+    push_actor(actor, line);
     line.push_text(b" ");
-    print_store(store, line);
+    push_store(store, line);
 }
 
 pub fn print_crash(node: NodeNo, term: Term, line: &mut LineBuf)
@@ -301,7 +302,7 @@ pub fn print_crash(node: NodeNo, term: Term, line: &mut LineBuf)
     ensures len { length line.new ≤ 200 }
 {
     line.set_text(b"crash ");
-    print_node(node, line);
+    push_node(node, line);
     line.push_field(b" term=", term.value());
 }
 
@@ -311,5 +312,5 @@ pub fn print_vanish(session: SessionNo, line: &mut LineBuf)
     ensures len { length line.new ≤ 200 }
 {
     line.set_text(b"vanish ");
-    print_session(session, line);
+    push_session(session, line);
 }

@@ -5,7 +5,7 @@ ghost use Rattle.history_book.specs.declared.item.Item.TheVariants.{Step};
 ghost use Rattle.history_book.specs.declared.item.StoreStep.TheVariants.{Get, MarkFound, Look, Shadow, PutFound};
 ghost use Rattle.history_text.specs.Fits.{FitsEntry, FitsItem, FitsMark, FitsSeen, FitsStep};
 
-use super::words::{print_actor, print_key, print_one, print_two};
+use super::words::{print_one, print_two, push_actor, push_key};
 use crate::line::LineBuf;
 use history_book::{Actor, Seen, StoreStep};
 use stamp_base::{KeyNo, Mark, Stamp, TxnId};
@@ -16,13 +16,13 @@ pub fn print_step(actor: Actor, what: StoreStep, line: &mut LineBuf)
     ensures len { length line.new ≤ 200 }
 {
     line.set_text(b"step ");
-    print_actor(actor, line);
+    push_actor(actor, line);
     line.push_text(b" ");
-    print_what(what, line);
+    push_step(what, line);
 }
 
 /// Adds the step's text.
-fn print_what(what: StoreStep, line: &mut LineBuf)
+pub fn push_step(what: StoreStep, line: &mut LineBuf)
     requires { length line.old + 100 ≤ 256 }
     ensures text { line.new ≡ line.old ++ step_text what }
     ensures fits { FitsStep what }

@@ -27,7 +27,8 @@ pub fn print_two(name: &[u8], number: u64, next_name: &[u8], next: u64, line: &m
     line.push_field(next_name, next);
 }
 
-pub fn print_node(node: NodeNo, line: &mut LineBuf)
+/// Adds the node's letter.
+pub fn push_node(node: NodeNo, line: &mut LineBuf)
     requires { length line.old + 1 ≤ 256 }
     ensures text { line.new ≡ line.old ++ node_text node }
     ensures fits { IsNode node }
@@ -36,39 +37,43 @@ pub fn print_node(node: NodeNo, line: &mut LineBuf)
     line.push_text(&[b'a' + node.value() as u8]);
 }
 
-pub fn print_session(session: SessionNo, line: &mut LineBuf)
+/// Adds the session's name, of three bytes at most.
+pub fn push_session(session: SessionNo, line: &mut LineBuf)
     requires { length line.old + 21 ≤ 256 }
     ensures text { line.new ≡ line.old ++ session_text session }
     ensures fits { IsSession session }
-    ensures len { length line.new ≤ length line.old + 21 }
+    ensures len { length line.new ≤ length line.old + 3 }
 {
     print_one(b"s", session.value(), line);
 }
 
-pub fn print_key(key: KeyNo, line: &mut LineBuf)
+/// Adds the key's name, of five bytes at most.
+pub fn push_key(key: KeyNo, line: &mut LineBuf)
     requires { length line.old + 21 ≤ 256 }
     ensures text { line.new ≡ line.old ++ key_text key }
     ensures fits { IsKey key }
-    ensures len { length line.new ≤ length line.old + 21 }
+    ensures len { length line.new ≤ length line.old + 5 }
 {
     print_one(b"k", key.value(), line);
 }
 
-pub fn print_actor(actor: Actor, line: &mut LineBuf)
+/// Adds the actor's name.
+pub fn push_actor(actor: Actor, line: &mut LineBuf)
     requires { length line.old + 21 ≤ 256 }
     ensures text { line.new ≡ line.old ++ actor_text actor }
     ensures fits { FitsActor actor }
-    ensures len { length line.new ≤ length line.old + 21 }
+    ensures len { length line.new ≤ length line.old + 7 }
 {
     match actor {
         Actor::Clock => line.push_text(b"clock"),
-        Actor::Node(node) => print_node(node, line),
-        Actor::Session(session) => print_session(session, line),
+        Actor::Node(node) => push_node(node, line),
+        Actor::Session(session) => push_session(session, line),
         Actor::Janitor => line.push_text(b"janitor"),
     }
 }
 
-pub fn print_stage(stage: Stage, line: &mut LineBuf)
+/// Adds the stage's name.
+pub fn push_stage(stage: Stage, line: &mut LineBuf)
     requires { length line.old + 7 ≤ 256 }
     ensures text { line.new ≡ line.old ++ stage_text stage }
     ensures len { length line.new ≤ length line.old + 7 }
@@ -80,7 +85,8 @@ pub fn print_stage(stage: Stage, line: &mut LineBuf)
     }
 }
 
-pub fn print_store(store: Store, line: &mut LineBuf)
+/// Adds the store's name.
+pub fn push_store(store: Store, line: &mut LineBuf)
     requires { length line.old + 6 ≤ 256 }
     ensures text { line.new ≡ line.old ++ store_text store }
     ensures len { length line.new ≤ length line.old + 6 }

@@ -1,17 +1,16 @@
-use Rattle.std.proofs.Common.{[], ◌∷◌, arith}
-use Rattle.history_book.specs.declared.item.Actor.TheVariants.{Clock}
-use Rattle.turn_rules.specs.Seats.{first_seat}
-use Rattle.run_board.proofs.Sitting.{with_nodes, with_sessions, none_sits, no_node, one_more_node, no_session, one_more_session}
+use Rattle.std.proofs.Common.{◌≡◌, ◌+◌, List, [], ◌∷◌, ◌++◌, take, sym, ◌∙◌, ap, subst}
+use Rattle.std.proofs.lemmas.List.{take_more}
+use Rattle.script_data.specs.declared.line.Line.{Line}
+use Rattle.run_board.specs.Seating.{AreSeatedFirst}
+use Rattle.run_board.proofs.SeatedOnce.{first_sit_once}
 use Rattle.run_board.proofs.seated.all_seated.Goals as goal
 
-pub loop-node-init : goal.loop-node-init
-loop-node-init c = no_node c.args.lines.now _ (c.in_ok-seat-2.ensures (first_seat Clock ∷ []) (c.in_ok-seat.ensures [] (none_sits c.args.lines.now _ c.new-all.ensures.items)))
-
-pub loop-node-preserved : goal.loop-node-preserved
-loop-node-preserved c = one_more_node c.args.lines.now c.loop-node.node _ (c.in_ok-seat_node.ensures (with_nodes c.loop-node.node) c.loop-node.invariant)
-
-pub loop-session-init : goal.loop-session-init
-loop-session-init c = no_session c.args.lines.now c.args.nodes c.loop-node.node _ (omega (arith, c.loop-node-test.false, c.loop-node.auto.node-end)) c.loop-node.invariant
-
-pub loop-session-preserved : goal.loop-session-preserved
-loop-session-preserved c = one_more_session c.args.lines.now c.args.nodes c.loop-session.session _ (c.in_ok-seat_session.ensures (with_sessions c.args.nodes c.loop-session.session) c.loop-session.invariant)
+pub loop-line-preserved : goal.loop-line-preserved
+loop-line-preserved c =
+    let lines = c.args.lines.now in
+    let i = c.loop-line.line-index in
+    let line = c.line-item.result in
+    let first : AreSeatedFirst c.args.nodes (take i lines) c.loop-line.all.items = c.loop-line.invariant in
+    let more : AreSeatedFirst c.args.nodes (take i lines ++ line ∷ []) c.give_line.new.all.items = c.in_ok-give_line.ensures (take i lines) _ (first_sit_once c.args.nodes (take i lines) c.loop-line.all.items first) first in
+    let next : take (i + 1) lines ≡ take i lines ++ line ∷ [] = take_more lines i line c.loop-line-test.true ∙ ap (λ (x : Line). take i lines ++ x ∷ []) (sym c.line-item.is) in
+    subst (λ (ls : List Line). AreSeatedFirst c.args.nodes ls c.give_line.new.all.items) (sym next) more

@@ -1,9 +1,6 @@
-use Rattle.run_board.specs.Seating.{AreSeated}
-use Rattle.run_board.proofs.Sitting.{with_nodes, with_sessions}
+use Rattle.std.specs.Prelude.{take}
+use Rattle.run_board.specs.Seating.{AreSeatedFirst}
 use Rattle.run_board.proofs.seated.all_seated.Given as goal
 
-abbrev pub invariant-loop-node : goal.invariant-loop-node
-invariant-loop-node l = AreSeated l.lines (with_nodes l.node) l.all.items
-
-abbrev pub invariant-loop-session : goal.invariant-loop-session
-invariant-loop-session l = AreSeated l.lines (with_sessions l.nodes l.session) l.all.items
+abbrev pub invariant-loop-line : goal.invariant-loop-line
+invariant-loop-line l = AreSeatedFirst l.nodes (take l.line-index l.lines) l.all.items

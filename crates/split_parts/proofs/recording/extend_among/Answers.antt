@@ -12,7 +12,7 @@ pub extend_to-requires-clause-covers : goal.extend_to-requires-clause-covers
 extend_to-requires-clause-covers c = may_extend (seen c.args.lent.now) c.args.node c.requires.all.0 c.requires.can
 
 pub extend_to-requires-clause-rules : goal.extend_to-requires-clause-rules
-extend_to-requires-clause-rules c = subst (λ (x : SetupNumbers). IfSome (seen c.args.lent.now).master (λ kept. kept.rules ≡ rules_of x)) (sym c.setup-setup.ensures.numbers) c.requires.leases
+extend_to-requires-clause-rules c = subst (λ (x : SetupNumbers). IfSome (seen c.args.lent.now).master (λ kept. kept.rules ≡ rules_of x)) (sym c.setup-setup.ensures) c.requires.leases
 
 pub returns : goal.returns
-returns c = kept_made (seen c.args.lent.now) _ (event.Extend c.args.node) c.args.weather.now.fate c.args.node 0 _ (λ setup i state. extend_on setup c.args.node c.args.weather.now.fate i state) c.args.book.now.items c.extend_to.new.book.items c.extend_to.result c.requires.all.0 c.requires.all.1 c.setup-setup.ensures.numbers (λ p. refl) refl c.extend_to.ensures
+returns c = kept_made (seen c.args.lent.now) _ (event.Extend c.args.node) c.args.weather.now.fate c.args.node 0 _ (λ setup i state. extend_on setup c.args.node c.args.weather.now.fate i state) c.args.book.now.items c.extend_to.new.book.items c.extend_to.result c.requires.all.0 c.requires.all.1 c.setup-setup.ensures (λ p. refl) refl c.extend_to.ensures

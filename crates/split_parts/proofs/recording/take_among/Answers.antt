@@ -8,7 +8,7 @@ use Rattle.split_parts.proofs.RecordEvents.{kept_made}
 use Rattle.split_parts.proofs.recording.take_among.Goals as goal
 
 pub take_to-requires-clause-rules : goal.take_to-requires-clause-rules
-take_to-requires-clause-rules c = subst (λ (x : SetupNumbers). IfSome (seen c.args.lent.now).master (λ kept. kept.rules ≡ rules_of x)) (sym c.setup-setup.ensures.numbers) c.requires.leases
+take_to-requires-clause-rules c = subst (λ (x : SetupNumbers). IfSome (seen c.args.lent.now).master (λ kept. kept.rules ≡ rules_of x)) (sym c.setup-setup.ensures) c.requires.leases
 
 pub returns : goal.returns
-returns c = kept_made (seen c.args.lent.now) _ (event.Take c.args.node c.args.reading) c.args.weather.now.fate c.args.node (max 0 c.args.reading) _ (λ setup i state. take_on setup c.args.node c.args.reading c.args.weather.now.fate i state) c.args.book.now.items c.take_to.new.book.items c.take_to.result c.requires.all.0 c.requires.all.1 c.setup-setup.ensures.numbers (λ p. refl) refl c.take_to.ensures
+returns c = kept_made (seen c.args.lent.now) _ (event.Take c.args.node c.args.reading) c.args.weather.now.fate c.args.node (max 0 c.args.reading) _ (λ setup i state. take_on setup c.args.node c.args.reading c.args.weather.now.fate i state) c.args.book.now.items c.take_to.new.book.items c.take_to.result c.requires.all.0 c.requires.all.1 c.setup-setup.ensures (λ p. refl) refl c.take_to.ensures

@@ -4,8 +4,8 @@ use Rattle.script_data.specs.Data.{ScriptData}
 use Rattle.planned_cluster.proofs.Playable.{playable_at_first}
 use Rattle.port_io.specs.contracts.planned.PlannedWeatherWeather.TheImpl.{ahead-value}
 use Rattle.split_stores.specs.declared.seat.Entry.{Entry}
-use Rattle.split_stores.specs.declared.plan.Plan.{Plan}
-use Rattle.split_stores.specs.Plans.{plan_data}
+use Rattle.split_parts.specs.declared.plan.Plan.{Plan}
+use Rattle.split_parts.specs.Plans.{plan_data}
 use Rattle.split_stores.specs.Merged.{merged_played}
 use Rattle.split_stores.proofs.ReplayLemmas.{StandsAfter, IsOnTime, stands_first, next_fits, next_steady, stands_more, left_at, done_at, settled_at, stops_at}
 use Rattle.split_stores.proofs.settling.replay_all.Goals as goal

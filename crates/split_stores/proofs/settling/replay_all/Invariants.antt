@@ -1,6 +1,6 @@
 use Rattle.std.specs.Prelude.{take, drop}
 use Rattle.port_io.specs.contracts.planned.PlannedWeatherWeather.TheImpl.{ahead-value}
-use Rattle.split_stores.specs.Plans.{plan_data}
+use Rattle.split_parts.specs.Plans.{plan_data}
 use Rattle.split_stores.proofs.ReplayLemmas.{StandsAfter}
 use Rattle.split_stores.proofs.settling.replay_all.Given as goal
 

@@ -1,7 +1,6 @@
 use Rattle.std.proofs.Common.{◌∙◌, ap}
 use Rattle.std.specs.Prelude.{is_some}
-use Rattle.history_book.specs.declared.item.Actor.TheVariants.{Session}
-use Rattle.command_semantics.specs.Views.{view_of}
+use Rattle.machine.specs.State.{State}
 use Rattle.turn_rules.specs.Lawful as lawful
 use Rattle.run_board.specs.Run.{Ran}
 use Rattle.run_board.specs.Steps.{has_turn, state_of}
@@ -9,6 +8,8 @@ use Rattle.run_board.proofs.run.ScriptRun.has_turn.Goals as goal
 
 pub returns : goal.returns
 returns c =
-    let seen = c.view-view.ensures ∙ ap (λ w. view_of w (Session c.args.session)) c.self.invariant.0.state in
-    c.is_some.ensures ∙ ap (λ turn. is_some turn) (c.stage_turn.ensures ∙ ap (λ view. lawful.stage_turn c.args.stage c.args.node c.args.session view) seen)
+    let request = c.asking.ensures.0 ∙ ap (λ both. both.0) c.in_flight-request.ensures in
+    let commit = c.asking.ensures.1 ∙ ap (λ both. both.1) c.in_flight-request.ensures in
+    c.is_some.ensures ∙ ap (λ turn. is_some turn) (c.stage_turn.ensures ∙ (λ k. lawful.serving_turn_of c.args.stage c.args.node c.args.session (commit k) (request k)))
+    ∙ ap (λ (w : State). has_turn w c.args.node c.args.stage c.args.session) c.self.invariant.0.state
     ∙ ap (λ (r : Ran). has_turn (state_of r) c.args.node c.args.stage c.args.session) c.self.view_is

@@ -1,7 +1,7 @@
 use Rattle.std.proofs.Common.{◌+◌, sym, subst}
-use Rattle.split_parts.specs.Lending.{HasSessionsBelow}
+use Rattle.split_parts.specs.Lending.{LendsBelow}
 use Rattle.split_parts.proofs.LentSessions.{below_more}
 use Rattle.split_parts.proofs.lent.Lent.with_next_session.Goals as goal
 
-pub returns : goal.returns
-returns c = subst (HasSessionsBelow (c.args.number + 1)) (sym c.with_session.ensures) (below_more _ c.args.number _ c.requires.number c.requires.below)
+pub returns-clause-below : goal.returns-clause-below
+returns-clause-below c = subst (LendsBelow (c.args.number + 1)) (sym c.with_session.ensures) (below_more _ c.args.number _ c.requires.number c.requires.below)

@@ -1,3 +1,0 @@
-pub mod OwnWrites
-pub mod Laws
-pub mod Worked

@@ -1,0 +1,10 @@
+mod FoundInParts
+mod Shapes
+mod OneStore
+mod EventsLocal
+mod OtherParts
+mod HeldKeys
+mod WholeAgrees
+mod PartsAgree
+mod Runs
+mod WorkedParts

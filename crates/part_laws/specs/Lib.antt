@@ -1,0 +1,3 @@
+pub mod Local
+pub mod Reached
+pub mod Worked

@@ -1,0 +1,18 @@
+use Rattle.std.proofs.Common.{None, refl, ap, ◌∙◌, arith}
+use Rattle.std.specs.Prelude.{slice_index_or}
+use Rattle.machine.specs.Events.Decide.{decide_on}
+use Rattle.machine.specs.declared.event.Event.TheVariants as event
+use Rattle.split_parts.specs.Direct.{turned}
+use Rattle.split_parts.specs.Parts.{Parts, behind, node_of, seen, session_of}
+use Rattle.split_parts.proofs.Directly.{among_nodes, node_moved, node_made, may_serve}
+use Rattle.split_parts.proofs.requesting.decide_among.Goals as goal
+
+pub decide_to-made-requires : goal.decide_to-made-requires
+decide_to-made-requires c = may_serve (seen c.args.lent.now) c.args.session c.args.node _ _ (grind arith) (c.take_session-own.ensures.part ∙ ap (λ n. slice_index_or (seen c.args.lent.now).sessions n None) c.index.ensures.value) (ap (λ (p : Parts). p.node) c.take_session-own.ensures.parts) c.requires.all.1 c.requires.can
+
+pub returns : goal.returns
+returns c = λ fate.
+    let l : Parts = seen c.args.lent.now in
+    let at = among_nodes l (seen c.take_session-own.new.self) (seen c.put_session.new.self) (behind session_of c.decide_to-made.new.own) (behind node_of c.decide_to-made.new.post) c.args.session c.index.result c.index-2.result c.take_session-own.ensures.parts c.put_session.ensures c.index.ensures.value c.index-2.ensures.value (grind arith) in
+    node_made l (seen c.put_session.new.self) (event.Decide c.args.node c.args.session) fate c.args.session c.args.node 0 (λ x i. turned (decide_on c.args.node c.args.session i x)) c.args.book.now.items c.decide_to-made.new.book.items c.decide_to-made.result (grind arith) c.requires.all.0 c.requires.all.1 (λ p. refl) at.others
+    (node_moved _ _ _ _ _ _ _ _ _ _ _ _ (c.take_session-own.ensures.part ∙ ap (λ n. slice_index_or l.sessions n None) c.index.ensures.value) (ap (λ (p : Parts). p.node) c.take_session-own.ensures.parts) at.session at.post c.decide_to-made.ensures)

@@ -1,0 +1,69 @@
+// The event of the machine that an event of the parts stands for.
+ghost use Rattle.std.specs.Prelude.{◌≡◌, ◌≤◌, ◌^◌, All};
+ghost use Rattle.split_parts.specs.Acts.{timed_at};
+ghost use Rattle.split_parts.specs.Agrees.{ClockAllows};
+ghost use Rattle.split_parts.specs.Parts.{reading_of};
+
+use crate::Event;
+use machine::Event as TimedEvent;
+use stamp_base::NodeNo;
+
+/// The event of the machine at this base clock: a tick goes up to the base clock with its rise, and a reading is the base clock
+/// with the node's lead.
+pub fn timed(base: u64, leads: &[u64], event: &Event) -> TimedEvent
+    requires clock { ClockAllows base event.now }
+    requires leads { All (λ lead. lead ≤ 2 ^ 60) leads.now }
+    ensures { result ≡ timed_at base leads.now event.now }
+{
+    match *event {
+        Event::Tick { by } => TimedEvent::Tick { to: base + by },
+        Event::Note { actor, note } => TimedEvent::Note { actor, note },
+        Event::Take { node } => TimedEvent::Take {
+            node,
+            reading: reading_of(base, leads, node),
+        },
+        Event::Renew { node } => TimedEvent::Renew {
+            node,
+            reading: reading_of(base, leads, node),
+        },
+        Event::Extend { node } => TimedEvent::Extend { node },
+        Event::Crash { node } => TimedEvent::Crash { node },
+        Event::AskBegin { session, node } => TimedEvent::AskBegin { session, node },
+        Event::AskCommit { session, node } => TimedEvent::AskCommit { session, node },
+        Event::Accept { node, session } => TimedEvent::Accept {
+            node,
+            session,
+            reading: reading_of(base, leads, node),
+        },
+        Event::Decide { node, session } => TimedEvent::Decide { node, session },
+        Event::Put { node, session } => TimedEvent::Put { node, session },
+        Event::Answer { node, session } => TimedEvent::Answer { node, session },
+        Event::Write {
+            session,
+            key,
+            value,
+        } => TimedEvent::Write {
+            session,
+            key,
+            value,
+        },
+        Event::Fetch { session, key } => TimedEvent::Fetch { session, key },
+        Event::Step { session } => TimedEvent::Step { session },
+        Event::Heal { session } => TimedEvent::Heal { session },
+        Event::Abort { session } => TimedEvent::Abort { session },
+        Event::Vanish { session } => TimedEvent::Vanish { session },
+        Event::SweepOpen { node, txn } => TimedEvent::SweepOpen { node, txn },
+        Event::SweepStep => TimedEvent::SweepStep,
+    }
+}
+
+/// What the node's clock shows.
+fn reading_of(base: u64, leads: &[u64], node: NodeNo) -> u64
+    requires base { base ≤ 2 ^ 60 }
+    requires leads { All (λ lead. lead ≤ 2 ^ 60) leads.now }
+    ensures { result ≡ reading_of base leads.now node }
+{
+    let place = node.value() as usize;
+    let lead = if place < leads.len() { leads[place] } else { 0 };
+    base + lead
+}

@@ -1,5 +1,0 @@
-use Rattle.std.specs.Prelude.{◌≡◌, None}
-use Rattle.split_stores.proofs.split.Split.request_of.Given as goal
-
-abbrev pub invariant-loop-node : goal.invariant-loop-node
-invariant-loop-node g l = (l.seen.session ≡ l.fn.session) × (l.seen.nodes ≡ l.node-index) × (l.seen.found ≡ None)

@@ -1,8 +1,0 @@
--- What a script sets, without its lines.
-use Rattle.std.specs.Prelude.{[]}
-use Rattle.stamp_base.specs.Setups.{numbers_of}
-use Rattle.script_data.specs.Data.{ScriptData}
-use Rattle.split_stores.specs.declared.plan.Plan.{Plan}
-
-abbrev pub plan_data : Plan → ScriptData
-plan_data plan = record { setup = numbers_of plan.setup; leads = plan.leads.items; faults = plan.faults.items; lines = [] }
