@@ -8,6 +8,8 @@ mod levels;
 mod limit;
 mod made;
 #[cfg(test)]
+mod order_tests;
+#[cfg(test)]
 mod stamp_tests;
 mod stamps;
 mod status;

@@ -1,31 +1,35 @@
 -- Why verdicts are right.
-use Rattle.std.proofs.Common.{◌≡◌, ◌≢◌, ℕ, ◌<◌, ◌≤◌, ◌&&◌, Bool, true, List, [], ◌∷◌, Option, None, Some, length, slice_get, refl, sym, subst, ap, ◌∙◌, arith}
+use Rattle.std.proofs.Common.{◌≡◌, ℕ, zero, suc, ◌≤◌, ◌⊎◌, ◌||◌, Bool, true, false, List, [], ◌∷◌, ◌++◌, Option, None, Some, length, slice_get, inl, inr, refl, sym, subst, ap, ◌∙◌}
 use Rattle.std.specs.Option.{IfSome}
 use Rattle.std.specs.List.{Contains}
 use Rattle.std.specs.List.Sorted.{IsPermutation}
 use Rattle.std.proofs.lemmas.List.Sorted.{Contains-permutation, IsPermutation-sym}
 use Rattle.std.proofs.lemmas.Option.{slice_get_within, slice_get-get_or, get_or_from_slice_get}
 use Rattle.trace_rules.specs.declared.trace.Operation.{Operation}
-use Rattle.trace_rules.specs.declared.trace.Transaction.{Transaction}
 use Rattle.trace_rules.specs.declared.wanted.Level.{Level}
 use Rattle.trace_rules.specs.declared.wanted.Times.{Times}
 use Rattle.trace_rules.specs.declared.wanted.Wanted.{Wanted}
-use Rattle.trace_rules.specs.declared.wanted.Wanted.TheVariants.{Nothing, Sessions, RealTime}
 use Rattle.trace_rules.specs.Trace.{Trace, Writer}
-use Rattle.trace_rules.specs.Stamping.{Asked, IsolatedBy, Keeps, Point, Stampable}
-use Rattle.trace_rules.specs.Wants.{Moments, asked_of, in_time, moments_of, of_done}
+use Rattle.trace_rules.specs.Stamping.{Asked, IsolatedBy, Keeps, Point, Start, Commit, Stamping}
+use Rattle.trace_rules.specs.Wants.{asked_of}
 use Rattle.trace_rules.proofs.Forced.{wrong_outer, wrong_own}
 use Rattle.rising_numbers.specs.declared.Edge.{Edge}
-use Rattle.rising_numbers.specs.Rises.{AreWithin, Leads, IsCycle}
+use Rattle.rising_numbers.specs.Rises.{AreWithin, IsCycle}
 use Rattle.outer_reads.specs.declared.writings.Writing.{Writing}
 use Rattle.outer_reads.specs.declared.readings.Reading.{Reading}
 use Rattle.outer_reads.specs.Sources.{AreKnown, IsWrong, NotOwn, NoVersion, trace_of}
 use Rattle.trace_edges.specs.Edges.{starts_of}
+use Rattle.asked_orders.specs.declared.edges.Nodes.{Nodes}
 use Rattle.asked_orders.specs.Keeps.{stamping_of}
-use Rattle.asked_orders.specs.Joins.{AreJoined, Joins, moments_for, no_moments, place_of}
-use Rattle.asked_orders.proofs.JoinLemmas.{joins_round, joins_then, points_join}
-use Rattle.version_orders.specs.Orders.{AreSure, RiseAlong, stamp_at}
-use Rattle.trace_judge.specs.Verdicts.{AreStamps, IsShared, IsTried, NoStamps, Refuses}
+use Rattle.asked_orders.specs.Joins.{AreJoined, moments_for}
+use Rattle.asked_orders.specs.Laid.{StillJoined}
+use Rattle.version_ranks.specs.declared.rank.Rank.{Rank}
+use Rattle.version_ranks.specs.Ranks.{asked_with, by_rank}
+use Rattle.version_orders.specs.Orders.{AreSure, Task, asked_by}
+use Rattle.version_orders.proofs.OrderLemmas.{covers_with, joined_still, round_refuses}
+use Rattle.trace_judge.specs.declared.Verdict.{Verdict}
+use Rattle.trace_judge.specs.declared.Verdict.TheVariants.{Holds, WrongRead, Refused, Undecided}
+use Rattle.trace_judge.specs.Verdicts.{AreStamps, IsShared, IsTried, IsVerdict, NoStamps, Refuses}
 
 pub wrong_refuses : (level : Level) (asked : Asked) (trace : Trace) (place : ℕ) → IsWrong trace place → NoStamps level asked trace
 wrong_refuses level asked trace place (NotOwn t k own answer read other) = wrong_own level asked trace place t k own answer read other
@@ -38,70 +42,10 @@ stamps_at level other asked trace numbers same isolated keeps = record {
   keeps = keeps;
 }
 
--- what is surely so by the moments that count is asked for
-no_time : (x y : Point) → in_time no_moments x y ≡ true → ⊥
-no_time x y e = absurd (cc)
-
-asked_in_time : (wanted : Wanted) (level : Level) (times : List Times) (trace : Trace) (x y : Point) → of_done trace x ≡ true → of_done trace y ≡ true → in_time (moments_for wanted level times) x y ≡ true → asked_of wanted level times trace x y ≡ true
-asked_in_time Nothing level times trace x y dx dy e = absurd (no_time x y e)
-asked_in_time Sessions level times trace x y dx dy e = absurd (no_time x y e)
-asked_in_time RealTime level times trace x y dx dy e = all_three (of_done trace x) (of_done trace y) (in_time (moments_of level times) x y) dx dy e
-  where
-    all_three : (a b c : Bool) → a ≡ true → b ≡ true → c ≡ true → a && b && c ≡ true
-    all_three a b c p q r = cc
-
--- edges that join places, one after another
-module _ (level : Level) (wanted : Wanted) (times : List Times) (trace : Trace) (starts points : ℕ) (chain : List ℕ) (edges : List Edge)
-    (joined : AreJoined level (asked_of wanted level times trace) (moments_for wanted level times) trace starts points chain edges) where
-  abbrev Between : ℕ → ℕ → Type 0
-  Between x y = Joins level (asked_of wanted level times trace) (moments_for wanted level times) trace (place_of starts points chain x) (place_of starts points chain y)
-
-  leads_join : (x : ℕ) (places : List ℕ) (y : ℕ) → places ≢ [] → Leads edges x places y → Between x y
-  unfolding Leads
-  leads_join x [] y some leads = absurd (some refl)
-  leads_join x (p ∷ []) y some leads = subst (λ (a : ℕ). Between a y) leads.2 (subst (λ (b : ℕ). Between leads.0.from b) leads.3 (joined p leads.0 leads.1))
-  leads_join x (p ∷ q ∷ ps) y some leads =
-      joins_then level (asked_of wanted level times trace) (moments_for wanted level times) trace (asked_in_time wanted level times trace)
-      (place_of starts points chain x) (place_of starts points chain leads.0.to) (place_of starts points chain y)
-      (subst (λ (a : ℕ). Between a leads.0.to) leads.2 (joined p leads.0 leads.1))
-      (leads_join leads.0.to (q ∷ ps) y (λ none. absurd (cc)) leads.3)
-
-  pub round_refuses : (places : List ℕ) → IsCycle edges places → NoStamps level (asked_of wanted level times trace) trace
-  round_refuses places cycle stampable =
-      let around = joins_round level (asked_of wanted level times trace) (moments_for wanted level times) trace (asked_in_time wanted level times trace) (place_of starts points chain cycle.node) (leads_join cycle.node places cycle.node cycle.some cycle.leads) in
-      let less = around.1 stampable.stamps stampable.isolated stampable.keeps in
-      absurd (omega (arith, less))
-
-pub within_all : (points all : ℕ) (edges : List Edge) → points ≤ all → AreWithin points edges → AreWithin all edges
-within_all points all edges most within = record {
-  from = λ place edge at. let low = within.from place edge at in omega (arith, low, most);
-  to = λ place edge at. let low = within.to place edge at in omega (arith, low, most);
-}
-
--- edges that are sure join the places of their nodes
-pub sure_join : (level : Level) (asked : Asked) (moments : Moments) (transactions : List Transaction) (readings : List Reading) (order : List Writing) (operations : List Operation) (starts points : ℕ) (chain : List ℕ) (edges : List Edge) →
-    AreSure transactions readings order starts points edges → starts ≡ starts_of level (length transactions) → AreKnown (trace_of transactions operations) readings order → AreJoined level asked moments (trace_of transactions operations) starts points chain edges
-sure_join level asked moments transactions readings order operations starts points chain edges sure count known place edge at =
-    points_join level asked moments (trace_of transactions operations) starts points chain edge.from edge.to (sure.within.from place edge at) (sure.within.to place edge at)
-    (λ st is keeps. sure.rise level operations count known st is place edge at)
-
--- numbers that rise along edges have risen at the end of those that lead, one after another, from node to node
-leads_rise : (number : ℕ → ℕ) (edges : List Edge) (x : ℕ) (places : List ℕ) (y : ℕ) → RiseAlong number edges → places ≢ [] → Leads edges x places y → number x < number y
-unfolding Leads
-leads_rise number edges x [] y rise some leads = absurd (some refl)
-leads_rise number edges x (p ∷ []) y rise some leads =
-    subst (λ (a : ℕ). number a < number y) leads.2 (subst (λ (b : ℕ). number leads.0.from < number b) leads.3 (rise p leads.0 leads.1))
-leads_rise number edges x (p ∷ q ∷ ps) y rise some leads =
-    let low : number x < number leads.0.to = subst (λ (a : ℕ). number a < number leads.0.to) leads.2 (rise p leads.0 leads.1) in
-    let high : number leads.0.to < number y = leads_rise number edges leads.0.to (q ∷ ps) y rise (λ none. absurd (cc)) leads.3 in
-    omega (arith, low, high)
-
-pub cycle_refuses : (transactions : List Transaction) (readings : List Reading) (order : List Writing) (starts nodes : ℕ) (edges : List Edge) (places : List ℕ) →
-    AreSure transactions readings order starts nodes edges → IsCycle edges places → Refuses transactions readings order starts
-cycle_refuses transactions readings order starts nodes edges places sure cycle level asked operations count known stampable =
-    let round : stamp_at stampable.stamps starts cycle.node < stamp_at stampable.stamps starts cycle.node =
-    leads_rise (stamp_at stampable.stamps starts) edges cycle.node places cycle.node (sure.rise level operations count known stampable.stamps stampable.isolated) cycle.some cycle.leads in
-    absurd (omega (arith, round))
+pub cycle_refuses : (task : Task) (readings : List Reading) (order : List Writing) (nodes : Nodes) (edges : List Edge) (places : List ℕ) →
+    AreSure task readings order nodes edges → IsCycle edges places → Refuses task readings order nodes
+cycle_refuses task readings order nodes edges places sure cycle operations count known =
+    round_refuses task.level task.wanted task.times task.ranks (trace_of task.transactions operations) nodes.starts nodes.points task.chain edges (sure.joined operations count known) places cycle
 
 -- ---- an order of the versions is as good as another
 there : (xs : List Writing) (i : ℕ) (w : Writing) → slice_get xs i ≡ Some w → Contains xs w
@@ -124,10 +68,11 @@ pub if_some_at : {X : Type 0} (o : Option X) (P : Type 0) (x : X) → o ≡ Some
 if_some_at None P x is has = absurd (cc)
 if_some_at (Some y) P x is has = has
 
-pub sure_still : (transactions : List Transaction) (readings : List Reading) (xs ys : List Writing) (starts nodes : ℕ) (edges : List Edge) → IsPermutation xs ys → AreSure transactions readings xs starts nodes edges → AreSure transactions readings ys starts nodes edges
-sure_still transactions readings xs ys starts nodes edges same sure = record {
+pub sure_still : (task : Task) (readings : List Reading) (xs ys : List Writing) (nodes : Nodes) (edges : List Edge) → IsPermutation xs ys → AreSure task readings xs nodes edges → AreSure task readings ys nodes edges
+sure_still task readings xs ys nodes edges same sure = record {
+  room = sure.room;
   within = sure.within;
-  rise = λ level operations count known. sure.rise level operations count (known_still (trace_of transactions operations) readings ys xs (IsPermutation-sym xs ys same) known);
+  joined = λ operations count known. sure.joined operations count (known_still (trace_of task.transactions operations) readings ys xs (IsPermutation-sym xs ys same) known);
 }
 
 -- two versions of a key in the order are two that were tried
@@ -141,3 +86,64 @@ shared_tried trace readings order key known shared = record {
   one = subst (λ (k : ℕ). Writer trace shared.a.txn k shared.a.value) shared.key_a (known.wrote.wrote shared.i shared.a shared.at_a);
   two = subst (λ (k : ℕ). Writer trace shared.b.txn k shared.b.value) shared.key_b (known.wrote.wrote shared.j shared.b shared.at_b);
 }
+
+-- ---- the edges before any order of versions is known
+edge_cases : (xs ys : List Edge) (i : ℕ) (e : Edge) → slice_get (xs ++ ys) i ≡ Some e → (slice_get xs i ≡ Some e) ⊎ ((j : ℕ) × (slice_get ys j ≡ Some e))
+edge_cases [] ys i e at = inr (i, at)
+edge_cases (x ∷ xs) ys zero e at = inl at
+edge_cases (x ∷ xs) ys (suc i) e at = edge_cases xs ys i e at
+
+-- with edges that join behind those that are sure
+pub sure_with : (task : Task) (readings : List Reading) (order : List Writing) (nodes : Nodes) (edges more : List Edge) → AreSure task readings order nodes edges → AreWithin nodes.all more →
+    ((operations : List Operation) → nodes.starts ≡ starts_of task.level (length task.transactions) → AreJoined task.level (asked_of task.wanted task.level task.times (trace_of task.transactions operations)) (moments_for task.wanted task.level task.times) (trace_of task.transactions operations) nodes.starts nodes.points task.chain more) →
+    AreSure task readings order nodes (edges ++ more)
+sure_with task readings order nodes edges more sure within joined = record {
+  room = sure.room;
+  within = record {
+    from = λ place e at. elim (edge_cases edges more place e at) [ inl first ↦ sure.within.from place e first | inr last ↦ within.from last.0 e last.1 ];
+    to = λ place e at. elim (edge_cases edges more place e at) [ inl first ↦ sure.within.to place e first | inr last ↦ within.to last.0 e last.1 ];
+  };
+  joined = λ operations count known place e at. elim (edge_cases edges more place e at) [
+    | inl first ↦ sure.joined operations count known place e first
+    | inr last ↦ joined_still task.level (asked_of task.wanted task.level task.times (trace_of task.transactions operations)) (asked_by task operations) (moments_for task.wanted task.level task.times) (trace_of task.transactions operations)
+        (covers_with task.wanted task.level task.times task.ranks (trace_of task.transactions operations)) nodes.starts nodes.points task.chain more (joined operations count) last.0 e last.1
+  ];
+}
+
+-- and with those that are laid behind them
+pub sure_laid : (task : Task) (readings : List Reading) (order : List Writing) (nodes : Nodes) (old new : List Edge) → AreSure task readings order nodes old → (nodes.points ≤ nodes.all → AreWithin nodes.all old → AreWithin nodes.all new) →
+    StillJoined task.level (asked_with task.wanted task.level task.times task.ranks) (moments_for task.wanted task.level task.times) task.transactions nodes.starts nodes.points task.chain old new → AreSure task readings order nodes new
+sure_laid task readings order nodes old new sure within joined = record {
+  room = sure.room;
+  within = within sure.room sure.within;
+  joined = λ operations count known. joined operations count (sure.joined operations count known);
+}
+
+-- ---- what is kept
+either_parts : (a b : Bool) → a || b ≡ true → (a ≡ true) ⊎ (b ≡ true)
+either_parts true b e = inl refl
+either_parts false b e = inr e
+
+pub keeps_with : (wanted : Wanted) (level : Level) (times : List Times) (ranks : List Rank) (trace : Trace) (st : Stamping) → Keeps (by_rank ranks) st → Keeps (asked_of wanted level times trace) st → Keeps (asked_with wanted level times ranks trace) st
+keeps_with wanted level times ranks trace st one other x y e = elim (either_parts (by_rank ranks x y) (asked_of wanted level times trace x y) e) [ inl first ↦ one x y first | inr last ↦ other x y last ]
+
+-- where no order of versions is told, nothing more is asked for
+none_told : (x y : Point) → by_rank [] x y ≡ false
+none_told (Commit t) (Start u) = refl
+none_told (Commit t) (Commit u) = refl
+none_told (Start t) y = refl
+
+plain_of : (wanted : Wanted) (level : Level) (times : List Times) (trace : Trace) (st : Stamping) → Keeps (asked_with wanted level times [] trace) st → Keeps (asked_of wanted level times trace) st
+plain_of wanted level times trace st keeps x y e = keeps x y (covers_with wanted level times [] trace x y e)
+
+with_none : (wanted : Wanted) (level : Level) (times : List Times) (trace : Trace) (st : Stamping) → Keeps (asked_of wanted level times trace) st → Keeps (asked_with wanted level times [] trace) st
+with_none wanted level times trace st keeps x y e = keeps x y (subst (λ (b : Bool). b || asked_of wanted level times trace x y ≡ true) (none_told x y) e)
+
+no_stamps_plain : (wanted : Wanted) (level : Level) (times : List Times) (trace : Trace) → NoStamps level (asked_with wanted level times [] trace) trace → NoStamps level (asked_of wanted level times trace) trace
+no_stamps_plain wanted level times trace none stampable = none (record { stamps = stampable.stamps; isolated = stampable.isolated; keeps = with_none wanted level times trace stampable.stamps stampable.keeps })
+
+pub verdict_plain : (wanted : Wanted) (level : Level) (times : List Times) (trace : Trace) (verdict : Verdict) → IsVerdict level (asked_with wanted level times [] trace) trace verdict → IsVerdict level (asked_of wanted level times trace) trace verdict
+verdict_plain wanted level times trace (Holds numbers) v = record { isolated = v.isolated; keeps = plain_of wanted level times trace (stamping_of level (length trace.transactions) numbers.items) v.keeps }
+verdict_plain wanted level times trace (WrongRead place) v = (v.0, no_stamps_plain wanted level times trace v.1)
+verdict_plain wanted level times trace (Refused cycle) v = no_stamps_plain wanted level times trace v
+verdict_plain wanted level times trace (Undecided key) v = v

@@ -1,7 +1,6 @@
 -- What a verdict says.
 use Rattle.std.specs.Prelude.{◌≡◌, ◌≢◌, ℕ, List, Some, IfSome, length, slice_get}
 use Rattle.trace_rules.specs.declared.trace.Operation.{Operation}
-use Rattle.trace_rules.specs.declared.trace.Transaction.{Transaction}
 use Rattle.trace_rules.specs.declared.wanted.Level.{Level}
 use Rattle.trace_rules.specs.Trace.{Trace, Writer}
 use Rattle.trace_rules.specs.Stamping.{Asked, IsolatedBy, Keeps, Stampable}
@@ -9,7 +8,9 @@ use Rattle.outer_reads.specs.declared.writings.Writing.{Writing}
 use Rattle.outer_reads.specs.declared.readings.Reading.{Reading}
 use Rattle.outer_reads.specs.Sources.{AreKnown, IsWrong, trace_of}
 use Rattle.trace_edges.specs.Edges.{starts_of}
+use Rattle.asked_orders.specs.declared.edges.Nodes.{Nodes}
 use Rattle.asked_orders.specs.Keeps.{stamping_of}
+use Rattle.version_orders.specs.Orders.{Task, asked_by}
 use Rattle.trace_judge.specs.declared.Verdict.{Verdict}
 use Rattle.trace_judge.specs.declared.Verdict.TheVariants.{Holds, WrongRead, Refused, Undecided}
 
@@ -38,9 +39,9 @@ IsVerdict level asked trace (WrongRead place) = IsWrong trace place × NoStamps 
 IsVerdict level asked trace (Refused cycle) = NoStamps level asked trace
 IsVerdict level asked trace (Undecided key) = IfSome key (λ k. IsTried trace k)
 
--- at the level that has so many starts, whatever is asked for, no stamps make a trace isolated of which these are the reads and versions
-abbrev pub Refuses : List Transaction → List Reading → List Writing → ℕ → Type 0
-Refuses transactions readings order starts = (level : Level) (asked : Asked) (operations : List Operation) → starts ≡ starts_of level (length transactions) → AreKnown (trace_of transactions operations) readings order → NoStamps level asked (trace_of transactions operations)
+-- no stamps keep what is asked for and make a trace isolated of which these are the reads and versions
+abbrev pub Refuses : Task → List Reading → List Writing → Nodes → Type 0
+Refuses task readings order nodes = (operations : List Operation) → nodes.starts ≡ starts_of task.level (length task.transactions) → AreKnown (trace_of task.transactions operations) readings order → NoStamps task.level (asked_by task operations) (trace_of task.transactions operations)
 
 -- the order has two versions of the key, by different writers
 pub record IsShared (order : List Writing) (key : ℕ) : Type 0 where

@@ -8,20 +8,24 @@ ghost use Rattle.trace_rules.specs.Wants.{asked_of, no_wants};
 ghost use Rattle.outer_reads.specs.Sources.{AreKnown, trace_of};
 ghost use Rattle.trace_edges.specs.Edges as edges_of;
 ghost use Rattle.rising_numbers.specs.Rises.{AreWithin};
-ghost use Rattle.version_orders.specs.Orders.{AreSure};
-ghost use Rattle.trace_judge.specs.Verdicts.{AreStamps, IsShared, IsVerdict, NoStamps, Refuses};
+ghost use Rattle.version_orders.specs.Orders.{AreSure, Task, task_of};
+ghost use Rattle.asked_orders.specs.Joins.{AreJoined, moments_for};
+ghost use Rattle.version_ranks.specs.Ranks.{asked_with};
+ghost use Rattle.trace_judge.specs.Verdicts.{AreStamps, IsShared, IsVerdict, Refuses};
 
 mod hints;
 
 use asked_orders::{Nodes, Plan, keep_asked, lay_asked, plan_of};
 use hints::{hints_of, number_at, places_of};
 use outer_reads::{Reading, Sources, Writing, sources_of};
+use rank_orders::{keep_ranks, lay_ranks};
 use rising_numbers::{Edge, Order, numbered};
 use stamp_check::{are_serial, are_stamps};
 use std::alloc::{AllocError, Global};
 use trace_edges::{forced_edges, lay_tried};
 use trace_rules::{Level, Operation, Times, Transaction, Wanted};
 use version_orders::{Laid, add_orders};
+use version_ranks::Rank;
 
 /// What is found of a trace.
 #[derive(Drop)]
@@ -66,6 +70,22 @@ pub fn judge_wanted(
 ) -> Result<Verdict, AllocError>
     ensures { IfOk result (λ verdict. IsVerdict level (asked_of wanted level times.now (trace_of transactions.now operations.now)) (trace_of transactions.now operations.now) verdict) }
 {
+    judge_told(alloc, level, wanted, transactions, times, &[], operations)
+}
+
+/// Judges a trace as `judge_wanted` does, where an order of versions is told besides: the ranks of committed transactions, by key
+/// and version.
+pub fn judge_told(
+    alloc: Global,
+    level: Level,
+    wanted: Wanted,
+    transactions: &[Transaction],
+    times: &[Times],
+    ranks: &[Rank],
+    operations: &[Operation],
+) -> Result<Verdict, AllocError>
+    ensures { IfOk result (λ verdict. IsVerdict level (asked_with wanted level times.now ranks.now (trace_of transactions.now operations.now)) (trace_of transactions.now operations.now) verdict) }
+{
     match sources_of(alloc, transactions, operations)? {
         Sources::WrongRead(place) => Ok(Verdict::WrongRead(place)),
         Sources::Known(readings, writings) => {
@@ -76,6 +96,7 @@ pub fn judge_wanted(
                 wanted,
                 transactions,
                 times,
+                ranks,
                 &readings,
                 &mut order,
             )
@@ -90,44 +111,41 @@ fn judge_known(
     wanted: Wanted,
     transactions: &[Transaction],
     times: &[Times],
+    ranks: &[Rank],
     readings: &[Reading],
     order: &mut Vec<Writing>,
 ) -> Result<Verdict, AllocError>
     ensures { IfOk result (λ verdict. (operations : List Operation) → AreKnown (trace_of transactions.now operations) readings.now order.old.items →
-        IsVerdict level (asked_of wanted level times.now (trace_of transactions.now operations)) (trace_of transactions.now operations) verdict) }
+        IsVerdict level (asked_with wanted level times.now ranks.now (trace_of transactions.now operations)) (trace_of transactions.now operations) verdict) }
 {
     let plan = plan_of(alloc, wanted, level, transactions, times)?;
     let nodes = nodes_of(level, transactions.len(), plan.moments.len());
     sort_by(order, &[]);
     let mut edges = sure_edges(
         alloc,
+        level,
+        wanted,
         transactions,
+        times,
+        ranks,
+        &plan,
         readings,
         order,
-        nodes.starts,
-        nodes.points,
+        nodes,
     )?;
-    let mut laid = Laid::new(alloc);
-    for round in 0..ROUNDS {
-        if let Some(cycle) = sort_round(
-            alloc,
-            transactions,
-            readings,
-            order,
-            &mut edges,
-            &mut laid,
-            nodes.starts,
-            nodes.points,
-        )? {
+    let mut laid = Laid::new(alloc, ROUNDS);
+    for round in 0..=ROUNDS {
+        if let Some(cycle) = sort_round(alloc, readings, order, &mut edges, &mut laid, nodes)? {
             return Ok(Verdict::Refused(cycle));
         }
     }
-    judge_asked(
+    try_order(
         alloc,
         level,
         wanted,
         transactions,
         times,
+        ranks,
         &plan,
         readings,
         order,
@@ -136,131 +154,77 @@ fn judge_known(
     )
 }
 
-/// Judges a trace of which edges are sure, with those of the order that is asked for behind them.
-fn judge_asked(
-    alloc: Global,
-    level: Level,
-    wanted: Wanted,
-    transactions: &[Transaction],
-    times: &[Times],
-    plan: &Plan,
-    readings: &[Reading],
-    order: &mut Vec<Writing>,
-    edges: &mut Vec<Edge>,
-    nodes: Nodes,
-) -> Result<Verdict, AllocError>
-    requires starts { nodes.starts ≡ edges_of.starts_of level (length transactions.now) }
-    requires points { nodes.points ≤ nodes.all }
-    requires sure { AreSure transactions.now readings.now order.old.items nodes.starts nodes.points edges.old.items }
-    ensures { IfOk result (λ verdict. (operations : List Operation) → AreKnown (trace_of transactions.now operations) readings.now order.old.items →
-        IsVerdict level (asked_of wanted level times.now (trace_of transactions.now operations)) (trace_of transactions.now operations) verdict) }
-{
-    if let Some(cycle) = sort_asked(
-        alloc,
-        level,
-        wanted,
-        transactions,
-        times,
-        plan,
-        readings,
-        order,
-        edges,
-        nodes,
-    )? {
-        return Ok(Verdict::Refused(cycle));
-    }
-    try_order(
-        alloc,
-        level,
-        wanted,
-        transactions,
-        times,
-        plan,
-        readings,
-        order,
-        edges,
-        nodes,
-    )
-}
-
-/// Lays the edges of the order that is asked for, and sorts the versions by the numbers that all of them allow, or finds a cycle.
-fn sort_asked(
-    alloc: Global,
-    level: Level,
-    wanted: Wanted,
-    transactions: &[Transaction],
-    times: &[Times],
-    plan: &Plan,
-    readings: &[Reading],
-    order: &mut Vec<Writing>,
-    edges: &mut Vec<Edge>,
-    nodes: Nodes,
-) -> Result<Option<Vec<Edge>>, AllocError>
-    requires starts { nodes.starts ≡ edges_of.starts_of level (length transactions.now) }
-    requires points { nodes.points ≤ nodes.all }
-    requires sure { AreSure transactions.now readings.now order.old.items nodes.starts nodes.points edges.old.items }
-    ensures permutation { IfOk result (λ cycle. IsPermutation order.old.items order.new.items) }
-    ensures within { IfOk result (λ cycle. AreWithin nodes.all edges.new.items) }
-    ensures refused { IfOk result (λ cycle. IfSome cycle (λ found. (operations : List Operation) → AreKnown (trace_of transactions.now operations) readings.now order.old.items →
-        NoStamps level (asked_of wanted level times.now (trace_of transactions.now operations)) (trace_of transactions.now operations))) }
-{
-    lay_asked(edges, wanted, level, transactions, times, plan, nodes)?;
-    match numbered(alloc, nodes.all, edges)? {
-        Order::Cycle(places) => {
-            let cycle = edges_at(alloc, edges, &places)?;
-            Ok(Some(cycle))
-        }
-        Order::Rising(numbers) => {
-            sort_by(order, &numbers);
-            Ok(None)
-        }
-    }
-}
-
-/// The edges that hold in all stamps, before any order of versions is known.
+/// The edges that hold in all stamps that keep what is asked for, before any order of versions is known.
 fn sure_edges(
     alloc: Global,
+    level: Level,
+    wanted: Wanted,
     transactions: &[Transaction],
+    times: &[Times],
+    ranks: &[Rank],
+    plan: &Plan,
     readings: &[Reading],
     order: &[Writing],
-    starts: usize,
-    nodes: usize,
+    nodes: Nodes,
 ) -> Result<Vec<Edge>, AllocError>
-    ensures { IfOk result (λ edges. AreSure transactions.now readings.now order.now starts nodes edges.items) }
+    requires room { nodes.points ≤ nodes.all }
+    requires starts { nodes.starts ≡ edges_of.starts_of level (length transactions.now) }
+    ensures { IfOk result (λ edges. AreSure (task_of level wanted transactions.now times.now ranks.now plan.now.moments.items) readings.now order.now nodes edges.items) }
 {
     let hints = hints_of(alloc, readings, order)?;
-    forced_edges(
+    let mut edges = forced_edges(
         alloc,
         transactions,
         readings,
         order,
         &hints.heirs,
-        starts,
-        nodes,
-    )
+        nodes.starts,
+        nodes.points,
+    )?;
+    let asked = asked_edges(alloc, level, wanted, transactions, times, plan, nodes)?;
+    edges.extend_from_slice(&asked)?;
+    lay_ranks(&mut edges, transactions, ranks, nodes)?;
+    Ok(edges)
+}
+
+/// The edges of the order that is asked for.
+fn asked_edges(
+    alloc: Global,
+    level: Level,
+    wanted: Wanted,
+    transactions: &[Transaction],
+    times: &[Times],
+    plan: &Plan,
+    nodes: Nodes,
+) -> Result<Vec<Edge>, AllocError>
+    ensures within { IfOk result (λ edges. AreWithin nodes.all edges.items) }
+    ensures joined { IfOk result (λ edges. (operations : List Operation) → nodes.starts ≡ edges_of.starts_of level (length transactions.now) →
+        AreJoined level (asked_of wanted level times.now (trace_of transactions.now operations)) (moments_for wanted level times.now) (trace_of transactions.now operations) nodes.starts nodes.points plan.now.moments.items edges.items) }
+{
+    let mut edges = Vec::new(alloc);
+    lay_asked(&mut edges, wanted, level, transactions, times, plan, nodes)?;
+    Ok(edges)
 }
 
 /// Sorts the versions by the numbers that the edges allow, and adds the edges that follow; or finds a cycle of edges, all of which
-/// hold in all stamps. Where no edge was added since the last time, nothing is done.
+/// are sure. Where no edge was added since the last time, nothing is done.
 fn sort_round(
     alloc: Global,
-    transactions: &[Transaction],
     readings: &[Reading],
     order: &mut Vec<Writing>,
     edges: &mut Vec<Edge>,
     laid: &mut Laid,
-    starts: usize,
-    nodes: usize,
+    nodes: Nodes,
 ) -> Result<Option<Vec<Edge>>, AllocError>
-    requires { AreSure transactions.now readings.now order.old.items starts nodes edges.old.items }
+    requires { AreWithin nodes.all edges.old.items }
     ensures permutation { IfOk result (λ cycle. IsPermutation order.old.items order.new.items) }
-    ensures sure { IfOk result (λ cycle. AreSure transactions.now readings.now order.new.items starts nodes edges.new.items) }
-    ensures refused { IfOk result (λ cycle. IfSome cycle (λ found. Refuses transactions.now readings.now order.old.items starts)) }
+    ensures sure { IfOk result (λ cycle. (task : Task) → AreSure task readings.now order.old.items nodes edges.old.items → AreSure task readings.now order.new.items nodes edges.new.items) }
+    ensures refused { IfOk result (λ cycle. IfSome cycle (λ found. (task : Task) → AreSure task readings.now order.old.items nodes edges.old.items → Refuses task readings.now order.old.items nodes)) }
 {
     if !laid.take_news() {
         return Ok(None);
     }
-    match numbered(alloc, nodes, edges)? {
+    match numbered(alloc, nodes.all, edges)? {
         Order::Cycle(places) => {
             let cycle = edges_at(alloc, edges, &places)?;
             Ok(Some(cycle))
@@ -269,7 +233,7 @@ fn sort_round(
             sort_by(order, &numbers);
             let places = places_of(alloc, readings, order)?;
             add_orders(
-                alloc, readings, &places, order, &numbers, edges, laid, starts, nodes,
+                alloc, readings, &places, order, &numbers, edges, laid, nodes,
             )?;
             Ok(None)
         }
@@ -283,6 +247,7 @@ fn try_order(
     wanted: Wanted,
     transactions: &[Transaction],
     times: &[Times],
+    ranks: &[Rank],
     plan: &Plan,
     readings: &[Reading],
     order: &[Writing],
@@ -292,7 +257,7 @@ fn try_order(
     requires starts { nodes.starts ≡ edges_of.starts_of level (length transactions.now) }
     requires within { AreWithin nodes.all edges.old.items }
     ensures { IfOk result (λ verdict. (operations : List Operation) → AreKnown (trace_of transactions.now operations) readings.now order.now →
-        IsVerdict level (asked_of wanted level times.now (trace_of transactions.now operations)) (trace_of transactions.now operations) verdict) }
+        IsVerdict level (asked_with wanted level times.now ranks.now (trace_of transactions.now operations)) (trace_of transactions.now operations) verdict) }
 {
     let hints = hints_of(alloc, readings, order)?;
     let sure = edges.len();
@@ -308,6 +273,7 @@ fn try_order(
                 wanted,
                 transactions,
                 times,
+                ranks,
                 plan,
                 readings,
                 &hints.places,
@@ -329,6 +295,7 @@ fn are_right(
     wanted: Wanted,
     transactions: &[Transaction],
     times: &[Times],
+    ranks: &[Rank],
     plan: &Plan,
     readings: &[Reading],
     places: &[usize],
@@ -338,9 +305,12 @@ fn are_right(
 ) -> bool
     requires { nodes.starts ≡ edges_of.starts_of level (length transactions.now) }
     ensures { result ≡ true → (operations : List Operation) → AreKnown (trace_of transactions.now operations) readings.now order.now →
-        AreStamps level (asked_of wanted level times.now (trace_of transactions.now operations)) (trace_of transactions.now operations) numbers.now }
+        AreStamps level (asked_with wanted level times.now ranks.now (trace_of transactions.now operations)) (trace_of transactions.now operations) numbers.now }
 {
     if !keep_asked(wanted, level, transactions, times, plan, nodes, numbers) {
+        return false;
+    }
+    if !keep_ranks(level, transactions, ranks, nodes.starts, numbers) {
         return false;
     }
     match level {

@@ -1,12 +1,13 @@
 // Writers of a key, and readers of it, whose order may be forced.
 ghost use Rattle.std.specs.Prelude.{◌≡◌, ◌<◌, IfSome, Some, length, slice_get};
-ghost use Rattle.version_orders.specs.Orders.{AreWriters, IsNodes, IsOther, IsUnread};
+ghost use Rattle.version_orders.specs.Orders.{AreEnds, AreWriters, IsOther, IsUnread};
 
+use asked_orders::Nodes;
 use outer_reads::{Reading, Writing};
 
 /// The nodes of a transaction's start and of its commit: one and the same where a transaction is one node.
 #[derive(Clone, Copy, Debug, PartialEq, Eq)]
-pub struct Nodes {
+pub struct Ends {
     pub start: usize,
     pub commit: usize,
 }
@@ -14,35 +15,35 @@ pub struct Nodes {
 /// Two writers of a key.
 #[derive(Clone, Copy, Debug, PartialEq, Eq)]
 pub struct Writers {
-    pub first: Nodes,
-    pub second: Nodes,
+    pub first: Ends,
+    pub second: Ends,
 }
 
 /// A reader that found nothing, and a writer of the key.
 #[derive(Clone, Copy, Debug, PartialEq, Eq)]
 pub struct Unread {
     pub reader: usize,
-    pub writer: Nodes,
+    pub writer: Ends,
 }
 
 /// A reader, whom it read from, and another writer of the key.
 #[derive(Clone, Copy, Debug, PartialEq, Eq)]
 pub struct Other {
     pub reader: usize,
-    pub source: Nodes,
-    pub writer: Nodes,
+    pub source: Ends,
+    pub writer: Ends,
 }
 
-pub fn writers_at(order: &[Writing], i: usize, j: usize, starts: usize) -> Option<Writers>
-    ensures { IfSome result (λ w. AreWriters order.now starts w.first w.second) }
+pub fn writers_at(order: &[Writing], i: usize, j: usize, nodes: Nodes) -> Option<Writers>
+    ensures { IfSome result (λ w. AreWriters order.now nodes w.first w.second) }
 {
     let a = version_at(order, i)?;
     let b = version_at(order, j)?;
     if a.key != b.key || a.txn == b.txn {
         return None;
     }
-    let first = nodes_of(starts, a.txn)?;
-    let second = nodes_of(starts, b.txn)?;
+    let first = ends_of(nodes, a.txn)?;
+    let second = ends_of(nodes, b.txn)?;
     Some(Writers { first, second })
 }
 
@@ -51,16 +52,16 @@ pub fn unread_at(
     order: &[Writing],
     i: usize,
     j: usize,
-    starts: usize,
+    nodes: Nodes,
 ) -> Option<Unread>
-    ensures { IfSome result (λ u. IsUnread readings.now order.now starts u.reader u.writer) }
+    ensures { IfSome result (λ u. IsUnread readings.now order.now nodes u.reader u.writer) }
 {
     let r = reading_at(readings, i)?;
     let b = version_at(order, j)?;
-    if r.answer.is_some() || b.key != r.key || b.txn == r.txn {
+    if r.answer.is_some() || b.key != r.key || b.txn == r.txn || r.txn >= nodes.points {
         return None;
     }
-    let writer = nodes_of(starts, b.txn)?;
+    let writer = ends_of(nodes, b.txn)?;
     Some(Unread {
         reader: r.txn,
         writer,
@@ -72,18 +73,18 @@ pub fn other_at(
     order: &[Writing],
     i: usize,
     j: usize,
-    starts: usize,
+    nodes: Nodes,
 ) -> Option<Other>
-    ensures { IfSome result (λ o. IsOther readings.now order.now starts o.reader o.source o.writer) }
+    ensures { IfSome result (λ o. IsOther readings.now order.now nodes o.reader o.source o.writer) }
 {
     let r = reading_at(readings, i)?;
     let found = r.answer?;
     let b = version_at(order, j)?;
-    if b.key != r.key || b.txn == r.txn || b.txn == found.from {
+    if b.key != r.key || b.txn == r.txn || b.txn == found.from || r.txn >= nodes.points {
         return None;
     }
-    let source = nodes_of(starts, found.from)?;
-    let writer = nodes_of(starts, b.txn)?;
+    let source = ends_of(nodes, found.from)?;
+    let writer = ends_of(nodes, b.txn)?;
     Some(Other {
         reader: r.txn,
         source,
@@ -91,12 +92,17 @@ pub fn other_at(
     })
 }
 
-fn nodes_of(starts: usize, txn: usize) -> Option<Nodes>
-    ensures { IfSome result (λ n. IsNodes starts txn n) }
+fn ends_of(nodes: Nodes, txn: usize) -> Option<Ends>
+    ensures { IfSome result (AreEnds nodes txn) }
 {
-    match starts.checked_add(txn) {
+    match nodes.starts.checked_add(txn) {
         None => None,
-        Some(commit) => Some(Nodes { start: txn, commit }),
+        Some(commit) => {
+            if commit >= nodes.points {
+                return None;
+            }
+            Some(Ends { start: txn, commit })
+        }
     }
 }
 

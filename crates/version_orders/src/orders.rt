@@ -1,14 +1,14 @@
 // The edges that follow of those that are sure.
 ghost use Rattle.std.specs.Prelude.{◌≡◌, ℕ, List, IfOk, OnOk};
-ghost use Rattle.trace_rules.specs.declared.trace.Transaction.{Transaction};
 ghost use Rattle.rising_numbers.specs.declared.Edge.{Edge};
 ghost use Rattle.outer_reads.specs.declared.readings.Reading.{Reading};
 ghost use Rattle.outer_reads.specs.declared.writings.Writing.{Writing};
 ghost use Rattle.trace_edges.specs.Edges.{MayLay};
-ghost use Rattle.version_orders.specs.Orders.{AreSure, AreWriters, IsOther, IsUnread};
+ghost use Rattle.version_orders.specs.Orders.{AreSure, AreWriters, IsOther, IsUnread, Task};
 
 use crate::candidates::{Other, Unread, Writers, other_at, unread_at, writers_at};
 use crate::paths::{Paths, number_at};
+use asked_orders::Nodes;
 use outer_reads::{Reading, Writing};
 use rising_numbers::Edge;
 use std::alloc::{AllocError, Global};
@@ -28,14 +28,25 @@ pub struct Laid {
     edges: HashMap<(usize, usize), ()>,
     /// Whether one was added that nobody was told of yet.
     news: bool,
+    /// In how many rounds more edges may be added.
+    rounds: usize,
 }
 
 impl Laid {
-    pub fn new(alloc: Global) -> Laid {
+    /// None yet, of so many rounds to come.
+    pub fn new(alloc: Global, rounds: usize) -> Laid {
         Laid {
             edges: HashMap::new(alloc),
             news: true,
+            rounds,
         }
+    }
+
+    /// Begins a round, where one is left.
+    fn begin(&mut self) -> bool {
+        let left = self.rounds;
+        self.rounds = left.saturating_sub(1);
+        left > 0
     }
 
     /// Whether an edge was added since this was asked for the last time, or it is asked for the first time.
@@ -59,7 +70,7 @@ impl Laid {
 /// Adds edges that follow of those which are sure: between neighbours of the order that a path leads between, and between readers
 /// and versions near what they read. The numbers rise along the edges; the order has the versions of each key by their
 /// writers' numbers; and for each reading the place is given of what was read. Numbers, order and places are hints. It
-/// takes a time in proportion to n log n, and leaves out what it does not find in it.
+/// takes a time in proportion to n log n, and leaves out what it does not find in it. Once the rounds are over it adds none.
 pub fn add_orders(
     alloc: Global,
     readings: &[Reading],
@@ -68,22 +79,22 @@ pub fn add_orders(
     numbers: &[usize],
     edges: &mut Vec<Edge>,
     laid: &mut Laid,
-    starts: usize,
-    nodes: usize,
+    nodes: Nodes,
 ) -> Result<(), AllocError>
-    ensures { OnOk result ((transactions : List Transaction) → AreSure transactions readings.now order.now starts nodes edges.old.items → AreSure transactions readings.now order.now starts nodes edges.new.items) }
+    ensures { OnOk result ((task : Task) → AreSure task readings.now order.now nodes edges.old.items → AreSure task readings.now order.now nodes edges.new.items) }
 {
+    if !laid.begin() {
+        return Ok(());
+    }
     let left = edges.len().saturating_mul(SHARE).saturating_add(SPARE);
-    let mut paths = Paths::new(alloc, nodes, edges, left)?;
+    let mut paths = Paths::new(alloc, nodes.all, edges, left)?;
     for place in 1..order.len() {
-        order_versions(
-            edges, &mut paths, laid, order, numbers, place, starts, nodes,
-        )?;
+        order_versions(edges, &mut paths, laid, order, numbers, place, nodes)?;
     }
     for i in 0..readings.len() {
         let place = number_at(places, i);
         order_reading(
-            edges, &mut paths, laid, readings, order, numbers, i, place, starts, nodes,
+            edges, &mut paths, laid, readings, order, numbers, i, place, nodes,
         )?;
     }
     Ok(())
@@ -97,12 +108,11 @@ fn order_versions(
     order: &[Writing],
     numbers: &[usize],
     place: usize,
-    starts: usize,
-    nodes: usize,
+    nodes: Nodes,
 ) -> Result<(), AllocError>
-    ensures { OnOk result ((transactions : List Transaction) (readings : List Reading) → AreSure transactions readings order.now starts nodes edges.old.items → AreSure transactions readings order.now starts nodes edges.new.items) }
+    ensures { OnOk result ((task : Task) (readings : List Reading) → AreSure task readings order.now nodes edges.old.items → AreSure task readings order.now nodes edges.new.items) }
 {
-    match writers_at(order, place.saturating_sub(1), place, starts) {
+    match writers_at(order, place.saturating_sub(1), place, nodes) {
         None => Ok(()),
         Some(writers) => lay_path(edges, paths, laid, numbers, nodes, writers),
     }
@@ -118,18 +128,15 @@ fn order_reading(
     numbers: &[usize],
     i: usize,
     place: usize,
-    starts: usize,
-    nodes: usize,
+    nodes: Nodes,
 ) -> Result<(), AllocError>
-    ensures { OnOk result ((transactions : List Transaction) → AreSure transactions readings.now order.now starts nodes edges.old.items → AreSure transactions readings.now order.now starts nodes edges.new.items) }
+    ensures { OnOk result ((task : Task) → AreSure task readings.now order.now nodes edges.old.items → AreSure task readings.now order.now nodes edges.new.items) }
 {
     let behind = first_behind(readings, order, numbers, i);
     for look in 0..LOOKS {
         let j = looked_at(look, place, behind);
-        order_none(edges, laid, readings, order, i, j, starts, nodes)?;
-        order_other(
-            edges, paths, laid, readings, order, numbers, i, j, starts, nodes,
-        )?;
+        order_none(edges, laid, readings, order, i, j, nodes)?;
+        order_other(edges, paths, laid, readings, order, numbers, i, j, nodes)?;
     }
     Ok(())
 }
@@ -141,12 +148,11 @@ fn order_none(
     order: &[Writing],
     i: usize,
     j: usize,
-    starts: usize,
-    nodes: usize,
+    nodes: Nodes,
 ) -> Result<(), AllocError>
-    ensures { OnOk result ((transactions : List Transaction) → AreSure transactions readings.now order.now starts nodes edges.old.items → AreSure transactions readings.now order.now starts nodes edges.new.items) }
+    ensures { OnOk result ((task : Task) → AreSure task readings.now order.now nodes edges.old.items → AreSure task readings.now order.now nodes edges.new.items) }
 {
-    match unread_at(readings, order, i, j, starts) {
+    match unread_at(readings, order, i, j, nodes) {
         None => Ok(()),
         Some(unread) => lay_none(edges, laid, nodes, unread),
     }
@@ -161,12 +167,11 @@ fn order_other(
     numbers: &[usize],
     i: usize,
     j: usize,
-    starts: usize,
-    nodes: usize,
+    nodes: Nodes,
 ) -> Result<(), AllocError>
-    ensures { OnOk result ((transactions : List Transaction) → AreSure transactions readings.now order.now starts nodes edges.old.items → AreSure transactions readings.now order.now starts nodes edges.new.items) }
+    ensures { OnOk result ((task : Task) → AreSure task readings.now order.now nodes edges.old.items → AreSure task readings.now order.now nodes edges.new.items) }
 {
-    match other_at(readings, order, i, j, starts) {
+    match other_at(readings, order, i, j, nodes) {
         None => Ok(()),
         Some(other) => {
             lay_missed(edges, paths, laid, numbers, nodes, other)?;
@@ -182,11 +187,11 @@ fn lay_path(
     paths: &mut Paths,
     laid: &mut Laid,
     numbers: &[usize],
-    nodes: usize,
+    nodes: Nodes,
     writers: Writers,
 ) -> Result<(), AllocError>
-    ensures { OnOk result ((transactions : List Transaction) (readings : List Reading) (order : List Writing) (starts : ℕ) → AreWriters order starts writers.first writers.second →
-        AreSure transactions readings order starts nodes edges.old.items → AreSure transactions readings order starts nodes edges.new.items) }
+    ensures { OnOk result ((task : Task) (readings : List Reading) (order : List Writing) → AreWriters order nodes writers.first writers.second →
+        AreSure task readings order nodes edges.old.items → AreSure task readings order nodes edges.new.items) }
 {
     let edge = Edge {
         from: writers.first.commit,
@@ -196,7 +201,7 @@ fn lay_path(
         return Ok(());
     }
     if paths.lead(edges, numbers, writers.first.start, writers.second.commit)? {
-        lay(edges, laid, nodes, edge)
+        lay(edges, laid, nodes.points, edge)
     } else {
         Ok(())
     }
@@ -208,11 +213,11 @@ fn lay_missed(
     paths: &mut Paths,
     laid: &mut Laid,
     numbers: &[usize],
-    nodes: usize,
+    nodes: Nodes,
     other: Other,
 ) -> Result<(), AllocError>
-    ensures { OnOk result ((transactions : List Transaction) (readings : List Reading) (order : List Writing) (starts : ℕ) → IsOther readings order starts other.reader other.source other.writer →
-        AreSure transactions readings order starts nodes edges.old.items → AreSure transactions readings order starts nodes edges.new.items) }
+    ensures { OnOk result ((task : Task) (readings : List Reading) (order : List Writing) → IsOther readings order nodes other.reader other.source other.writer →
+        AreSure task readings order nodes edges.old.items → AreSure task readings order nodes edges.new.items) }
 {
     let edge = Edge {
         from: other.reader,
@@ -222,7 +227,7 @@ fn lay_missed(
         return Ok(());
     }
     if paths.lead(edges, numbers, other.source.commit, other.writer.start)? {
-        lay(edges, laid, nodes, edge)
+        lay(edges, laid, nodes.points, edge)
     } else {
         Ok(())
     }
@@ -234,11 +239,11 @@ fn lay_seen(
     paths: &mut Paths,
     laid: &mut Laid,
     numbers: &[usize],
-    nodes: usize,
+    nodes: Nodes,
     other: Other,
 ) -> Result<(), AllocError>
-    ensures { OnOk result ((transactions : List Transaction) (readings : List Reading) (order : List Writing) (starts : ℕ) → IsOther readings order starts other.reader other.source other.writer →
-        AreSure transactions readings order starts nodes edges.old.items → AreSure transactions readings order starts nodes edges.new.items) }
+    ensures { OnOk result ((task : Task) (readings : List Reading) (order : List Writing) → IsOther readings order nodes other.reader other.source other.writer →
+        AreSure task readings order nodes edges.old.items → AreSure task readings order nodes edges.new.items) }
 {
     let edge = Edge {
         from: other.writer.commit,
@@ -248,7 +253,7 @@ fn lay_seen(
         return Ok(());
     }
     if paths.lead(edges, numbers, other.writer.commit, other.reader)? {
-        lay(edges, laid, nodes, edge)
+        lay(edges, laid, nodes.points, edge)
     } else {
         Ok(())
     }
@@ -258,11 +263,11 @@ fn lay_seen(
 fn lay_none(
     edges: &mut Vec<Edge>,
     laid: &mut Laid,
-    nodes: usize,
+    nodes: Nodes,
     unread: Unread,
 ) -> Result<(), AllocError>
-    ensures { OnOk result ((transactions : List Transaction) (readings : List Reading) (order : List Writing) (starts : ℕ) → IsUnread readings order starts unread.reader unread.writer →
-        AreSure transactions readings order starts nodes edges.old.items → AreSure transactions readings order starts nodes edges.new.items) }
+    ensures { OnOk result ((task : Task) (readings : List Reading) (order : List Writing) → IsUnread readings order nodes unread.reader unread.writer →
+        AreSure task readings order nodes edges.old.items → AreSure task readings order nodes edges.new.items) }
 {
     let edge = Edge {
         from: unread.reader,
@@ -271,15 +276,15 @@ fn lay_none(
     if laid.has(edge) {
         return Ok(());
     }
-    lay(edges, laid, nodes, edge)
+    lay(edges, laid, nodes.points, edge)
 }
 
-/// Lays an edge, where it is between nodes.
-fn lay(edges: &mut Vec<Edge>, laid: &mut Laid, nodes: usize, edge: Edge) -> Result<(), AllocError>
-    ensures { OnOk result (MayLay nodes edge edges.old.items edges.new.items) }
+/// Lays an edge, where it is between points.
+fn lay(edges: &mut Vec<Edge>, laid: &mut Laid, points: usize, edge: Edge) -> Result<(), AllocError>
+    ensures { OnOk result (MayLay points edge edges.old.items edges.new.items) }
 {
     laid.note(edge)?;
-    if edge.from < nodes && edge.to < nodes {
+    if edge.from < points && edge.to < points {
         edges.push(edge)?;
     }
     Ok(())

@@ -1,6 +1,6 @@
 // Paths of edges.
 ghost use Rattle.std.specs.Prelude.{◌≡◌, true, IfOk};
-ghost use Rattle.version_orders.specs.Orders.{Lead};
+ghost use Rattle.version_orders.specs.Orders.{IsStep, Lead};
 
 use rising_numbers::Edge;
 use std::alloc::{AllocError, Global};
@@ -161,7 +161,7 @@ fn is_path(edges: &[Edge], from: usize, path: &[usize], to: usize) -> bool
 }
 
 fn is_step(edges: &[Edge], place: usize, from: usize, to: usize) -> bool
-    ensures { result ≡ true → Lead edges.now from to }
+    ensures { result ≡ true → IsStep edges.now place from to }
 {
     match edges.get(place) {
         None => false,

@@ -1,11 +1,15 @@
-use Rattle.std.proofs.Common.{subst}
+use Rattle.std.proofs.lemmas.Result.{IfOk-weaker}
+use Rattle.std.proofs.Common.{[]}
 use Rattle.trace_rules.specs.Wants.{asked_of}
-use Rattle.outer_reads.specs.declared.sources.Sources.{Sources}
-use Rattle.outer_reads.specs.Sources.{AreSources, IsWrong, trace_of}
-use Rattle.trace_judge.proofs.JudgeLemmas.{wrong_refuses}
+use Rattle.version_ranks.specs.Ranks.{asked_with}
+use Rattle.outer_reads.specs.Sources.{trace_of}
+use Rattle.trace_judge.specs.declared.Verdict.{Verdict}
+use Rattle.trace_judge.specs.Verdicts.{IsVerdict}
+use Rattle.trace_judge.proofs.JudgeLemmas.{verdict_plain}
 use Rattle.trace_judge.proofs.judge_wanted.Goals as goal
 
-pub returns-in-WrongRead : goal.returns-in-WrongRead
-returns-in-WrongRead c =
-    let wrong : IsWrong (trace_of c.args.transactions.now c.args.operations.now) c.in-WrongRead.place = subst (λ (sources : Sources). AreSources (trace_of c.args.transactions.now c.args.operations.now) sources) c.in-WrongRead.is c.in_ok-place.ensures in
-    (wrong, wrong_refuses c.args.level (asked_of c.args.wanted c.args.level c.args.times.now (trace_of c.args.transactions.now c.args.operations.now)) (trace_of c.args.transactions.now c.args.operations.now) c.in-WrongRead.place wrong)
+pub returns : goal.returns
+returns c = IfOk-weaker c.judge_told.result
+    (λ (verdict : Verdict). IsVerdict c.args.level (asked_with c.args.wanted c.args.level c.args.times.now [] (trace_of c.args.transactions.now c.args.operations.now)) (trace_of c.args.transactions.now c.args.operations.now) verdict)
+    (λ (verdict : Verdict). IsVerdict c.args.level (asked_of c.args.wanted c.args.level c.args.times.now (trace_of c.args.transactions.now c.args.operations.now)) (trace_of c.args.transactions.now c.args.operations.now) verdict)
+    (λ verdict said. verdict_plain c.args.wanted c.args.level c.args.times.now (trace_of c.args.transactions.now c.args.operations.now) verdict said) c.judge_told.ensures

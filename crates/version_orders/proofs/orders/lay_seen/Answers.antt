@@ -10,5 +10,5 @@ returns-then-branch c =
     let value = c.deref.ensures.value in
     let same : c.deref.result.now ≡ c.args.edges.now.items = cc in
     let lead : Lead c.args.edges.now.items c.args.other.writer.commit c.args.other.reader = subst (λ (edges : List Edge). Lead edges c.args.other.writer.commit c.args.other.reader) same (c.in_ok-lead.ensures (search rules)) in
-    on_ok_weaker c.lay.result (λ may transactions readings order starts are sure.
-    may_follow transactions readings order starts c.args.nodes c.args.edges.now.items c.lay.new.edges.items (record { from = c.args.other.writer.commit; to = c.args.other.source.start }) may (OfSeen c.args.other.reader c.args.other.source c.args.other.writer are lead) sure) c.lay.ensures
+    on_ok_weaker c.lay.result (λ may task readings order are sure.
+    may_follow task readings order c.args.nodes c.args.edges.now.items c.lay.new.edges.items (record { from = c.args.other.writer.commit; to = c.args.other.source.start }) may (OfSeen c.args.other.reader c.args.other.source c.args.other.writer are lead) sure) c.lay.ensures

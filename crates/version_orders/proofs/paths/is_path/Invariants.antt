@@ -1,7 +1,7 @@
-use Rattle.std.proofs.Common.{ℕ, ◌+◌, ◌≤◌}
-use Rattle.version_orders.specs.Orders.{RiseAlong}
+use Rattle.std.proofs.Common.{take}
+use Rattle.rising_numbers.specs.Rises.{Leads}
 use Rattle.version_orders.proofs.paths.is_path.Given as goal
 
--- numbers that rise along the edges have risen at each step
+-- the edges so far lead from where the path begins
 abbrev pub invariant-loop-i : goal.invariant-loop-i
-invariant-loop-i l = (number : ℕ → ℕ) → RiseAlong number l.edges → number l.from + l.i ≤ number l.node
+invariant-loop-i l = Leads l.edges l.from (take l.i l.path) l.node

@@ -1,0 +1,6 @@
+//! Why a list that was read is as good as a read of its last member, with the order that it tells.
+#![tactic(auto)]
+
+mod laws;
+
+pub use laws::lists_tell_orders;
