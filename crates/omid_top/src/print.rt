@@ -1,4 +1,4 @@
-// Writing texts and histories. But for the lines of JSON it takes no memory.
+// Writing texts and histories, which takes no memory.
 ghost use Rattle.std.specs.Prelude.{◌≡◌, ◌<◌, ◌≤◌, OnOk, OnErr, IsErrOf, length};
 ghost use Rattle.port_io.specs.Ports.{Risen, Gains};
 ghost use Rattle.history_text.specs.Text.{printed};
@@ -13,11 +13,10 @@ use crate::form::Form;
 use crate::report::Report;
 use crate::script::ScriptCause;
 use history_book::Item;
-use history_json::printed_line;
+use history_json::print_line;
 use history_text::{LineBuf, Summary, print_body, print_item};
 use port_io::{Failed, Sink, write_all_of};
 use stamp_base::NoMemory;
-use std::alloc::Global;
 
 /// Why a text of a history was not written to its end.
 #[derive(Clone, Copy, Debug, PartialEq, Eq)]
@@ -47,13 +46,8 @@ impl From<NoMemory> for PrintStop {
     }
 }
 
-/// Writes this text of the history. Only JSON takes memory: where it is refused, the lines before went out.
-pub fn print_in<K: Sink>(
-    alloc: Global,
-    form: Form,
-    sink: &mut K,
-    items: &[Item],
-) -> Result<(), PrintStop>
+/// Writes this text of the history. It takes no memory.
+pub fn print_in<K: Sink>(form: Form, sink: &mut K, items: &[Item]) -> Result<(), PrintStop>
     ensures all { OnOk result (Gains (K.held sink.old) (K.held sink.new) (text_in form items.now)) }
     ensures front { IsErrOf result PrintStop.Failed → GainsFront (K.held sink.old) (K.held sink.new) (text_in form items.now) }
     ensures lines { IsErrOf result PrintStop.NoMemory → GainsLines (K.held sink.old) (K.held sink.new) items.now }
@@ -63,7 +57,7 @@ pub fn print_in<K: Sink>(
 {
     match form {
         Form::History => Ok(print_history(sink, items)?),
-        Form::Json => print_json(alloc, sink, items),
+        Form::Json => print_json(sink, items),
         Form::Summary => Ok(print_summary(sink, items)?),
     }
 }
@@ -83,17 +77,18 @@ fn print_history<K: Sink>(sink: &mut K, items: &[Item]) -> Result<(), Failed>
     Ok(())
 }
 
-/// Writes the items as JSON, each by one write of its line. A line takes memory as it is made.
-fn print_json<K: Sink>(alloc: Global, sink: &mut K, items: &[Item]) -> Result<(), PrintStop>
+/// Writes the items as JSON, each by one write of its line.
+fn print_json<K: Sink>(sink: &mut K, items: &[Item]) -> Result<(), PrintStop>
     ensures all { OnOk result (Gains (K.held sink.old) (K.held sink.new) (json_printed items.now)) }
     ensures front { IsErrOf result PrintStop.Failed → GainsFront (K.held sink.old) (K.held sink.new) (json_printed items.now) }
     ensures lines { IsErrOf result PrintStop.NoMemory → GainsLines (K.held sink.old) (K.held sink.new) items.now }
     ensures failed { IsErrOf result PrintStop.Failed → Risen (K.faults sink.old) (K.faults sink.new) }
     ensures worked { (IsErrOf result PrintStop.Failed → ⊥) → K.faults sink.new ≡ K.faults sink.old }
 {
+    let mut line = LineBuf::new();
     for item in items {
-        let line = printed_line(alloc, item)?;
-        match write_all_of(sink, line.as_bytes()) {
+        print_line(item, &mut line);
+        match write_all_of(sink, line.as_slice()) {
             Ok(()) => {}
             Err(_) => return Err(PrintStop::Failed),
         }

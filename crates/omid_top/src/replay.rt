@@ -94,7 +94,7 @@ fn replay_script<K: Sink, G: Gate>(
 {
     scripts_keep_service();
     match replay_told(alloc, script, &TellsGate { gate }) {
-        Ok(cluster) => match print::print_in(alloc, form, sink, cluster.history()) {
+        Ok(cluster) => match print::print_in(form, sink, cluster.history()) {
             Ok(()) => Status::DONE,
             Err(PrintStop::Failed) => Status::SINK_FAILED,
             Err(PrintStop::NoMemory) => Status::NO_MEMORY,

@@ -87,12 +87,7 @@ fn run_script<R: Threads + Wait + Sync, K: Sink, G: Gate>(
     ensures codes { (result.code ≡ 0) ⊎ (result.code ≡ 5) ⊎ (result.code ≡ 6) }
 {
     match run_driver::run(rt, alloc, script, gate) {
-        Ok((cluster, _turns)) => match print::print_in(
-            alloc,
-            Form::History,
-            sink,
-            cluster.history(),
-        ) {
+        Ok((cluster, _turns)) => match print::print_in(Form::History, sink, cluster.history()) {
             Ok(()) => Status::DONE,
             Err(PrintStop::Failed) => Status::SINK_FAILED,
             Err(PrintStop::NoMemory) => Status::NO_MEMORY,

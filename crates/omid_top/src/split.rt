@@ -94,13 +94,13 @@ fn split_script<R: Threads + Wait + Sync, K: Sink>(
     ensures codes { (result.code ≡ 0) ⊎ (result.code ≡ 5) ⊎ (result.code ≡ 6) ⊎ (result.code ≡ 8) ⊎ (result.code ≡ 9) }
 {
     match run_split(rt, alloc, script, &OpenPartGate) {
-        Ok(cluster) => told(alloc, script, &cluster, sink),
+        Ok(cluster) => told(script, &cluster, sink),
         Err(stop) => stopped(script, stop, sink),
     }
 }
 
 /// Writes the history of the cluster that the script has come to.
-fn told<K: Sink>(alloc: Global, script: &Script, cluster: &Cluster, sink: &mut K) -> Status
+fn told<K: Sink>(script: &Script, cluster: &Cluster, sink: &mut K) -> Status
     requires settles { SplitsTo (data_of script.now) cluster.now }
     requires answers { Answers (data_of script.now) cluster.now.history }
     requires served { Served (data_of script.now) cluster.now.history }
@@ -114,7 +114,7 @@ fn told<K: Sink>(alloc: Global, script: &Script, cluster: &Cluster, sink: &mut K
     ensures no_memory { result.code ≡ 6 → sink.new ≡ sink.old }
     ensures codes { (result.code ≡ 0) ⊎ (result.code ≡ 5) ⊎ (result.code ≡ 6) }
 {
-    match print::print_in(alloc, Form::History, sink, cluster.history()) {
+    match print::print_in(Form::History, sink, cluster.history()) {
         Ok(()) => Status::DONE,
         Err(PrintStop::Failed) => Status::SINK_FAILED,
         Err(PrintStop::NoMemory) => Status::NO_MEMORY,
