@@ -22,7 +22,7 @@ abbrev pub column_x : Bool → ℕ → ℕ
 column_x wide column = 96 + min (pitch wide * min column 2000) 32000
 
 abbrev pub row_y : ℕ → ℕ
-row_y row = 78 + 38 * min row 26
+row_y row = 78 + 46 * min row 26
 
 -- ---- bars
 unfoldable pub rect_text : ℕ → ℕ → ℕ → List ℕ

@@ -2,7 +2,7 @@
 
 /// Colours by day and, where the reader has set so, by night; how bars are told apart by hatching and dashes; and the heads of arrows.
 pub const STYLE: &str =
-    "<style>.page{fill:#fff}text{fill:#1f2328}.n{font-size:9px;fill:#4d555e}.again{font-size:9px;fill:#4d555e;paint-order:stroke;stroke:#fff;stroke-width:3px}
+    "<style>.page{fill:#fff}text{fill:#1f2328}.n{font-size:9px;fill:#4d555e}.again{font-size:9px;fill:#4d555e}
 .caption{font-size:13px;font-weight:bold;text-anchor:start}.lane{text-anchor:start;font-weight:bold}.lane.n{font-weight:normal}
 line{stroke:#d0d7de}.link,path.bad,.ring circle{fill:none;stroke:#57606a}path.bad,.ring circle{stroke:#b3261e}.far{opacity:.35}
 .link{marker-end:url(#tip)}path.bad{marker-end:url(#bad-tip)}#tip path{fill:#57606a}#bad-tip path{fill:#b3261e}
@@ -12,7 +12,7 @@ rect{stroke-width:1.2}.page{stroke:none}.ring circle{stroke-width:2.5}.committed
 .lease rect{fill:#e4effb;stroke:none}.hatch{fill:#fdeceb}.hatch-line{stroke:#dc8f8a}.cross{fill:#f4edfc}.cross-line{fill:none;stroke:#bfa2e3}
 circle{fill:#57606a}.own circle{fill:#0a4f9e}.done circle{fill:#125c2b}.grant circle{fill:#6438a8}.bad circle{fill:#a3180f}
 .mark circle{fill:#7d4600}.ring circle{fill:none}circle+text{fill:#fff}
-@media(prefers-color-scheme:dark){.page{fill:#0d1117}text{fill:#e6edf3}.n,.again{fill:#a8b1bb}.again{stroke:#0d1117}line{stroke:#30363d}
+@media(prefers-color-scheme:dark){.page{fill:#0d1117}text{fill:#e6edf3}.n,.again{fill:#a8b1bb}line{stroke:#30363d}
 .link{stroke:#8b949e}path.bad,.ring circle{stroke:#ff8f88}#tip path{fill:#8b949e}#bad-tip path{fill:#ff8f88}
 .committed rect{fill:#12331d;stroke:#56c26d}.refused rect{stroke:#ff8f88}.aborted rect{fill:#23282f;stroke:#a8b1bb}
 .dead rect{stroke:#c8a6ff}.open rect{fill:#33290b;stroke:#d9a53a}.lease rect{fill:#13233a}

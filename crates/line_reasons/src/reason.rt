@@ -21,7 +21,7 @@ pub fn print_reason(
     bytes: &[u8],
     number: u64,
 ) -> Result<(), NoMemory>
-    ensures { OnOk result (AddsReasonAt bytes.now number text.old text.new) }
+    ensures told { OnOk result (AddsReasonAt bytes.now number text.old text.new) }
 {
     if number == 0 {
         return text.push(b"    a history has at most 16777216 bytes\n");
