@@ -2,12 +2,10 @@
 ghost use Rattle.std.specs.Prelude.{◌≡◌, ◌≤◌, ◌++◌, Some, None, OnOk, codes, decimal};
 ghost use Rattle.history_view.specs.Marks.{any_arrow_text, any_bar_text, any_ring_text, arrow_class, arrow_text, bar_text, bent_text, beside, circle_text, column_x, curve_text, dot_text, earlier_bar_text, found_text, is_bad, label, label_text, letter_text, number_text, opener_text, pitch, rect_text, ring_text, row_y, sign_text, stamp_text, title_text, value_text};
 
-use history_signs::Bar;
-use history_signs::EarlierBar;
 use crate::glyph::{Glyph, class_of, glyph_of, kind_word, letter};
-use history_signs::{Link, Sign};
 use crate::text::Text;
 use history_book::{Found, Item};
+use history_signs::{Bar, EarlierBar, Link, Sign};
 use stamp_base::{NoMemory, Stamp, Value};
 
 /// How far apart columns stand: a wide picture has room for values.

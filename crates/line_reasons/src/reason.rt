@@ -49,12 +49,7 @@ fn line_at(bytes: &[u8], number: u64) -> Option<&[u8]>
     if before == 0 { Some(rest) } else { None }
 }
 
-fn print_line(
-    alloc: Global,
-    text: &mut Text,
-    format: Format,
-    line: &[u8],
-) -> Result<(), NoMemory>
+fn print_line(alloc: Global, text: &mut Text, format: Format, line: &[u8]) -> Result<(), NoMemory>
     ensures { OnOk result (AddsReason format line.now text.old text.new) }
 {
     let fault = fault_of(alloc, format, line)?;

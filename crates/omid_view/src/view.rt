@@ -10,6 +10,7 @@ use crate::status;
 use history_book::Item;
 use history_json::read_history;
 use history_reading::HistoryFault;
+use history_text::LineBuf;
 use history_view::Text;
 use line_reasons::print_reason;
 use port_io::{Failed, ReadStop, Sink, Source, read_up_to, write_all_of};
@@ -171,8 +172,17 @@ fn line_told(alloc: Global, command: Command, bytes: &[u8], number: u64) -> Resu
 fn print_bad_line(text: &mut Text, number: u64) -> Result<(), NoMemory>
     ensures { OnOk result (text.new ≡ text.old ++ bad_line_text number) }
 {
-    text.push_field(b"history line ", number)?;
-    text.push(b": not an item\n")
+    let mut line = LineBuf::new();
+    set_bad_line(&mut line, number);
+    text.push(line.as_slice())
+}
+
+fn set_bad_line(line: &mut LineBuf, number: u64)
+    ensures { line.new ≡ bad_line_text number }
+{
+    line.set_text(b"history line ");
+    line.push_number(number);
+    line.push_text(b": not an item\n");
 }
 
 /// Writes the usage line.

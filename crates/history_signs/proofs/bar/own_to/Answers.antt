@@ -9,7 +9,7 @@ loop-left-preserved c =
     let items = c.args.items.now in
     let x = c.index-items-place.result in
     let on : c.goes_to-reached.result ≡ goes_to c.args.session c.args.start (get_or items l.place x) l.place l.reached =
-        c.goes_to-reached.ensures.bar ∙ ap (λ it. goes_to c.args.session c.args.start it l.place l.reached) c.index-items-place.is in
+    c.goes_to-reached.ensures.bar ∙ ap (λ it. goes_to c.args.session c.args.start it l.place l.reached) c.index-items-place.is in
     record {
       rest = ap (λ bar. own_to (l.left - 1) c.args.session c.args.start bar (l.place + 1) (drop (l.place + 1) items)) on
           ∙ (own_more l.left c.args.session c.args.start l.reached l.place items x c.loop-left-test.true c.if-place-items.true ∙ l.invariant.rest);
