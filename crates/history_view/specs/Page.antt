@@ -1,5 +1,5 @@
 -- The text of a picture: its page and style, its caption, its lanes, its signs and its legend.
-use Rattle.std.specs.Prelude.{ℕ, zero, suc, ◌+◌, ◌-◌, ◌*◌, ◌/◌, ltb, ◌==◌, Bool, if◌then◌else◌, max, min, List, [], ◌∷◌, ◌++◌, length, codes, decimal}
+use Rattle.std.specs.Prelude.{ℕ, zero, suc, ◌+◌, ◌-◌, ◌*◌, ◌/◌, ltb, ◌==◌, Bool, if◌then◌else◌, max, min, List, [], ◌++◌, length, codes, decimal}
 use Rattle.std.specs.List.{flat_map}
 use Rattle.history_text.specs.Words.{node_text}
 use Rattle.history_signs.specs.declared.earlier.EarlierBar.{EarlierBar}

@@ -1,5 +1,5 @@
 -- A row of words and members in turn: behind its first member, and at its last words.
-use Rattle.std.proofs.Common.{◌≡◌, ◌<◌, ◌≤◌, ℕ, Bor, length, drop, map, get_or, arith, List, [], ◌∷◌, ◌⊎◌, inr, Option, None, Some, Result, Ok, Err, sym}
+use Rattle.std.proofs.Common.{◌≡◌, ◌<◌, ◌≤◌, ℕ, Bor, length, drop, map, get_or, arith, List, [], ◌∷◌, inr, Option, None, Some, Result, Ok, Err, sym}
 use Rattle.std.specs.Prelude.{IfOk, IfSome, MatchOption}
 use Rattle.serde_json.specs.Data.{Data}
 use Rattle.history_reading.specs.ReadWords.{after_text}

@@ -1,11 +1,8 @@
 -- A text that makes no item of a line that is right in all else is no value.
-use Rattle.std.proofs.Common.{◌≡◌, ◌≢◌, ℕ, ◌<◌, ◌≤◌, ◌^◌, List, [], ◌∷◌, ◌++◌, codes, decimal, append_assoc, append-nil, arith, refl, sym, ap, rules, ◌∙◌}
+use Rattle.std.proofs.Common.{◌≡◌, ℕ, List, [], ◌++◌, codes, decimal, append_assoc, append-nil, arith, refl, sym, ap, rules, ◌∙◌}
 use Rattle.std.proofs.lemmas.Fmt.{decimal_digit}
 use Rattle.stamp_base.specs.Words.{IsValue, IsName}
-use Rattle.stamp_base.specs.declared.stage.Stage.{Stage}
 use Rattle.stamp_base.specs.declared.stage.Stage.TheVariants.{Request}
-use Rattle.stamp_base.specs.declared.stores.Store.{Store}
-use Rattle.history_book.specs.declared.item.Actor.{Actor}
 use Rattle.history_book.specs.declared.item.Actor.TheVariants.{Clock}
 use Rattle.history_book.specs.declared.item.Note.TheVariants.{Post, Await, Hold, Free}
 use Rattle.history_book.specs.declared.item.Ending.{Ending}

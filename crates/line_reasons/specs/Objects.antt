@@ -1,5 +1,5 @@
 -- What is wrong with a line of JSON.
-use Rattle.std.specs.Prelude.{◌≡◌, ℕ, suc, ◌<◌, Bool, true, is_some, List, [], ◌∷◌, ◌⊎◌, Option, None, Some, IfSome, MatchOption, IsUtf8, codes, decimal, option_and_then}
+use Rattle.std.specs.Prelude.{◌≡◌, ℕ, suc, ◌<◌, is_some, List, [], ◌∷◌, ◌⊎◌, Option, None, Some, IfSome, MatchOption, IsUtf8, codes, decimal, option_and_then}
 use Rattle.std.specs.Option.{option_map}
 use Rattle.serde_json.specs.Data.{Data, Members, no_members, member}
 use Rattle.serde_json.specs.Find.{as_number, as_object, as_str, as_u64, get}

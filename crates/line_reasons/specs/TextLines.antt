@@ -3,7 +3,6 @@ use Rattle.std.specs.Prelude.{◌≡◌, ◌≢◌, ℕ, ◌-◌, ◌==◌, nat_
 use Rattle.std.specs.List.{list_all}
 use Rattle.history_reading.specs.ReadWords.{after_text, first_word, is_word, word_len}
 use Rattle.history_json.specs.Words.{row_of}
-use Rattle.line_reasons.specs.declared.wants.Wants.{Wants}
 use Rattle.line_reasons.specs.declared.fault.LineFault.{LineFault}
 use Rattle.line_reasons.specs.declared.fault.LineFault.TheVariants as fault
 use Rattle.line_reasons.specs.Wants.{IsNoValue, wants_of}

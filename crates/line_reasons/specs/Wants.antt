@@ -1,5 +1,5 @@
 -- What the text of a member has to be, by the member's name; and which texts are not.
-use Rattle.std.specs.Prelude.{◌≡◌, ◌≢◌, ℕ, ◌||◌, Bool, if◌then◌else◌, List, codes, decimal}
+use Rattle.std.specs.Prelude.{◌≢◌, ℕ, ◌||◌, Bool, if◌then◌else◌, List, codes, decimal}
 use Rattle.stamp_base.specs.Ranges.{IsNumber, IsStamp, IsTerm, IsNode, IsSession, IsKey}
 use Rattle.stamp_base.specs.Words.{IsValue, IsName}
 use Rattle.stamp_base.specs.declared.stage.Stage.{Stage}

@@ -1,4 +1,4 @@
-use Rattle.std.proofs.Common.{◌≡◌, ◌∙◌, Some, false, true, sym, ap}
+use Rattle.std.proofs.Common.{◌≡◌, ◌∙◌, false, true, sym, ap}
 use Rattle.std.specs.Prelude.{is_some}
 use Rattle.line_reasons.proofs.ValueLemmas.{no_value}
 use Rattle.line_reasons.proofs.value.is_value.Goals as goal
