@@ -5,8 +5,8 @@ use Rattle.history_book.specs.declared.item.Item.{Item}
 use Rattle.history_book.specs.declared.item.Item.TheVariants.{Begin, Placed, Read, Write}
 use Rattle.isolation_rules.specs.declared.verdict.Rule.{Rule}
 use Rattle.isolation_rules.specs.declared.verdict.Rule.TheVariants as rule
-use Rattle.history_view.specs.declared.chosen.Chosen.{Chosen}
-use Rattle.history_view.specs.Chosen.{chosen_about}
+use Rattle.history_signs.specs.declared.chosen.Chosen.{Chosen}
+use Rattle.history_signs.specs.Chosen.{chosen_about}
 use Rattle.refusal_reasons.specs.declared.clue.Clue.TheVariants as clue
 use Rattle.refusal_reasons.specs.Sought.{seek}
 use Rattle.breach_reasons.specs.declared.finding.Finding.{Finding}

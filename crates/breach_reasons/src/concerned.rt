@@ -4,7 +4,7 @@ ghost use Rattle.breach_reasons.specs.Concerned.{ask_number, ask_of, asked, brea
 
 use crate::finding::Finding;
 use history_book::{Found, Item};
-use history_view::{Chosen, choose_about};
+use history_signs::{Chosen, choose_about};
 use refusal_reasons::{Clue, seek};
 use si_judge::Rule;
 use stamp_base::{NoMemory, Stamp};

@@ -4,8 +4,8 @@ use Rattle.std.specs.Prelude.{ℕ, List, [], ◌++◌, Option, None, Some, codes
 use Rattle.std.specs.List.{flat_map}
 use Rattle.history_book.specs.declared.item.Item.{Item}
 use Rattle.history_text.specs.Text.{body_of}
-use Rattle.history_view.specs.declared.bar.Bar.{Bar}
-use Rattle.history_view.specs.declared.chosen.Chosen.{Chosen}
+use Rattle.history_signs.specs.declared.bar.Bar.{Bar}
+use Rattle.history_signs.specs.declared.chosen.Chosen.{Chosen}
 use Rattle.history_view.specs.Glyphs.{kind_text}
 use Rattle.history_view.specs.Words.{escaped}
 use Rattle.history_page.specs.declared.html.TheConstants.{BARS, HEAD, SCRIPT, TOLD}

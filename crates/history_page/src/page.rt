@@ -6,7 +6,8 @@ ghost use Rattle.history_page.specs.Pages.{bar_line, bar_line_if, bar_lines, bar
 
 use crate::html::{BARS, HEAD, SCRIPT, TOLD};
 use history_book::Item;
-use history_view::{Bar, BarKind, Chosen, Text};
+use history_signs::{Bar, BarKind, Chosen};
+use history_view::Text;
 use stamp_base::NoMemory;
 
 /// Adds the page of these items, with the bars of those that are chosen and what is told of them.

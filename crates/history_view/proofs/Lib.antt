@@ -1,2 +1,1 @@
-mod SignLemmas
 pub mod TextLemmas

@@ -3,15 +3,15 @@ use Rattle.std.specs.Prelude.{ℕ, ◌==◌, Bool, false, ◌||◌, if◌then◌
 use Rattle.std.specs.List.{flat_map, list_any}
 use Rattle.history_book.specs.declared.item.Item.{Item}
 use Rattle.history_book.specs.declared.item.Item.TheVariants as item
-use Rattle.history_view.specs.declared.bar.Bar.{Bar}
-use Rattle.history_view.specs.declared.bar.BarKind.{BarKind}
-use Rattle.history_view.specs.declared.bar.BarKind.TheVariants as kind
-use Rattle.history_view.specs.declared.earlier.EarlierBar.{EarlierBar}
+use Rattle.history_signs.specs.declared.bar.Bar.{Bar}
+use Rattle.history_signs.specs.declared.bar.BarKind.{BarKind}
+use Rattle.history_signs.specs.declared.bar.BarKind.TheVariants as kind
+use Rattle.history_signs.specs.declared.earlier.EarlierBar.{EarlierBar}
 use Rattle.history_view.specs.declared.glyph.Glyph.{Glyph}
 use Rattle.history_view.specs.declared.glyph.Glyph.TheVariants as glyph
 use Rattle.history_view.specs.declared.glyph.Key.{Key}
 use Rattle.history_view.specs.declared.glyph.Key.TheVariants as key
-use Rattle.history_view.specs.declared.sign.Sign.{Sign}
+use Rattle.history_signs.specs.declared.sign.Sign.{Sign}
 
 abbrev pub glyph_of : Item → Glyph
 glyph_of (item.AskBegin session node) = glyph.Ask

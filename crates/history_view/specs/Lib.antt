@@ -1,9 +1,3 @@
-pub mod Lanes
-pub mod Bars
-pub mod Chosen
-pub mod Shown
-pub mod Signs
-pub mod Earlier
 pub mod Words
 pub mod Glyphs
 pub mod Marks

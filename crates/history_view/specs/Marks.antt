@@ -3,12 +3,12 @@ use Rattle.std.specs.Prelude.{ℕ, ◌+◌, ◌-◌, ◌*◌, ◌%◌, ◌==◌,
 use Rattle.history_book.specs.declared.item.Found.{Found}
 use Rattle.history_book.specs.declared.item.Item.{Item}
 use Rattle.history_book.specs.declared.item.Item.TheVariants as item
-use Rattle.history_view.specs.declared.bar.Bar.{Bar}
-use Rattle.history_view.specs.declared.earlier.EarlierBar.{EarlierBar}
+use Rattle.history_signs.specs.declared.bar.Bar.{Bar}
+use Rattle.history_signs.specs.declared.earlier.EarlierBar.{EarlierBar}
 use Rattle.history_view.specs.declared.glyph.Glyph.{Glyph}
 use Rattle.history_view.specs.declared.glyph.Glyph.TheVariants as glyph
-use Rattle.history_view.specs.declared.sign.Link.{Link}
-use Rattle.history_view.specs.declared.sign.Sign.{Sign}
+use Rattle.history_signs.specs.declared.sign.Link.{Link}
+use Rattle.history_signs.specs.declared.sign.Sign.{Sign}
 use Rattle.history_text.specs.Text.{body_of}
 use Rattle.history_view.specs.Glyphs.{class_text, glyph_of, kind_text, letter}
 use Rattle.history_view.specs.Words.{escaped}
@@ -22,7 +22,7 @@ abbrev pub column_x : Bool → ℕ → ℕ
 column_x wide column = 96 + min (pitch wide * min column 2000) 32000
 
 abbrev pub row_y : ℕ → ℕ
-row_y row = 78 + 38 * min row 26
+row_y row = 78 + 46 * min row 26
 
 -- ---- bars
 unfoldable pub rect_text : ℕ → ℕ → ℕ → List ℕ

@@ -1,12 +1,12 @@
 -- The text of a picture: its page and style, its caption, its lanes, its signs and its legend.
-use Rattle.std.specs.Prelude.{ℕ, zero, suc, ◌+◌, ◌-◌, ◌*◌, ◌/◌, ltb, ◌==◌, Bool, if◌then◌else◌, max, min, List, [], ◌∷◌, ◌++◌, length, codes, decimal}
+use Rattle.std.specs.Prelude.{ℕ, zero, suc, ◌+◌, ◌-◌, ◌*◌, ◌/◌, ltb, ◌==◌, Bool, if◌then◌else◌, max, min, List, [], ◌++◌, length, codes, decimal}
 use Rattle.std.specs.List.{flat_map}
 use Rattle.history_text.specs.Words.{node_text}
-use Rattle.history_view.specs.declared.earlier.EarlierBar.{EarlierBar}
+use Rattle.history_signs.specs.declared.earlier.EarlierBar.{EarlierBar}
 use Rattle.history_view.specs.declared.glyph.Key.{Key}
 use Rattle.history_view.specs.declared.glyph.Key.TheVariants as key
 use Rattle.history_view.specs.declared.picture.Frame.{Frame}
-use Rattle.history_view.specs.declared.sign.Sign.{Sign}
+use Rattle.history_signs.specs.declared.sign.Sign.{Sign}
 use Rattle.history_view.specs.Glyphs.{class_text, keys_for, kind_text, meaning}
 use Rattle.history_view.specs.Marks.{any_arrow_text, any_bar_text, column_x, dot_text, earlier_bar_text, row_y, sign_text}
 use Rattle.history_view.specs.Style.{style_text}

@@ -2,12 +2,10 @@
 ghost use Rattle.std.specs.Prelude.{◌≡◌, ◌∷◌, ◌++◌, ◌==◌, [], IfOk, OnOk, drop};
 ghost use Rattle.std.specs.List.{flat_map, list_any};
 ghost use Rattle.history_view.specs.Glyphs.{class_text, glyph_number, glyph_of, has_kind, if_occurs, keys_for, kind_number, kind_text, letter, meaning, occurs_in};
-ghost use Rattle.history_view.specs.declared.sign.Sign.{Sign};
+ghost use Rattle.history_signs.specs.declared.sign.Sign.{Sign};
 
-use crate::bar::{Bar, BarKind};
-use crate::earlier::EarlierBar;
-use crate::sign::Sign;
 use history_book::Item;
+use history_signs::{Bar, BarKind, EarlierBar, Sign};
 use stamp_base::NoMemory;
 use std::alloc::Global;
 

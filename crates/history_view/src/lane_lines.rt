@@ -48,7 +48,7 @@ fn print_names(
     lane: usize,
     names: usize,
 ) -> Result<(), NoMemory>
-    requires inside { (78 ≤ y) × (y ≤ 1066) }
+    requires inside { (78 ≤ y) × (y ≤ 1274) }
     requires few { 50 * names ≤ 2 ^ 64 - 1 }
     ensures { OnOk result (text.new ≡ text.old ++ names_text wide y lane names) }
 {
@@ -79,7 +79,7 @@ fn print_rule(text: &mut Text, width: u64, y: u64) -> Result<(), NoMemory>
 
 #[tactic(auto, unfolding(crate::specs::Page::name_text))]
 fn print_caption(text: &mut Text, y: u64, lane: usize) -> Result<(), NoMemory>
-    requires { y ≤ 1066 }
+    requires { y ≤ 1274 }
     ensures { OnOk result (text.new ≡ text.old ++ name_text y lane) }
 {
     text.push_field(b"<text class='lane' x='6' y='", y + 4)?;

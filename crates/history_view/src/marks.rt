@@ -2,12 +2,10 @@
 ghost use Rattle.std.specs.Prelude.{◌≡◌, ◌≤◌, ◌++◌, Some, None, OnOk, codes, decimal};
 ghost use Rattle.history_view.specs.Marks.{any_arrow_text, any_bar_text, any_ring_text, arrow_class, arrow_text, bar_text, bent_text, beside, circle_text, column_x, curve_text, dot_text, earlier_bar_text, found_text, is_bad, label, label_text, letter_text, number_text, opener_text, pitch, rect_text, ring_text, row_y, sign_text, stamp_text, title_text, value_text};
 
-use crate::bar::Bar;
-use crate::earlier::EarlierBar;
 use crate::glyph::{Glyph, class_of, glyph_of, kind_word, letter};
-use crate::sign::{Link, Sign};
 use crate::text::Text;
 use history_book::{Found, Item};
+use history_signs::{Bar, EarlierBar, Link, Sign};
 use stamp_base::{NoMemory, Stamp, Value};
 
 /// How far apart columns stand: a wide picture has room for values.
@@ -29,9 +27,9 @@ pub fn column_x(wide: bool, column: usize) -> u64
 /// Where a row stands.
 pub fn row_y(row: usize) -> u64
     ensures y { result ≡ row_y row }
-    ensures within { (78 ≤ result) × (result ≤ 1066) }
+    ensures within { (78 ≤ result) × (result ≤ 1274) }
 {
-    78 + 38 * row.min(26) as u64
+    78 + 46 * row.min(26) as u64
 }
 
 // ---- bars
@@ -180,7 +178,7 @@ fn arrow_class(bad: bool, far: bool) -> &'static [u8]
 /// A curve that leaves its sign across the lane, goes along beside the other lane, and comes to its sign across that. The point of
 /// its arrow stands on the straight part at the end.
 fn print_curve(text: &mut Text, x: u64, y: u64, to_x: u64, to_y: u64) -> Result<(), NoMemory>
-    requires lane { (78 ≤ to_y) × (to_y ≤ 1066) }
+    requires lane { (78 ≤ to_y) × (to_y ≤ 1274) }
     ensures { OnOk result (text.new ≡ text.old ++ curve_text x y to_x to_y) }
 {
     print_bent(
@@ -215,7 +213,7 @@ fn print_bent(
 
 /// Beside the lane to which a curve goes, so far from it.
 fn beside(gap: u64, y: u64, to_y: u64) -> u64
-    requires { (gap ≤ 66) × (78 ≤ to_y) × (to_y ≤ 1066) }
+    requires { (gap ≤ 66) × (78 ≤ to_y) × (to_y ≤ 1274) }
     ensures { result ≡ beside gap y to_y }
 {
     if to_y < y { to_y + gap } else { to_y - gap }
@@ -290,7 +288,7 @@ fn print_circle(text: &mut Text, x: u64, y: u64, radius: u64) -> Result<(), NoMe
 /// The label below a sign.
 #[tactic(auto, unfolding(crate::specs::Marks::label_text))]
 fn print_label(text: &mut Text, wide: bool, x: u64, y: u64, item: &Item) -> Result<(), NoMemory>
-    requires { y ≤ 1066 }
+    requires { y ≤ 1274 }
     ensures { OnOk result (text.new ≡ text.old ++ label_text wide x y item.now) }
 {
     text.push_two(b"<text class='n' x='", x, b"' y='", y + 21)?;

@@ -3,13 +3,12 @@ ghost use Rattle.std.specs.Prelude.{◌≡◌, ◌+◌, ◌/◌, ◌^◌, ◌<�
 ghost use Rattle.history_view.specs.Marks.{row_y};
 ghost use Rattle.history_view.specs.Page.{arrows_text, bars_text, body_text, earlier_text, legends_text, page_text, page_width, picture_text, signs_text};
 
-use crate::earlier::EarlierBar;
 use crate::glyph::{Key, keys_of};
 use crate::lane_lines::print_lines;
 use crate::marks::{print_any_arrow, print_any_bar, print_earlier_bar, print_sign, row_y};
 use crate::page::{page_width, print_head, print_legends};
-use crate::sign::Sign;
 use crate::text::Text;
+use history_signs::{EarlierBar, Sign};
 use stamp_base::NoMemory;
 use std::alloc::Global;
 

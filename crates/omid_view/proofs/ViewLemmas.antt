@@ -7,10 +7,11 @@ use Rattle.port_io.specs.Ports.{Gains, Gives, IsAtEnd}
 use Rattle.history_book.specs.declared.item.Item.{Item}
 use Rattle.history_json.specs.History.{AreItems, IsFirstBad}
 use Rattle.history_json.proofs.OneHistory.{too_long_is_bad}
+use Rattle.line_reasons.specs.Reasons.{AddsReasonAt}
 use Rattle.omid_view.proofs.WordLemmas.{one_command}
 use Rattle.omid_view.specs.declared.command.Command.{Command}
 use Rattle.omid_view.specs.declared.command.Command.TheVariants.{Breach, Explain, Page, Picture}
-use Rattle.omid_view.specs.Views.{GainsFront, IsEnd, IsTold, Judges, Makes, Names, Shown, ShownFront, ShownFrontOf, ShownOf, Views, bad_line_text}
+use Rattle.omid_view.specs.Views.{GainsFront, IsEnd, IsTold, Judges, Makes, Names, LineCut, LineTold, Shown, ShownFront, ShownFrontOf, ShownOf, TellsLine, Views}
 
 -- ---- statuses
 pub view_codes : (code : ℕ) → IsTold code ⊎ (code ≡ 5) ⊎ (code ≡ 6) → IsTold code ⊎ (4 ≤ code) × (code ≤ 6)
@@ -18,29 +19,33 @@ view_codes code (inl told) = inl told
 view_codes code (inr (inl e)) = inr (omega (arith, e), omega (arith, e))
 view_codes code (inr (inr e)) = inr (omega (arith, e), omega (arith, e))
 
-pub named_codes : (code : ℕ) → (code ≡ 3) ⊎ (code ≡ 5) → IsTold code ⊎ (4 ≤ code) × (code ≤ 6)
+pub named_codes : (code : ℕ) → (code ≡ 3) ⊎ (code ≡ 5) ⊎ (code ≡ 6) → IsTold code ⊎ (4 ≤ code) × (code ≤ 6)
 named_codes code (inl e) = inl (inr (inl e))
-named_codes code (inr e) = inr (omega (arith, e), omega (arith, e))
+named_codes code (inr (inl e)) = inr (omega (arith, e), omega (arith, e))
+named_codes code (inr (inr e)) = inr (omega (arith, e), omega (arith, e))
 
-pub named_is_no_end : {P : Type 0} (code : ℕ) → (code ≡ 3) ⊎ (code ≡ 5) → (code ≡ 0) ⊎ (code ≡ 7) → P
+pub named_is_no_end : {P : Type 0} (code : ℕ) → (code ≡ 3) ⊎ (code ≡ 5) ⊎ (code ≡ 6) → (code ≡ 0) ⊎ (code ≡ 7) → P
 named_is_no_end code (inl e) (inl done) = absurd (omega (arith, e, done))
 named_is_no_end code (inl e) (inr broken) = absurd (omega (arith, e, broken))
-named_is_no_end code (inr e) (inl done) = absurd (omega (arith, e, done))
-named_is_no_end code (inr e) (inr broken) = absurd (omega (arith, e, broken))
+named_is_no_end code (inr (inl e)) (inl done) = absurd (omega (arith, e, done))
+named_is_no_end code (inr (inl e)) (inr broken) = absurd (omega (arith, e, broken))
+named_is_no_end code (inr (inr e)) (inl done) = absurd (omega (arith, e, done))
+named_is_no_end code (inr (inr e)) (inr broken) = absurd (omega (arith, e, broken))
 
 pub told_whole : (code : ℕ) → IsTold code → code ≡ 5 → ⊥
 told_whole code (inl e) five = omega (arith, e, five)
 told_whole code (inr (inl e)) five = omega (arith, e, five)
 told_whole code (inr (inr e)) five = omega (arith, e, five)
 
-pub told_three : (code : ℕ) → (code ≡ 3) ⊎ (code ≡ 5) → IsTold code → code ≡ 3
-told_three code (inl e) told = e
-told_three code (inr e) told = absurd (told_whole code told e)
-
 untold : (code : ℕ) → 3 < code → code < 7 → IsTold code → ⊥
 untold code low high (inl e) = omega (arith, e, low)
 untold code low high (inr (inl e)) = omega (arith, e, low)
 untold code low high (inr (inr e)) = omega (arith, e, high)
+
+pub told_three : (code : ℕ) → (code ≡ 3) ⊎ (code ≡ 5) ⊎ (code ≡ 6) → IsTold code → code ≡ 3
+told_three code (inl e) told = e
+told_three code (inr (inl e)) told = absurd (told_whole code told e)
+told_three code (inr (inr e)) told = absurd (untold code (omega (arith, e)) (omega (arith, e)) told)
 
 no_end : (code : ℕ) → 3 < code → code < 7 → (code ≡ 0) ⊎ (code ≡ 7) → ⊥
 no_end code low high (inl e) = omega (arith, e, low)
@@ -82,14 +87,32 @@ items_judged command items code held now shown seven =
     let it = shown (inr seven) in
     seven_judges command items code it.text it.made seven
 
-pub bad_shown : (command : Command) (bytes : List ℕ) (line code : ℕ) (held now : Option (List ℕ)) → IsFirstBad bytes line → (code ≡ 3) ⊎ (code ≡ 5) → (code ≡ 3 → Gains held now (bad_line_text line)) → IsTold code → Shown command bytes code held now
+pub bad_shown : (command : Command) (bytes : List ℕ) (line code : ℕ) (held now : Option (List ℕ)) → IsFirstBad bytes line → (code ≡ 3) ⊎ (code ≡ 5) ⊎ (code ≡ 6)
+    → (code ≡ 3 → LineTold command bytes line held now) → IsTold code → Shown command bytes code held now
 bad_shown command bytes line code held now bad codes named told =
     let three : code ≡ 3 = told_three code codes told in
-    record { text = bad_line_text line; right = inr (record { line = line; bad = bad; status = three; is = refl }); told = named three }
+    let it = named three in
+    record { text = it.text; right = inr (record { line = line; bad = bad; status = three; is = it.is }); told = it.told }
 
-pub bad_front : (command : Command) (bytes : List ℕ) (line : ℕ) (held now : Option (List ℕ)) → IsFirstBad bytes line → GainsFront held now (bad_line_text line) → ShownFront command bytes held now
-bad_front command bytes line held now bad told =
-    record { text = bad_line_text line; code = 3; right = inr (record { line = line; bad = bad; status = refl; is = refl }); told = told }
+pub bad_front : (command : Command) (bytes : List ℕ) (line : ℕ) (held now : Option (List ℕ)) → IsFirstBad bytes line → LineCut command bytes line held now → ShownFront command bytes held now
+bad_front command bytes line held now bad it =
+    record { text = it.text; code = 3; right = inr (record { line = line; bad = bad; status = refl; is = it.is }); told = it.told }
+
+-- of too many bytes the same is told, whichever they are
+none_of : (bytes other : List ℕ) (old new : List ℕ) → AddsReasonAt other 0 old new → AddsReasonAt bytes 0 old new
+none_of bytes other old new it = record { long = it.long; line = λ some. absurd (omega (arith, some)) }
+
+too_many_told : (command : Command) (bytes other : List ℕ) (text : List ℕ) → TellsLine command other 0 text → TellsLine command bytes 0 text
+too_many_told (Explain strict) bytes other text it = none_of bytes other _ _ it
+too_many_told (Picture from to brief) bytes other text it = it
+too_many_told (Breach strict) bytes other text it = it
+too_many_told (Page strict) bytes other text it = it
+
+pub any_told : (command : Command) (bytes other : List ℕ) (held now : Option (List ℕ)) → LineTold command other 0 held now → LineTold command bytes 0 held now
+any_told command bytes other held now it = record { text = it.text; is = too_many_told command bytes other it.text it.is; told = it.told }
+
+pub any_cut : (command : Command) (bytes other : List ℕ) (held now : Option (List ℕ)) → LineCut command other 0 held now → LineCut command bytes 0 held now
+any_cut command bytes other held now it = record { text = it.text; is = too_many_told command bytes other it.text it.is; told = it.told }
 
 -- ---- the words
 pub views_for : (found : Command) (words : List (List ℕ)) (code : ℕ) (left rest held now : Option (List ℕ)) → Names found words → Views found code left rest held now → (command : Command) → Names command words → Views command code left rest held now

@@ -4,15 +4,16 @@ use Rattle.std.specs.Prelude.{◌≡◌, ◌≢◌, ℕ, ◌+◌, ◌-◌, ◌�
 use Rattle.port_io.specs.Ports.{Gains, IsAtEnd}
 use Rattle.history_book.specs.declared.item.Item.{Item}
 use Rattle.history_json.specs.History.{AreItems, IsFirstBad}
-use Rattle.history_view.specs.declared.chosen.Chosen.{Chosen}
+use Rattle.history_signs.specs.declared.chosen.Chosen.{Chosen}
 use Rattle.history_view.specs.declared.picture.Frame.{Frame}
-use Rattle.history_view.specs.declared.sign.Sign.{Sign}
-use Rattle.history_view.specs.Chosen.{chosen_in}
-use Rattle.history_view.specs.Earlier.{earlier_bars}
-use Rattle.history_view.specs.Lanes.{lanes_for}
-use Rattle.history_view.specs.Signs.{AreSigns}
+use Rattle.history_signs.specs.declared.sign.Sign.{Sign}
+use Rattle.history_signs.specs.Chosen.{chosen_in}
+use Rattle.history_signs.specs.Earlier.{earlier_bars}
+use Rattle.history_signs.specs.Lanes.{lanes_for}
+use Rattle.history_signs.specs.Signs.{AreSigns}
 use Rattle.history_view.specs.Page.{picture_text}
 use Rattle.history_page.specs.Pages.{page_text}
+use Rattle.line_reasons.specs.Reasons.{AddsReasonAt}
 use Rattle.refusal_reasons.specs.Words.{explanations}
 use Rattle.breach_reasons.specs.declared.finding.Finding.{Finding}
 use Rattle.breach_reasons.specs.Breaches.{breach_text}
@@ -189,14 +190,30 @@ pub record IsView (command : Command) (bytes : List ℕ) (code : ℕ) (text : Li
 abbrev pub bad_line_text : ℕ → List ℕ
 bad_line_text line = codes "history line " ++ decimal line ++ codes ": not an item\n"
 
-pub record NamesBadLine (bytes : List ℕ) (code : ℕ) (text : List ℕ) : Type 0 where
+-- behind it `explain` tells why it is none
+abbrev pub TellsLine : Command → List ℕ → ℕ → List ℕ → Type 0
+TellsLine (Explain strict) bytes line text = AddsReasonAt bytes line (bad_line_text line) text
+TellsLine _ bytes line text = text ≡ bad_line_text line
+
+pub record NamesBadLine (command : Command) (bytes : List ℕ) (code : ℕ) (text : List ℕ) : Type 0 where
   pub line : ℕ
   pub bad : IsFirstBad bytes line
   pub status : code ≡ 3
-  pub is : text ≡ bad_line_text line
+  pub is : TellsLine command bytes line text
 
 abbrev pub IsRight : Command → List ℕ → ℕ → List ℕ → Type 0
-IsRight command bytes code text = IsView command bytes code text ⊎ NamesBadLine bytes code text
+IsRight command bytes code text = IsView command bytes code text ⊎ NamesBadLine command bytes code text
+
+-- this line of the bytes was told of, or a front of that went out
+pub record LineTold (command : Command) (bytes : List ℕ) (line : ℕ) (held now : Option (List ℕ)) : Type 0 where
+  pub text : List ℕ
+  pub is : TellsLine command bytes line text
+  pub told : Gains held now text
+
+pub record LineCut (command : Command) (bytes : List ℕ) (line : ℕ) (held now : Option (List ℕ)) : Type 0 where
+  pub text : List ℕ
+  pub is : TellsLine command bytes line text
+  pub told : GainsFront held now text
 
 -- a right text went out whole, with its status
 pub record Shown (command : Command) (bytes : List ℕ) (code : ℕ) (held now : Option (List ℕ)) : Type 0 where

@@ -1,7 +1,7 @@
 // What a command makes of items.
 ghost use Rattle.std.specs.Prelude.{◌≡◌, ◌+◌, ◌-◌, ◌≤◌, ◌<◌, ◌^◌, ◌⊎◌, IfOk, false, length, min};
 ghost use Rattle.breach_reasons.specs.Findings.{finding_status};
-ghost use Rattle.history_view.specs.Chosen.{chosen_in};
+ghost use Rattle.history_signs.specs.Chosen.{chosen_in};
 ghost use Rattle.history_page.specs.Pages.{page_text};
 ghost use Rattle.omid_view.specs.Views.{Explains, IsBreachOf, IsInRange, IsPictureOf, IsSound, Makes, PagesHistory, PicturesBreach, PicturesPart, breach_frame, first_of, first_place, last_of, part_frame, shown_count, told_of};
 
@@ -10,9 +10,8 @@ use crate::status;
 use breach_reasons::{Finding, breach_items, find, print_finding, print_line, ringed};
 use history_book::Item;
 use history_page::print_history_page;
-use history_view::{
-    Chosen, Frame, Text, choose_part, earlier_bars, lanes_of, print_picture, signs_of,
-};
+use history_signs::{Chosen, choose_part, earlier_bars, lanes_of, signs_of};
+use history_view::{Frame, Text, print_picture};
 use refusal_reasons::explain_refusals;
 use stamp_base::NoMemory;
 use std::alloc::Global;

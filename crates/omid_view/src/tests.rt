@@ -37,7 +37,7 @@ const USAGE: &str =
 /// The bars of the items 2 and 3 of `LOST`, behind that of the first.
 const PART: &str =
     "<g class='committed'><title>before: begin s0 start=1</title><rect x='82' y='67' width='53' height='22' rx='7'/></g>
-<g class='committed'><title>2: begin s1 start=2</title><rect x='89' y='105' width='46' height='22' rx='7'/></g>
+<g class='committed'><title>2: begin s1 start=2</title><rect x='89' y='113' width='46' height='22' rx='7'/></g>
 ";
 
 /// The second ringed sign of the breach in `LOST`.
@@ -100,6 +100,18 @@ fn tells_what_the_words_name(rt: HostRuntime) -> Result<(), Fail> {
             "explain",
             "begin s0\n",
             status::BAD_INPUT,
+            "history line 1: not an item\n    member `start` is missing\n",
+        ),
+        (
+            "explain",
+            "\n{\"kind\":\"tick\",\"to\":\"1\"}\n",
+            status::BAD_INPUT,
+            "history line 2: not an item\n    member `to`: a whole number below 18446744073709551616, with no zero in front\n",
+        ),
+        (
+            "picture",
+            "begin s0\n",
+            status::BAD_INPUT,
             "history line 1: not an item\n",
         ),
         ("picture 0 5", LOST, status::USAGE, USAGE),
@@ -135,6 +147,13 @@ fn writes_a_page(rt: HostRuntime) -> Result<(), Fail> {
     for (words, history, status, part) in [
         ("page", LOST, status::NOT_ISOLATED, PAGED),
         ("page", REFUSED, status::DONE, REFUSED_TOLD),
+        // The session has another transaction before the first one's commit is placed.
+        (
+            "page",
+            "begin s0 start=1\nbegin s0 start=2\nplaced start=1 commit=3\n",
+            status::DONE,
+            "\n1 2 committed\n2 1 open\n",
+        ),
         (
             "page strict",
             "write s0 start=1 k0 </script>&\n",

@@ -1,7 +1,7 @@
 // What the program does for its words.
-ghost use Rattle.std.specs.Prelude.{◌≡◌, ◌≢◌, ◌≤◌, ◌⊎◌, ℕ, List, OnOk, OnErr, map, string_bytes};
+ghost use Rattle.std.specs.Prelude.{◌≡◌, ◌≢◌, ◌≤◌, ◌⊎◌, ◌++◌, ℕ, List, IfOk, OnOk, OnErr, map, string_bytes};
 ghost use Rattle.port_io.specs.Ports.{Risen, Gains};
-ghost use Rattle.omid_view.specs.Views.{GainsFront, IsEnd, IsJudging, IsKnown, Judges, IsSound, IsTold, Names, SaysUsage, Shown, ShownFront, ShownFrontOf, ShownOf, Views, bad_line_text, usage_text};
+ghost use Rattle.omid_view.specs.Views.{GainsFront, IsEnd, IsJudging, IsKnown, Judges, IsSound, IsTold, LineCut, LineTold, Names, SaysUsage, Shown, ShownFront, ShownFrontOf, ShownOf, TellsLine, Views, bad_line_text, usage_text};
 ghost use Rattle.omid_view.specs.declared.command.Command.{Command};
 
 use crate::command::{Command, command_of};
@@ -12,8 +12,9 @@ use history_json::read_history;
 use history_reading::HistoryFault;
 use history_text::LineBuf;
 use history_view::Text;
+use line_reasons::print_reason;
 use port_io::{Failed, ReadStop, Sink, Source, read_up_to, write_all_of};
-use stamp_base::BYTE_LIMIT;
+use stamp_base::{BYTE_LIMIT, NoMemory};
 use std::alloc::Global;
 
 /// Carries out what the words name: reads a history, and writes its picture or that of what is broken in it, what is broken and the
@@ -63,13 +64,13 @@ fn view_source<S: Source, K: Sink>(
 {
     match read_up_to(alloc, source, BYTE_LIMIT) {
         Ok(bytes) => view_bytes(alloc, command, &bytes, sink),
-        Err(ReadStop::TooLong) => bad_line(sink, 0),
+        Err(ReadStop::TooLong) => bad_line(alloc, command, b"", 0, sink),
         Err(ReadStop::Failed) => status::SOURCE_FAILED,
         Err(ReadStop::NoMemory) => status::NO_MEMORY,
     }
 }
 
-/// Writes what the command makes of the history that the bytes are, or names the first line that is no item.
+/// Writes what the command makes of the history that the bytes are, or tells of the first line that is no item.
 #[tactic(auto, using(crate::proofs::ViewLemmas::of_items, crate::proofs::ViewLemmas::front_of_items, crate::proofs::ViewLemmas::bad_shown, crate::proofs::ViewLemmas::bad_front, crate::proofs::ViewLemmas::items_judged))]
 fn view_bytes<K: Sink>(alloc: Global, command: Command, bytes: &[u8], sink: &mut K) -> u8
     requires { IsSound command }
@@ -83,7 +84,7 @@ fn view_bytes<K: Sink>(alloc: Global, command: Command, bytes: &[u8], sink: &mut
 {
     match read_history(alloc, bytes) {
         Ok(items) => view_items(alloc, command, &items, sink),
-        Err(HistoryFault::At { line }) => bad_line(sink, line),
+        Err(HistoryFault::At { line }) => bad_line(alloc, command, bytes, line, sink),
         Err(HistoryFault::NoMemory) => status::NO_MEMORY,
     }
 }
@@ -128,29 +129,52 @@ fn print_made<K: Sink>(sink: &mut K, text: &Text) -> Result<(), Failed>
     print_text(sink, text.as_slice())
 }
 
-/// Names a line that is no item.
-fn bad_line<K: Sink>(sink: &mut K, number: u64) -> u8
-    ensures told { result ≡ 3 → Gains (K.held sink.old) (K.held sink.new) (bad_line_text number) }
-    ensures cut { result ≡ 5 → GainsFront (K.held sink.old) (K.held sink.new) (bad_line_text number) }
+/// Names a line of the bytes that is no item, and for `explain` tells why. Line 0 stands for too many bytes.
+fn bad_line<K: Sink>(alloc: Global, command: Command, bytes: &[u8], number: u64, sink: &mut K) -> u8
+    ensures told { result ≡ 3 → LineTold command bytes.now number (K.held sink.old) (K.held sink.new) }
+    ensures cut { result ≡ 5 → LineCut command bytes.now number (K.held sink.old) (K.held sink.new) }
+    ensures failed { result ≡ 5 → Risen (K.faults sink.old) (K.faults sink.new) }
+    ensures worked { result ≢ 5 → K.faults sink.new ≡ K.faults sink.old }
+    ensures no_memory { result ≡ 6 → sink.new ≡ sink.old }
+    ensures codes { (result ≡ 3) ⊎ (result ≡ 5) ⊎ (result ≡ 6) }
+{
+    match line_told(alloc, command, bytes, number) {
+        Ok(text) => show_line(sink, &text),
+        Err(_) => status::NO_MEMORY,
+    }
+}
+
+fn show_line<K: Sink>(sink: &mut K, text: &Text) -> u8
+    ensures told { result ≡ 3 → Gains (K.held sink.old) (K.held sink.new) text.now }
+    ensures cut { result ≡ 5 → GainsFront (K.held sink.old) (K.held sink.new) text.now }
     ensures failed { result ≡ 5 → Risen (K.faults sink.old) (K.faults sink.new) }
     ensures worked { result ≢ 5 → K.faults sink.new ≡ K.faults sink.old }
     ensures codes { (result ≡ 3) ⊎ (result ≡ 5) }
 {
-    match print_bad_line(sink, number) {
+    match print_made(sink, text) {
         Ok(()) => status::BAD_INPUT,
         Err(_) => status::SINK_FAILED,
     }
 }
 
-fn print_bad_line<K: Sink>(sink: &mut K, number: u64) -> Result<(), Failed>
-    ensures all { OnOk result (Gains (K.held sink.old) (K.held sink.new) (bad_line_text number)) }
-    ensures front { OnErr result (GainsFront (K.held sink.old) (K.held sink.new) (bad_line_text number)) }
-    ensures failed { OnErr result (Risen (K.faults sink.old) (K.faults sink.new)) }
-    ensures worked { OnOk result (K.faults sink.new ≡ K.faults sink.old) }
+/// What is told of a line that is no item.
+fn line_told(alloc: Global, command: Command, bytes: &[u8], number: u64) -> Result<Text, NoMemory>
+    ensures { IfOk result (λ text. TellsLine command bytes.now number text) }
+{
+    let mut text = Text::new(alloc);
+    print_bad_line(&mut text, number)?;
+    if let Command::Explain { .. } = command {
+        print_reason(alloc, &mut text, bytes, number)?;
+    }
+    Ok(text)
+}
+
+fn print_bad_line(text: &mut Text, number: u64) -> Result<(), NoMemory>
+    ensures { OnOk result (text.new ≡ text.old ++ bad_line_text number) }
 {
     let mut line = LineBuf::new();
     set_bad_line(&mut line, number);
-    print_text(sink, line.as_slice())
+    text.push(line.as_slice())
 }
 
 fn set_bad_line(line: &mut LineBuf, number: u64)

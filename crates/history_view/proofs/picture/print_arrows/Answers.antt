@@ -1,5 +1,5 @@
 use Rattle.std.proofs.Common.{arith, ◌∙◌, ◌++◌, ap}
-use Rattle.history_view.specs.declared.sign.Sign.{Sign}
+use Rattle.history_signs.specs.declared.sign.Sign.{Sign}
 use Rattle.history_view.specs.Marks.{any_arrow_text}
 use Rattle.history_view.proofs.TextLemmas.{one_each}
 use Rattle.history_view.proofs.picture.print_arrows.Goals as goal

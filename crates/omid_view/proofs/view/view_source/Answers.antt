@@ -1,6 +1,6 @@
-use Rattle.std.proofs.Common.{Err, ap, sym, arith}
+use Rattle.std.proofs.Common.{Err, [], ap, sym, arith}
 use Rattle.omid_view.specs.Views.{Shown, ShownFront}
-use Rattle.omid_view.proofs.ViewLemmas.{view_codes, named_codes, named_is_no_end, bad_front, bad_shown, views_silently, of_all_left, of_too_many}
+use Rattle.omid_view.proofs.ViewLemmas.{any_cut, any_told, view_codes, named_codes, named_is_no_end, bad_front, bad_shown, views_silently, of_all_left, of_too_many}
 use Rattle.omid_view.proofs.view.view_source.Goals as goal
 
 pub returns-in-Ok-clause-views : goal.returns-in-Ok-clause-views
@@ -20,11 +20,11 @@ returns-in-Err-TooLong-clause-views g c = record {
   read = named_is_no_end _ c.bad_line.ensures.codes;
   shown = λ told.
       of_too_many _ (λ bytes. Shown c.args.command bytes c.bad_line.result (g.K.Sink.held c.args.sink.now) (g.K.Sink.held c.bad_line.new.sink))
-      (λ bytes bad. bad_shown c.args.command bytes 0 _ _ _ bad c.bad_line.ensures.codes c.bad_line.ensures.told told)
+      (λ bytes bad. bad_shown c.args.command bytes 0 _ _ _ bad c.bad_line.ensures.codes (λ three. any_told c.args.command bytes [] _ _ (c.bad_line.ensures.told three)) told)
       (c.in-Err-TooLong.ensures.too_long (ap Err c.in-Err-TooLong.field-0-is));
   cut = λ five.
       of_too_many _ (λ bytes. ShownFront c.args.command bytes (g.K.Sink.held c.args.sink.now) (g.K.Sink.held c.bad_line.new.sink))
-      (λ bytes bad. bad_front c.args.command bytes 0 _ _ bad (c.bad_line.ensures.cut five))
+      (λ bytes bad. bad_front c.args.command bytes 0 _ _ bad (any_cut c.args.command bytes [] _ _ (c.bad_line.ensures.cut five)))
       (c.in-Err-TooLong.ensures.too_long (ap Err c.in-Err-TooLong.field-0-is));
   codes = named_codes _ c.bad_line.ensures.codes;
 }

@@ -1,0 +1,2 @@
+mod BarLemmas
+mod SignLemmas

@@ -1,0 +1,6 @@
+pub mod Lanes
+pub mod Bars
+pub mod Chosen
+pub mod Shown
+pub mod Signs
+pub mod Earlier

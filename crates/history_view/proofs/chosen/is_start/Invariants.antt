@@ -1,6 +1,0 @@
-use Rattle.std.proofs.Common.{◌≡◌, drop}
-use Rattle.history_view.specs.Chosen.{is_among}
-use Rattle.history_view.proofs.chosen.is_start.Given as goal
-
-abbrev pub invariant-loop-other : goal.invariant-loop-other
-invariant-loop-other l = is_among l.start (drop l.other-index l.starts) ≡ is_among l.start l.starts

@@ -1,6 +1,0 @@
-use Rattle.std.proofs.Common.{◌≡◌, drop}
-use Rattle.history_view.specs.Chosen.{is_among}
-use Rattle.history_view.proofs.earlier.is_lane.Given as goal
-
-abbrev pub invariant-loop-other : goal.invariant-loop-other
-invariant-loop-other l = is_among l.lane (drop l.other-index l.lanes) ≡ is_among l.lane l.lanes

@@ -1,6 +1,0 @@
-use Rattle.std.proofs.Common.{◌≡◌, drop}
-use Rattle.history_view.specs.Lanes.{occurs}
-use Rattle.history_view.proofs.lane.occurs.Given as goal
-
-abbrev pub invariant-loop-one : goal.invariant-loop-one
-invariant-loop-one l = occurs l.lane (drop l.one-index l.chosen) ≡ occurs l.lane l.chosen

@@ -1,0 +1,3 @@
+mod ValueLemmas
+mod RowLemmas
+mod ObjectLemmas
