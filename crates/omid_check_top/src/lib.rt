@@ -17,6 +17,8 @@ mod steps;
 #[cfg(test)]
 mod tests;
 #[cfg(test)]
+mod told_tests;
+#[cfg(test)]
 mod traces;
 #[cfg(test)]
 mod word_tests;

@@ -3,7 +3,7 @@ ghost use Rattle.std.specs.Prelude.{◌≡◌, IfOk};
 ghost use Rattle.trace_reading.specs.FaultText.{fault_text};
 ghost use Rattle.trace_index.specs.Attempts.{attempts_of};
 ghost use Rattle.trace_report.specs.Verdict.{unclear_text};
-ghost use Rattle.omid_check_top.specs.Verdicts.{IsOfRecording, IsRight, IsVerdict, too_long_text};
+ghost use Rattle.omid_check_top.specs.Verdicts.{IsOfRecording, IsRight, IsVerdict, status_of, too_long_text};
 
 use crate::judged::judged;
 use crate::status;
@@ -60,7 +60,7 @@ pub fn too_long(alloc: Global) -> Result<Made, NoMemory>
 }
 
 /// What is said of the trace that was read.
-#[tactic(auto, using(crate::proofs::MadeLemmas::of_index, crate::proofs::MadeLemmas::of_blame))]
+#[tactic(auto, using(crate::proofs::MadeLemmas::of_index, crate::proofs::MadeLemmas::of_blame, crate::proofs::MadeLemmas::unclear_ends))]
 fn of_recording(alloc: Global, question: Question, recording: &Recording) -> Result<Made, NoMemory>
     ensures right { IfOk result (λ made. IsOfRecording question recording.now made.code made.text.items) }
     ensures codes { IfOk result (λ made. IsVerdict made.code) }
@@ -79,7 +79,23 @@ fn of_recording(alloc: Global, question: Question, recording: &Recording) -> Res
     }
 }
 
-/// Of which operation it is not clear who wrote what.
+/// The status of what is not clear: that the trace can't be judged, or, of a list that no order of appends gives, that it is not as
+/// asked.
+fn status_of(what: Unclear) -> u8
+    ensures { result ≡ status_of what }
+{
+    match what {
+        Unclear::WrittenTwice | Unclear::WrittenByNobody | Unclear::VersionTwice => {
+            status::BAD_INPUT
+        }
+        Unclear::ListedTwice
+        | Unclear::ListedDirty
+        | Unclear::ListedApart
+        | Unclear::ListsDiffer => status::REFUSED,
+    }
+}
+
+/// Of which operation it is not clear who wrote what, or that it gave such a list.
 fn unclear(
     alloc: Global,
     recording: &Recording,
@@ -88,7 +104,7 @@ fn unclear(
     value: u64,
     what: Unclear,
 ) -> Result<Made, NoMemory>
-    ensures code { IfOk result (λ made. made.code ≡ 3) }
+    ensures code { IfOk result (λ made. made.code ≡ status_of what) }
     ensures told { IfOk result (λ made. made.text.items ≡ unclear_text recording.now.names (attempts_of recording.now.events) txn key value what) }
 {
     let attempts = attempts_of(alloc, recording.events())?;
@@ -96,6 +112,6 @@ fn unclear(
     push_unclear(&mut text, recording, &attempts, txn, key, value, what)?;
     Ok(Made {
         text,
-        code: status::BAD_INPUT,
+        code: status_of(what),
     })
 }

@@ -11,7 +11,7 @@ use stamp_base::NoMemory;
 use stamped_history::{Limit, NoHistory, history_of, text_of};
 use std::alloc::Global;
 use trace_index::Indexed;
-use trace_judge::{Verdict, judge_wanted};
+use trace_judge::{Verdict, judge_told};
 use trace_reading::{Recording, push_words};
 use trace_rules::{Level, Wanted};
 
@@ -25,15 +25,16 @@ pub fn stamps(
     recording: &Recording,
     indexed: &Indexed,
 ) -> Result<Made, NoMemory>
-    ensures found { IfOk result (λ made. AreStamped level wanted (subject_of recording.now indexed.now.attempts.items indexed.now.trace indexed.now.times.items) made.code made.text.items) }
+    ensures found { IfOk result (λ made. AreStamped level wanted (subject_of recording.now indexed.now.attempts.items indexed.now.trace indexed.now.times.items indexed.now.ranks.items) made.code made.text.items) }
     ensures codes { IfOk result (λ made. IsVerdict made.code) }
 {
-    match judge_wanted(
+    match judge_told(
         alloc,
         level,
         wanted,
         &indexed.trace.transactions,
         &indexed.times,
+        &indexed.ranks,
         &indexed.trace.operations,
     )? {
         Verdict::Holds(numbers) => shown(alloc, level, wanted, recording, indexed, &numbers),
@@ -54,7 +55,7 @@ fn shown(
     numbers: &[usize],
 ) -> Result<Made, NoMemory>
     requires { AreStamps level (asked_of wanted level indexed.now.times.items indexed.now.trace) indexed.now.trace numbers.now }
-    ensures found { IfOk result (λ made. AreStamped level wanted (subject_of recording.now indexed.now.attempts.items indexed.now.trace indexed.now.times.items) made.code made.text.items) }
+    ensures found { IfOk result (λ made. AreStamped level wanted (subject_of recording.now indexed.now.attempts.items indexed.now.trace indexed.now.times.items indexed.now.ranks.items) made.code made.text.items) }
     ensures codes { IfOk result (λ made. IsVerdict made.code) }
 {
     match history_text(alloc, level, recording, indexed, numbers) {

@@ -2,3 +2,4 @@ mod FlagLemmas
 mod ChoiceLemmas
 mod LeftLemmas
 mod RoundLemmas
+mod PlaceLemmas

@@ -2,15 +2,23 @@
 use stamp_base::NoMemory;
 use std::alloc::{AllocError, AllocFailed};
 
-/// What does not let writers be known by their values.
+/// What does not let writers or their order be known, or what is wrong with a list.
 #[derive(Clone, Copy, Debug, PartialEq, Eq)]
 pub enum Unclear {
     /// This value was written at the key before.
     WrittenTwice,
     /// Nobody wrote this value at the key.
     WrittenByNobody,
-    /// A list was read or appended to, which is not judged.
-    Lists,
+    /// The version of this number is told of another writer too.
+    VersionTwice,
+    /// The list that was read has this value twice.
+    ListedTwice,
+    /// The list that was read has this value, of a transaction that does not count as committed.
+    ListedDirty,
+    /// The list that was read has this value, and not just before it what its transaction appended before it.
+    ListedApart,
+    /// The list that was read, which ends in this value, is no front of the longest one of its key.
+    ListsDiffer,
 }
 
 /// Why what was recorded is no trace.

@@ -1,5 +1,5 @@
 // Who wrote each value at each key.
-ghost use Rattle.std.specs.Prelude.{◌≡◌, [], Ok};
+ghost use Rattle.std.specs.Prelude.{◌≡◌, [], Ok, length, option_map, slice_get};
 ghost use Rattle.trace_index.specs.Versions.{writers_from};
 ghost use Rattle.trace_index.specs.Blames.{Leaves, Makes};
 
@@ -16,6 +16,14 @@ pub struct Writers {
     by: IndexMap<(u64, u64), usize>,
 }
 
+/// A value that was written at a key.
+#[derive(Clone, Copy)]
+pub struct Written {
+    pub key: u64,
+    pub value: u64,
+    pub txn: usize,
+}
+
 impl Model for Writers {
     ghost use Rattle.trace_index.specs.Versions as versions;
 
@@ -26,6 +34,7 @@ impl Model for Writers {
 
 impl Writers {
     ghost use Rattle.trace_index.specs.Versions.{unless_written, writer_of, writer_step, written};
+    ghost use Rattle.trace_index.specs.Lists.{written_at};
 
     /// Of no operations.
     fn new(alloc: Global) -> Writers
@@ -43,15 +52,35 @@ impl Writers {
         self.by.get(&(key, value)).copied()
     }
 
+    /// How many values were written.
+    pub fn len(&self) -> usize
+        ensures { result ≡ length self.now }
+    {
+        self.by.len()
+    }
+
+    /// The key and value that were written behind so many others, and by whom.
+    pub fn at(&self, place: usize) -> Option<Written>
+        ensures { result ≡ option_map written_at (slice_get self.now place) }
+    {
+        match self.by.get_index(place) {
+            Some((name, txn)) => Some(Written {
+                key: name.0,
+                value: name.1,
+                txn: *txn,
+            }),
+            None => None,
+        }
+    }
+
     /// Notes what the operation writes.
     fn note(&mut self, said: &Said) -> Result<(), Fault>
         ensures { Leaves (writer_step self.old said.now.txn said.now.operation) self.new result }
     {
         match said.operation {
-            Operation::Read { .. } => Ok(()),
+            Operation::Read { .. } | Operation::ReadList { .. } => Ok(()),
             Operation::Write { key, value, .. } => self.add(said.txn, key, value),
-            Operation::ReadList { key, .. } => Err(lists(said.txn, key, 0)),
-            Operation::Append { key, value } => Err(lists(said.txn, key, value)),
+            Operation::Append { key, value } => self.add(said.txn, key, value),
         }
     }
 
@@ -74,18 +103,6 @@ impl Writers {
     {
         self.by.insert((key, value), txn)?;
         Ok(())
-    }
-}
-
-/// That a list is not judged.
-pub fn lists(txn: usize, key: u64, value: u64) -> Fault
-    ensures { result ≡ Fault.At txn key value Unclear.Lists }
-{
-    Fault::At {
-        txn,
-        key,
-        value,
-        what: Unclear::Lists,
     }
 }
 

@@ -1,6 +1,6 @@
 // What is told of a trace.
 ghost use Rattle.std.specs.Prelude.{◌≡◌, ◌++◌, OnOk};
-ghost use Rattle.trace_report.specs.Verdict.{holds_text, level_text, refused_text, unclear_text, undecided_text, wanted_text, why_text, wrong_read_text};
+ghost use Rattle.trace_report.specs.Verdict.{holds_text, level_text, refused_text, unclear_text, undecided_text, wanted_text, what_text, why_text, wrong_read_text};
 
 use crate::parts::{push_line, push_name};
 use stamp_base::NoMemory;
@@ -67,7 +67,7 @@ pub fn push_undecided(text: &mut Vec<u8>, recording: &Recording, key: u64) -> Re
     push_words(text, "\n")
 }
 
-/// Adds of which operation it is not clear who wrote what.
+/// Adds of which operation it is not clear who wrote what, or that it gave no list.
 pub fn push_unclear(
     text: &mut Vec<u8>,
     recording: &Recording,
@@ -82,7 +82,7 @@ pub fn push_unclear(
     push_words(text, "trace line ")?;
     push_line(text, attempts, txn)?;
     push_words(text, ": ")?;
-    push_name(text, recording, value)?;
+    push_what(text, recording, value, what)?;
     push_words(text, why_text(what))?;
     push_name(text, recording, key)?;
     push_words(text, "\n")
@@ -113,6 +113,33 @@ fn why_text(what: Unclear) -> &'static str
     match what {
         Unclear::WrittenTwice => " is written twice at ",
         Unclear::WrittenByNobody => " is read and written by nobody at ",
-        Unclear::Lists => ": no list is judged: ",
+        Unclear::VersionTwice => " is told of two writers at ",
+        Unclear::ListedTwice => " is listed twice at ",
+        Unclear::ListedDirty => " is listed and was not committed: dirty read (G1a) at ",
+        Unclear::ListedApart => " is listed without what its transaction appended before it at ",
+        Unclear::ListsDiffer => " ends a list that another list does not begin with at ",
+    }
+}
+
+/// Adds a version by its number, or a value by its name.
+fn push_what(
+    text: &mut Vec<u8>,
+    recording: &Recording,
+    value: u64,
+    what: Unclear,
+) -> Result<(), NoMemory>
+    ensures { OnOk result (text.new.items ≡ text.old.items ++ what_text recording.now.names value what) }
+{
+    match what {
+        Unclear::VersionTwice => {
+            push_words(text, "version ")?;
+            push_number(text, value)
+        }
+        Unclear::WrittenTwice
+        | Unclear::WrittenByNobody
+        | Unclear::ListedTwice
+        | Unclear::ListedDirty
+        | Unclear::ListedApart
+        | Unclear::ListsDiffer => push_name(text, recording, value),
     }
 }

@@ -1,0 +1,7 @@
+use Rattle.std.proofs.Common.{◌≡◌, ◌++◌, drop}
+use Rattle.std.specs.List.{flat_map}
+use Rattle.trace_index.specs.Lists.{rank_of_value, written_at}
+use Rattle.trace_index.proofs.ranks.add_listed.Given as goal
+
+abbrev pub invariant-loop-place : goal.invariant-loop-place
+invariant-loop-place l = l.ranks.items ++ flat_map (λ e. rank_of_value l.writers l.listed l.flags l.lists l.places (written_at e)) (drop l.place l.writers) ≡ l.fn.ranks.items ++ flat_map (λ e. rank_of_value l.writers l.listed l.flags l.lists l.places (written_at e)) l.writers
