@@ -45,13 +45,17 @@ said_in recorded = said_from recorded.operations 0 (attempts_of recorded.events)
 abbrev pub ranks_in : Recorded → Steps → Result (List Rank) Blame
 ranks_in recorded steps = ranks_told steps.writers recorded.listed (flags_of (attempts_of recorded.events) steps.reads) (said_in recorded)
 
--- the ranks stand by key and version; where a transaction has several neighbours of a key they count as one
+-- these in another order, where those of a key that are one transaction's and one behind another count as one
+pub record AreRuns (told ranks : List Rank) : Type 0 where
+  pub sorted : List Rank
+  pub same : IsPermutation told sorted
+  pub joined : ranks ≡ runs_of sorted
+
+-- the ranks stand by key and version
 pub record AreOrdered (told : Result (List Rank) Blame) (ranks : List Rank) : Type 0 where
   pub all : List Rank
-  pub sorted : List Rank
   pub made : told ≡ Ok all
-  pub same : IsPermutation all sorted
-  pub joined : ranks ≡ runs_of sorted
+  pub runs : AreRuns all ranks
 
 -- the trace, with the transactions as they were recorded, the moments that are known of them, and the order of versions that is told
 pub record IsIndexOf (recorded : Recorded) (found : List Attempt) (trace : Trace) (moments : List Times) (ranks : List Rank) : Type 0 where

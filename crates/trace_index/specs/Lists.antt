@@ -209,8 +209,14 @@ abbrev pub ranks_by : Writers → List ℕ → List Bool → Lists → Places �
 ranks_by writers listed flags lists places numbered =
     flat_map (λ e. rank_of_number lists (written_at e)) numbered ++ flat_map (λ e. rank_of_value writers listed flags lists places (written_at e)) writers
 
+-- the ranks, where the places of members are known
+abbrev pub ranks_behind_places : Writers → List ℕ → List Bool → List Said → Lists → Places → Result (List Rank) Blame
+ranks_behind_places writers listed flags ss lists places = numbers_from writers flags [] ss >>= λ numbered. Ok (ranks_by writers listed flags lists places numbered)
+
+-- the ranks, where each list is a front of the longest one
+abbrev pub ranks_behind_lists : Writers → List ℕ → List Bool → List Said → Lists → Result (List Rank) Blame
+ranks_behind_lists writers listed flags ss lists = places_from writers listed flags (appended_from nothing_appended ss) [] lists >>= ranks_behind_places writers listed flags ss lists
+
 -- the ranks that are told, or what is wrong with a list or a number first
 abbrev pub ranks_told : Writers → List ℕ → List Bool → List Said → Result (List Rank) Blame
-ranks_told writers listed flags ss =
-    fronts_from listed flags (longest_from listed flags [] ss) ss >>= λ lists. places_from writers listed flags (appended_from nothing_appended ss) [] lists >>= λ places.
-    numbers_from writers flags [] ss >>= λ numbered. Ok (ranks_by writers listed flags lists places numbered)
+ranks_told writers listed flags ss = fronts_from listed flags (longest_from listed flags [] ss) ss >>= ranks_behind_lists writers listed flags ss

@@ -1,11 +1,11 @@
 // The order of versions that is told.
-ghost use Rattle.std.specs.Prelude.{◌≡◌, ◌++◌, [], IfErr, IfOk, OnOk, Some};
+ghost use Rattle.std.specs.Prelude.{◌≡◌, ◌++◌, [], IfErr, IfOk, Ok, OnOk, Some};
 ghost use Rattle.std.specs.List.{flat_map};
 ghost use Rattle.std.specs.List.Sorted.{IsPermutation};
 ghost use Rattle.version_ranks.specs.Ranks.{runs_of};
 ghost use Rattle.trace_index.specs.Blames.{Blames, Leaves, Makes};
-ghost use Rattle.trace_index.specs.Index.{AreOrdered};
-ghost use Rattle.trace_index.specs.Lists.{is_writer, number_if, numbers_from, place_behind, place_of, rank_of_number, rank_of_value, ranks_at, ranks_by, ranks_told, writes_last, written_at};
+ghost use Rattle.trace_index.specs.Index.{AreOrdered, AreRuns};
+ghost use Rattle.trace_index.specs.Lists.{is_writer, number_if, numbers_from, place_behind, place_of, rank_of_number, rank_of_value, ranks_at, ranks_behind_lists, ranks_behind_places, ranks_by, ranks_told, writes_last, written_at};
 
 use crate::fault::{Fault, Unclear};
 use crate::flags::counts_at;
@@ -217,15 +217,66 @@ pub fn ranks_of(
     ensures ordered { IfOk result (λ ranks. AreOrdered (ranks_told writers.now listed.now flags.now said.now) ranks.items) }
     ensures blamed { IfErr result (Blames (ranks_told writers.now listed.now flags.now said.now)) }
 {
+    let mut ranks = told_ranks(alloc, writers, listed, flags, said)?;
+    order_ranks(&mut ranks);
+    Ok(ranks)
+}
+
+/// The ranks as they are told.
+fn told_ranks(
+    alloc: Global,
+    writers: &Writers,
+    listed: &[u64],
+    flags: &[bool],
+    said: &[Said],
+) -> Result<Vec<Rank>, Fault>
+    ensures made { IfOk result (λ ranks. ranks_told writers.now listed.now flags.now said.now ≡ Ok ranks.items) }
+    ensures blamed { IfErr result (Blames (ranks_told writers.now listed.now flags.now said.now)) }
+{
     let lists = longest_of(alloc, listed, flags, said)?;
     see_fronts(&lists, listed, flags, said)?;
+    behind_lists(alloc, writers, listed, flags, said, &lists)
+}
+
+fn behind_lists(
+    alloc: Global,
+    writers: &Writers,
+    listed: &[u64],
+    flags: &[bool],
+    said: &[Said],
+    lists: &Lists,
+) -> Result<Vec<Rank>, Fault>
+    ensures made { IfOk result (λ ranks. ranks_behind_lists writers.now listed.now flags.now said.now lists.now ≡ Ok ranks.items) }
+    ensures blamed { IfErr result (Blames (ranks_behind_lists writers.now listed.now flags.now said.now lists.now)) }
+{
     let appended = appended_of(alloc, said)?;
-    let places = places_of(alloc, writers, listed, flags, &appended, &lists)?;
+    let places = places_of(alloc, writers, listed, flags, &appended, lists)?;
+    behind_places(alloc, writers, listed, flags, said, lists, &places)
+}
+
+fn behind_places(
+    alloc: Global,
+    writers: &Writers,
+    listed: &[u64],
+    flags: &[bool],
+    said: &[Said],
+    lists: &Lists,
+    places: &Places,
+) -> Result<Vec<Rank>, Fault>
+    ensures made { IfOk result (λ ranks. ranks_behind_places writers.now listed.now flags.now said.now lists.now places.now ≡ Ok ranks.items) }
+    ensures blamed { IfErr result (Blames (ranks_behind_places writers.now listed.now flags.now said.now lists.now places.now)) }
+{
     let numbered = numbers_of(alloc, writers, flags, said)?;
-    let mut ranks = ranks_by(alloc, writers, listed, flags, &lists, &places, &numbered)?;
-    sort_ranks(&mut ranks);
-    join_runs(&mut ranks);
+    let ranks = ranks_by(alloc, writers, listed, flags, lists, places, &numbered)?;
     Ok(ranks)
+}
+
+/// Puts the ranks in order, and gives one version to neighbours of a key that one transaction wrote.
+fn order_ranks(ranks: &mut Vec<Rank>)
+    ensures { AreRuns ranks.old.items ranks.new.items }
+{
+    sort_ranks(ranks);
+    join_runs(ranks);
 }
 
 fn sort_ranks(ranks: &mut Vec<Rank>)
