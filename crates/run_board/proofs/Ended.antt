@@ -1,9 +1,9 @@
 -- Where nothing is ahead of an actor it has no line left, since each line with nothing left to do was passed.
-use Rattle.std.proofs.Common.{◌≡◌, ℕ, zero, suc, ◌≤◌, arith, length, leb, Bool, true, false, cond, List, [], ◌∷◌, Option, Some, None, refl, sym, ◌∙◌, ap, subst}
+use Rattle.std.proofs.Common.{◌≡◌, ℕ, zero, suc, length, leb, Bool, true, false, cond, List, [], ◌∷◌, Option, Some, None, refl, sym, ◌∙◌, ap, subst}
 use Rattle.std.specs.Prelude.{◌↔◌, IsTrue, drop, filter, fold, slice_get}
 use Rattle.std.specs.Option.{option_map}
-use Rattle.std.proofs.lemmas.Bool.{le-leb, leb-true, true≢false}
-use Rattle.std.proofs.lemmas.Option.{same_Some, none-some, slice_get_past}
+use Rattle.std.proofs.lemmas.Bool.{true≢false}
+use Rattle.std.proofs.lemmas.Option.{same_Some, none-some}
 use Rattle.stamp_base.specs.SetupNumbers.{SetupNumbers}
 use Rattle.history_book.specs.declared.item.Actor.{Actor}
 use Rattle.history_book.specs.declared.item.Actor.TheVariants.{Session}
@@ -22,6 +22,7 @@ use Rattle.command_semantics.specs.Runs.{Played, clocks_of}
 use Rattle.command_semantics.specs.Views.{view_of}
 use Rattle.command_semantics.proofs.ScriptWalks.{actor_same}
 use Rattle.turn_rules.specs.declared.ahead.NextAction.TheVariants.{Passes}
+use Rattle.thread_scripts.proofs.ListEnd.{ends_at}
 use Rattle.turn_rules.specs.declared.seat.Holds.{Holds}
 use Rattle.turn_rules.specs.declared.seat.Seat.{Seat}
 use Rattle.turn_rules.specs.declared.turn.Turn.{Turn}
@@ -139,17 +140,6 @@ pub has_ended : (script : ScriptData) (turns : List Turn) (actor : Actor) (aim :
 has_ended script turns actor aim fit ahead = seat_ended script turns actor aim (seat_of (carried script turns).seats actor) fit refl (through_carried script turns actor) ahead
 
 -- ---- where an actor's lines end
-none_past : {X : Type 0} (xs : List X) (i : ℕ) → slice_get xs i ≡ None → length xs ≤ i
-none_past [] i none = omega arith
-none_past (x ∷ xs) zero none = absurd (none-some x (sym none))
-none_past (x ∷ xs) (suc i) none = let less : length xs ≤ i = none_past xs i none in omega (arith, less)
-
-end_of : {X : Type 0} (xs : List X) (count i : ℕ) → count ≡ length xs → IsTrue (leb count i) ↔ (slice_get xs i ≡ None)
-end_of xs count i is = (
-  λ less. let within : count ≤ i = leb-true count i less in slice_get_past xs i (omega (arith, within, is)),
-  λ none. let within : length xs ≤ i = none_past xs i none in le-leb count i (omega (arith, within, is)),
-)
-
 abbrev pub Ends : ScriptData → Actor → ℕ → Bool → Type 0
 Ends script actor done ended = IsTrue ended ↔ (slice_get (lines_of script actor) done ≡ None)
 
@@ -158,7 +148,7 @@ pub ends_seated : (script : ScriptData) (turns : List Turn) (names : List (List 
 ends_seated script turns names held seated actor s done k is count counted =
     let found : IsFound script (Some s) (seat_of (carried script turns).seats actor) = is_found script (carried script turns) names held seated actor (Some s) k is in
     let same : s.seat.actor ≡ actor = actor_same s.seat.actor actor (find_true (λ (x : Seated). same_actor x.seat.actor actor) seated s is) in
-    subst (λ (lines : List Line). IsTrue (leb count done) ↔ (slice_get lines done ≡ None)) (found.1.lines ∙ ap (λ (a : Actor). lines_of script a) same) (end_of s.lines.items count done counted)
+    subst (λ (lines : List Line). IsTrue (leb count done) ↔ (slice_get lines done ≡ None)) (found.1.lines ∙ ap (λ (a : Actor). lines_of script a) same) (ends_at s.lines.items count done counted)
 
 -- an actor without a seat has no line
 pub ends_unseated : (script : ScriptData) (turns : List Turn) (names : List (List ℕ)) (held : List Holds) (seated : List Seated) (actor : Actor) (done : ℕ) → AreLinesOf script.setup script.lines → SitsAt script (carried script turns) names held seated → seated_of seated actor ≡ None → Ends script actor done true

@@ -5,5 +5,5 @@ pub mod Covered
 pub mod Behind
 pub mod AllEnded
 mod Adding
-mod ListEnd
+pub mod ListEnd
 mod Deciding
