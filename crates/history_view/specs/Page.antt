@@ -1,5 +1,5 @@
 -- The text of a picture: its page and style, its caption, its lanes, its signs and its legend.
-use Rattle.std.specs.Prelude.{ℕ, zero, suc, ◌+◌, ◌-◌, ◌*◌, ◌/◌, ltb, ◌==◌, Bool, if◌then◌else◌, max, min, List, [], ◌++◌, length, codes, decimal}
+use Rattle.std.specs.Prelude.{ℕ, zero, suc, ◌+◌, ◌-◌, ◌*◌, ◌/◌, ◌%◌, ltb, ◌==◌, Bool, if◌then◌else◌, max, min, List, [], ◌++◌, length, codes, decimal}
 use Rattle.std.specs.List.{flat_map}
 use Rattle.history_text.specs.Words.{node_text}
 use Rattle.history_signs.specs.declared.earlier.EarlierBar.{EarlierBar}
@@ -14,10 +14,10 @@ use Rattle.history_view.specs.Words.{each_text, escaped}
 
 -- ---- how large the page is
 abbrev pub page_width : Bool → ℕ → ℕ → ℕ
-page_width wide count keys = max (max 480 (column_x wide count + 30)) (24 + 104 * min keys 64)
+page_width wide count keys = max (max 480 (column_x wide count + 30)) (24 + 104 * min keys 8)
 
-abbrev pub page_height : ℕ → ℕ
-page_height rows = row_y rows + 40
+abbrev pub page_height : ℕ → ℕ → ℕ
+page_height rows keys = row_y rows + 22 + 18 * ((min keys 64 + 7) / 8)
 
 -- ---- its head
 unfoldable pub open_text : ℕ → ℕ → List ℕ
@@ -66,14 +66,14 @@ name_text y lane = codes "<text class='lane' x='6' y='" ++ decimal (y + 4) ++ co
 unfoldable pub again_text : ℕ → ℕ → ℕ → List ℕ
 again_text x y lane = codes "<text class='lane again' x='" ++ decimal x ++ codes "' y='" ++ decimal y ++ codes "'>" ++ lane_text lane ++ codes "</text>\n"
 
--- at each fiftieth column, so many of them
+-- at each fiftieth column, so many of them: the last has room before the page's end
 unfoldable pub names_text : Bool → ℕ → ℕ → ℕ → List ℕ
 names_text wide y lane zero = []
 names_text wide y lane (suc names) = names_text wide y lane names ++ again_text (column_x wide (50 * (names + 1))) (y - 13) lane
 
 -- on a page of so many signs
 abbrev pub line_text : Bool → ℕ → ℕ → ℕ → ℕ → List ℕ
-line_text wide width count row lane = rule_text width (row_y row) ++ name_text (row_y row) lane ++ names_text wide (row_y row) lane (count / 50)
+line_text wide width count row lane = rule_text width (row_y row) ++ name_text (row_y row) lane ++ names_text wide (row_y row) lane ((count - 10) / 50)
 
 abbrev pub lines_text : Bool → ℕ → ℕ → List ℕ → List ℕ
 lines_text wide width count lanes = each_text (λ row lane. line_text wide width count row lane) 0 lanes
@@ -91,7 +91,7 @@ arrows_text wide signs = each_text (λ column sign. any_arrow_text wide column s
 abbrev pub signs_text : Bool → List Sign → List ℕ
 signs_text wide signs = each_text (λ column sign. sign_text wide column sign) 0 signs
 
--- ---- its legend: what occurs in it, in one line, again behind each two hundred columns
+-- ---- its legend: what occurs in it, eight in a line, again behind each two hundred columns where it fits
 unfoldable pub bar_key_text : ℕ → ℕ → List ℕ → List ℕ
 bar_key_text x y class =
     codes "<g class='" ++ class ++ codes "'>" ++ codes "<rect x='" ++ decimal (x - 9) ++ codes "' y='" ++ decimal (y - 7)
@@ -111,12 +111,15 @@ key_words (key.Sign glyph) = meaning glyph
 unfoldable pub words_text : ℕ → ℕ → List ℕ → List ℕ
 words_text x y words = codes "<text class='lane n' x='" ++ decimal (x + 13) ++ codes "' y='" ++ decimal (y + 4) ++ codes "'>" ++ words ++ codes "</text>\n"
 
--- the x of a legend's number in its line
+-- where a legend's number stands
 abbrev pub key_x : ℕ → ℕ → ℕ
-key_x base number = base + 104 * min number 64
+key_x base number = base + 104 * (number % 8)
+
+abbrev pub key_y : ℕ → ℕ → ℕ
+key_y y number = y + 18 * (min number 63 / 8)
 
 abbrev pub key_text : ℕ → ℕ → ℕ → Key → List ℕ
-key_text base y number it = key_sign_text (key_x base number) y it ++ words_text (key_x base number) y (key_words it)
+key_text base y number it = key_sign_text (key_x base number) (key_y y number) it ++ words_text (key_x base number) (key_y y number) (key_words it)
 
 abbrev pub legend_text : ℕ → ℕ → List Key → List ℕ
 legend_text base y keys = each_text (λ number it. key_text base y number it) 0 keys
@@ -136,13 +139,13 @@ sized_head_text frame caption width height shown =
     open_text width height ++ style_text ++ ground_text width height ++ caption_text caption ++ frame_text frame (left_out frame shown)
 
 abbrev pub head_text : Frame → List ℕ → ℕ → ℕ → ℕ → List ℕ
-head_text frame caption shown rows keys = sized_head_text frame caption (page_width frame.wide shown keys) (page_height rows) shown
+head_text frame caption shown rows keys = sized_head_text frame caption (page_width frame.wide shown keys) (page_height rows keys) shown
 
 abbrev pub page_text : Frame → List ℕ → List ℕ → List EarlierBar → List Sign → List Key → List ℕ
 page_text frame caption lanes earlier signs keys =
     head_text frame caption (length signs) (length lanes) (length keys)
     ++ body_text frame (page_width frame.wide (length signs) (length keys)) lanes earlier signs
-    ++ legends_text frame.wide (row_y (length lanes) + 16) keys (length signs / 200 + 1) ++ codes "</svg>\n"
+    ++ legends_text frame.wide (row_y (length lanes) + 16) keys ((length signs - 50) / 200 + 1) ++ codes "</svg>\n"
 
 abbrev pub picture_text : Frame → List ℕ → List ℕ → List EarlierBar → List Sign → List ℕ
 picture_text frame caption lanes earlier signs = page_text frame caption lanes earlier signs (keys_for earlier signs)

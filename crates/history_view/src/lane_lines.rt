@@ -23,7 +23,7 @@ pub fn print_lines(
     Ok(())
 }
 
-/// A line across the page, with the name of the lane at its left end and again along it.
+/// A line across the page, with the name of the lane at its left end, and again along it where signs go on behind the name.
 fn print_line(
     text: &mut Text,
     wide: bool,
@@ -36,7 +36,7 @@ fn print_line(
 {
     print_rule(text, width, row_y(row))?;
     print_caption(text, row_y(row), lane)?;
-    print_names(text, wide, row_y(row), lane, count / 50)
+    print_names(text, wide, row_y(row), lane, count.saturating_sub(10) / 50)
 }
 
 /// The name of the lane at each fiftieth column, above the line: so many of them.

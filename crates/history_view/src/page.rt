@@ -1,6 +1,6 @@
 // The page of a picture: its head and caption, and its legend.
 ghost use Rattle.std.specs.Prelude.{◌≡◌, ◌+◌, ◌-◌, ◌≤◌, ◌<◌, ◌++◌, ◌^◌, ◌*◌, OnOk};
-ghost use Rattle.history_view.specs.Page.{bar_key_text, caption_text, frame_text, ground_text, head_text, key_sign_text, key_text, key_words, key_x, left_out, left_text, legend_text, legends_text, open_text, page_height, page_width, sign_key_text, sized_head_text, words_text};
+ghost use Rattle.history_view.specs.Page.{bar_key_text, caption_text, frame_text, ground_text, head_text, key_sign_text, key_text, key_words, key_x, key_y, left_out, left_text, legend_text, legends_text, open_text, page_height, page_width, sign_key_text, sized_head_text, words_text};
 ghost use Rattle.history_view.specs.Style.{style_text};
 
 use crate::glyph::{Glyph, Key, class_of, kind_word, meaning};
@@ -16,14 +16,14 @@ pub fn page_width(wide: bool, count: usize, keys: usize) -> u64
 {
     (column_x(wide, count) + 30)
         .max(480)
-        .max(24 + 104 * keys.min(64) as u64)
+        .max(24 + 104 * keys.min(8) as u64)
 }
 
-/// How high the page of so many lanes is.
-pub fn page_height(rows: usize) -> u64
-    ensures { result ≡ page_height rows }
+/// How high the page of so many lanes is, with so many keys in its legend.
+pub fn page_height(rows: usize, keys: usize) -> u64
+    ensures { result ≡ page_height rows keys }
 {
-    row_y(rows) + 40
+    row_y(rows) + 22 + 18 * ((keys.min(64) + 7) / 8) as u64
 }
 
 /// Adds what stands before the lanes, on a page of so many signs, lanes and keys in its legend.
@@ -39,7 +39,7 @@ pub fn print_head(
     ensures { OnOk result (text.new ≡ text.old ++ head_text frame.now caption.now shown rows keys) }
 {
     let width = page_width(frame.wide, shown, keys);
-    print_sized_head(text, frame, caption, width, page_height(rows), shown)
+    print_sized_head(text, frame, caption, width, page_height(rows, keys), shown)
 }
 
 fn print_sized_head(
@@ -155,15 +155,16 @@ fn print_legend(text: &mut Text, base: u64, y: u64, keys: &[Key]) -> Result<(), 
     Ok(())
 }
 
-/// The sign and the words of a key, in its place in the line.
+/// The sign and the words of a key, in its place: eight stand in a line.
 fn print_key(text: &mut Text, base: u64, y: u64, number: usize, key: &Key) -> Result<(), NoMemory>
     requires left { (24 ≤ base) × (base ≤ 40000) }
     requires height { (7 ≤ y) × (y ≤ 1500) }
     ensures { OnOk result (text.new ≡ text.old ++ key_text base y number key.now) }
 {
     let x = key_x(base, number);
-    print_key_sign(text, x, y, *key)?;
-    print_key_words(text, x, y, words_of(*key))
+    let line = key_y(y, number);
+    print_key_sign(text, x, line, *key)?;
+    print_key_words(text, x, line, words_of(*key))
 }
 
 fn key_x(base: u64, number: usize) -> u64
@@ -171,11 +172,19 @@ fn key_x(base: u64, number: usize) -> u64
     ensures x { result ≡ key_x base number }
     ensures within { (base ≤ result) × (result ≤ 150000) }
 {
-    base + 104 * number.min(64) as u64
+    base + 104 * (number % 8) as u64
+}
+
+fn key_y(y: u64, number: usize) -> u64
+    requires { (7 ≤ y) × (y ≤ 1500) }
+    ensures y { result ≡ key_y y number }
+    ensures within { (7 ≤ result) × (result ≤ 1700) }
+{
+    y + 18 * (number.min(63) / 8) as u64
 }
 
 fn print_key_sign(text: &mut Text, x: u64, y: u64, key: Key) -> Result<(), NoMemory>
-    requires { (9 ≤ x) × (7 ≤ y) × (y ≤ 1500) }
+    requires { (9 ≤ x) × (7 ≤ y) × (y ≤ 1700) }
     ensures { OnOk result (text.new ≡ text.old ++ key_sign_text x y key) }
 {
     match key {
@@ -196,7 +205,7 @@ fn print_bar_key(text: &mut Text, x: u64, y: u64, class: &[u8]) -> Result<(), No
 
 #[tactic(auto, unfolding(crate::specs::Page::sign_key_text))]
 fn print_sign_key(text: &mut Text, x: u64, y: u64, glyph: Glyph) -> Result<(), NoMemory>
-    requires { y ≤ 1500 }
+    requires { y ≤ 1700 }
     ensures { OnOk result (text.new ≡ text.old ++ key_sign_text x y (Key.Sign glyph)) }
 {
     text.push_between(b"<g class='", class_of(glyph), b"'>")?;
@@ -205,7 +214,7 @@ fn print_sign_key(text: &mut Text, x: u64, y: u64, glyph: Glyph) -> Result<(), N
 }
 
 fn print_key_words(text: &mut Text, x: u64, y: u64, words: &[u8]) -> Result<(), NoMemory>
-    requires { (x ≤ 150000) × (y ≤ 1500) }
+    requires { (x ≤ 150000) × (y ≤ 1700) }
     ensures { OnOk result (text.new ≡ text.old ++ words_text x y words.now) }
 {
     text.push_two(b"<text class='lane n' x='", x + 13, b"' y='", y + 4)?;

@@ -1,5 +1,5 @@
 // The whole picture.
-ghost use Rattle.std.specs.Prelude.{◌≡◌, ◌+◌, ◌/◌, ◌^◌, ◌<◌, ◌++◌, IfOk, OnOk, length};
+ghost use Rattle.std.specs.Prelude.{◌≡◌, ◌+◌, ◌-◌, ◌/◌, ◌^◌, ◌<◌, ◌++◌, IfOk, OnOk, length};
 ghost use Rattle.history_view.specs.Marks.{row_y};
 ghost use Rattle.history_view.specs.Page.{arrows_text, bars_text, body_text, earlier_text, legends_text, page_text, page_width, picture_text, signs_text};
 
@@ -62,7 +62,7 @@ fn print_page(
     Ok(())
 }
 
-/// Adds the legends below so many lanes, along so many signs.
+/// Adds the legends below so many lanes, along so many signs: no further one where it would not fit.
 fn print_foot(
     text: &mut Text,
     wide: bool,
@@ -70,9 +70,10 @@ fn print_foot(
     rows: usize,
     keys: &[Key],
 ) -> Result<(), NoMemory>
-    ensures { OnOk result (text.new ≡ text.old ++ legends_text wide (row_y rows + 16) keys.now (count / 200 + 1)) }
+    ensures { OnOk result (text.new ≡ text.old ++ legends_text wide (row_y rows + 16) keys.now ((count - 50) / 200 + 1)) }
 {
-    print_legends(text, wide, row_y(rows) + 16, keys, count / 200 + 1)
+    let times = count.saturating_sub(50) / 200 + 1;
+    print_legends(text, wide, row_y(rows) + 16, keys, times)
 }
 
 /// Adds the lanes, and in three layers what stands in them.

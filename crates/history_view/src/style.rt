@@ -1,8 +1,8 @@
 // The style of a picture.
 
 /// Colours by day and, where the reader has set so, by night; how bars are told apart by hatching and dashes; and the heads of arrows.
-pub const STYLE: &str =
-    "<style>.page{fill:#fff}text{fill:#1f2328}.n{font-size:9px;fill:#4d555e}.again{font-size:9px;fill:#4d555e}
+pub const STYLE: &str = "<style>:root{color-scheme:light dark}.page{fill:#fff}text{fill:#1f2328}
+.n{font-size:9px;fill:#4d555e}.again{font-size:9px;fill:#4d555e}
 .caption{font-size:13px;font-weight:bold;text-anchor:start}.lane{text-anchor:start;font-weight:bold}.lane.n{font-weight:normal}
 line{stroke:#d0d7de}.link,path.bad,.ring circle{fill:none;stroke:#57606a}path.bad,.ring circle{stroke:#b3261e}.far{opacity:.35}
 .link{marker-end:url(#tip)}path.bad{marker-end:url(#bad-tip)}#tip path{fill:#57606a}#bad-tip path{fill:#b3261e}
