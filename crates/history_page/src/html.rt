@@ -192,7 +192,7 @@ function arrowsTo(item, X, step) {
 }
 function signText(item, x, y, step) {
   const [letter, colour] = SIGNS[item.kind] || DOT, isSmall = !letter || step < 11
-  const label = step >= 44 && item.kind == 'take' ? 'term ' + item.label : step >= 60 && item.key ? item.key + (item.kind == 'read' && !item.from ? ' none' : (item.kind == 'write' ? '=' : ' ') + (item.value.length > 6 ? item.value.slice(0, 4) + '..' : item.value)) : item.label
+  const label = item.kind == 'take' ? (step >= 44 ? 'term ' : 't') + item.label : step >= 60 && item.key ? item.key + (item.kind == 'read' && !item.from ? ' none' : (item.kind == 'write' ? '=' : ' ') + (item.value.length > 6 ? item.value.slice(0, 4) + '..' : item.value)) : item.label
   return `<g class="sign${item.faint ? ' faint' : ''}${chosen == item.number ? ' chosen' : ''}" data-number=${item.number}><title>${item.number}: ${safe(item.line)}</title>` +
     (ringed.includes(item.number) ? `<circle class=ring cx=${x} cy=${y} r=14 />` : '') + (chosen == item.number ? `<circle class=now cx=${x} cy=${y} r=${isSmall ? 6 : 10.5} />` : '') +
     `<circle cx=${x} cy=${y} r=${isSmall ? bounded(1.5, 4, step / 2) : 8.5} fill="var(--${colour})" />` + (isSmall ? '' : `<text class=letter x=${x} y=${y + 4}>${letter}</text>`) +
