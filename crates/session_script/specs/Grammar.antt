@@ -134,9 +134,3 @@ names_master Begin word = bytes_eq word (codes "master")
 names_master Commit word = bytes_eq word (codes "master")
 names_master Submit word = bytes_eq word (codes "master")
 names_master _ word = false
-
--- the setup lines that turn on what split stores have not: a memory of what became of others, and other commits and reads
-abbrev pub is_unsplit : SetupForm → Bool
-is_unsplit (Number numbers.Cache) = true
-is_unsplit (Flag flag) = true
-is_unsplit _ = false

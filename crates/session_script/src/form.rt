@@ -1,6 +1,6 @@
 // The forms of lines: how many words each has, and which only a replay takes.
 ghost use Rattle.std.specs.Prelude.{◌≡◌};
-ghost use Rattle.session_script.specs.Grammar.{setup_words, verb_words, is_replay_only, names_master, is_unsplit};
+ghost use Rattle.session_script.specs.Grammar.{setup_words, verb_words, is_replay_only, names_master};
 
 use crate::tables::is_same;
 use stamp_base::{SetupFlag, SetupNumber};
@@ -63,16 +63,6 @@ impl SetupForm {
             SetupForm::Buckets | SetupForm::Lead => 3,
             SetupForm::Fault => 4,
         }
-    }
-
-    /// Whether it turns on what split stores have not.
-    pub fn is_unsplit(self) -> bool
-        ensures { result ≡ is_unsplit self }
-    {
-        matches!(
-            self,
-            SetupForm::Number(SetupNumber::Cache) | SetupForm::Flag(_)
-        )
     }
 }
 

@@ -7,9 +7,6 @@ use Rattle.std.specs.Str.Lines.{lines}
 use Rattle.std.proofs.lemmas.Bool.{leb-true}
 use Rattle.std.proofs.lemmas.List.Elements.{All-nil, All-push}
 use Rattle.stamp_base.specs.declared.limits.TheConstants.{BYTE_LIMIT, LINE_LIMIT}
-use Rattle.stamp_base.specs.SetupNumbers.{SetupNumbers}
-use Rattle.stamp_base.specs.declared.setup_number.SetupNumber.{SetupNumber}
-use Rattle.stamp_base.specs.declared.setup_number.SetupNumber.TheVariants as numbers
 use Rattle.history_book.specs.declared.item.Actor.{Actor}
 use Rattle.script_data.specs.Data.{ScriptData}
 use Rattle.script_data.specs.declared.line.Line.{Line}
@@ -23,16 +20,14 @@ use Rattle.session_script.specs.declared.form.VerbForm.{VerbForm}
 use Rattle.session_script.specs.declared.form.VerbForm.TheVariants.{Tick, Take, Renew, Crash, Extend, Hold, Free, Accept, Decide, Put, Answer, Begin, Commit, Submit, AskBegin, AskCommit, Write, Read, Fetch, Collect, Abort, Heal, Vanish, Step, Finish, Sweep, OpenSweep, SweepStep, SweepFinish, Post, Await}
 use Rattle.session_script.specs.declared.mode.Mode.TheVariants.{Split}
 use Rattle.session_script.specs.Arguments.{actor_of, number_of, node_of}
-use Rattle.session_script.specs.Checked.{number_within, number_at, setup_number_at, start_at, node_at, session_at, store_at, kind_at, target_at, key_at, value_at, stage_at, name_at}
-use Rattle.session_script.specs.Grammar.{named, setup_forms, setup_words, verb_forms, verb_words, names_master, is_unsplit}
+use Rattle.session_script.specs.Checked.{number_within, number_at, start_at, node_at, session_at, target_at, key_at, value_at, stage_at, name_at}
+use Rattle.session_script.specs.Grammar.{named, setup_forms, verb_forms, verb_words, names_master}
 use Rattle.session_script.specs.Results.{◌>>=◌, or_cause, unless}
 use Rattle.session_script.specs.Verbs.{form_at, form_of, verb_of, verb_at}
 use Rattle.session_script.specs.Words.{is_plain, is_silent, words_of, LineWords, line_words}
-use Rattle.session_script.specs.declared.setting.Setting.{Setting}
-use Rattle.session_script.specs.declared.setting.Setting.TheVariants.{Number, Flag, Buckets, Lead, Fault}
 use Rattle.session_script.specs.Names.{name_objection}
 use Rattle.session_script.specs.Script.{SoFar, BadLine, script_from, after_line, after_words, opened_line, setup_line, actor_line, after_setting, after_telling, or_bad_line, nothing_read}
-use Rattle.session_script.specs.Settings.{setting_of, arguments_of, with_setting, objection}
+use Rattle.session_script.specs.Settings.{setting_of, objection}
 use Rattle.log_refinement.specs.Laws.{NamesNode, NamesNoMaster}
 use Rattle.split_driver.specs.Runs.{RisesInBounds}
 use Rattle.split_driver.specs.Splits.{MaySplit, SplitScriptsMaySplit}
@@ -128,72 +123,12 @@ line_fits nodes actor words =
     bound (form_of Split actor words) _ (λ f. names_master f words.third ≡ false) _ (form_fits actor words) (λ form other.
     verb_fits nodes form words other)
 
--- ---- settings
--- the setting turns on nothing that split stores have not
-abbrev IsPlain : Setting → Type 0
-IsPlain (Number numbers.Cache n) = ⊥
-IsPlain (Flag flag) = ⊥
-IsPlain _ = Unit {0}
-
-plain_number : (number : SetupNumber) (n : ℕ) → is_unsplit (setup.Number number) ≡ false → IsPlain (Number number n)
-plain_number numbers.Cache n plain = absurd (cc)
-plain_number numbers.Nodes n plain = tt
-plain_number numbers.Lease n plain = tt
-plain_number numbers.Skew n plain = tt
-plain_number numbers.Range n plain = tt
-plain_number numbers.Buckets n plain = tt
-plain_number numbers.Width n plain = tt
-plain_number numbers.Slots n plain = tt
-plain_number numbers.Batch n plain = tt
-plain_number numbers.Workers n plain = tt
-
-arguments_fit : (now : SetupNumbers) (form : SetupForm) (words : LineWords) → is_unsplit form ≡ false → IfOk (arguments_of now form words) IsPlain
-arguments_fit now (setup.Number number) words plain = always (setup_number_at number words.second) _ _ (λ n. plain_number number n plain)
-arguments_fit now (setup.Flag flag) words plain = absurd (cc)
-arguments_fit now setup.Buckets words plain = always (setup_number_at numbers.Buckets words.second) _ _ (λ buckets. always (setup_number_at numbers.Width words.third) _ _ (λ width. tt))
-arguments_fit now setup.Lead words plain = always (node_at now.nodes words.second) _ _ (λ node. always (number_at 0 now.skew words.third) _ _ (λ lead. tt))
-arguments_fit now setup.Fault words plain = always (store_at words.second) _ _ (λ store. always (number_at 1 1000000 words.third) _ _ (λ number. always (kind_at words.fourth) _ _ (λ kind. tt)))
-
-setting_fits : (now : SetupNumbers) (form : SetupForm) (words : LineWords) → IfOk (setting_of Split now form words) IsPlain
-unfolding setting_of
-setting_fits now form words =
-    unless_so (not (words.count == setup_words form)) WrongNumberOfWords _ _ (λ right.
-    unless_so (is_unsplit form) ReplayOnly (arguments_of now form words) _ (λ plain. arguments_fit now form words plain))
-
-same_flags : (old new : ScriptData) → MaySplit old → new.setup.cache ≡ old.setup.cache → new.setup.direct ≡ old.setup.direct → new.setup.strict ≡ old.setup.strict → new.lines ≡ old.lines → MaySplit new
-same_flags old new may cache direct strict same = record {
-  cache = rw cache may.cache;
-  direct = rw direct may.direct;
-  strict = rw strict may.strict;
-  ticks = rw same may.ticks;
-  masters = rw same may.masters;
-}
-
-with_fits : (script : ScriptData) (setting : Setting) → MaySplit script → IsPlain setting → MaySplit (with_setting script setting)
-with_fits script (Number numbers.Cache n) may plain = absurd plain
-with_fits script (Flag flag) may plain = absurd plain
-with_fits script (Number numbers.Nodes n) may plain = same_flags script _ may refl refl refl refl
-with_fits script (Number numbers.Lease n) may plain = same_flags script _ may refl refl refl refl
-with_fits script (Number numbers.Skew n) may plain = same_flags script _ may refl refl refl refl
-with_fits script (Number numbers.Range n) may plain = same_flags script _ may refl refl refl refl
-with_fits script (Number numbers.Buckets n) may plain = same_flags script _ may refl refl refl refl
-with_fits script (Number numbers.Width n) may plain = same_flags script _ may refl refl refl refl
-with_fits script (Number numbers.Slots n) may plain = same_flags script _ may refl refl refl refl
-with_fits script (Number numbers.Batch n) may plain = same_flags script _ may refl refl refl refl
-with_fits script (Number numbers.Workers n) may plain = same_flags script _ may refl refl refl refl
-with_fits script (Buckets buckets width) may plain = same_flags script _ may refl refl refl refl
-with_fits script (Lead node lead) may plain = same_flags script _ may refl refl refl refl
-with_fits script (Fault store number kind) may plain = same_flags script _ may refl refl refl refl
-
 -- ---- lines
 abbrev AllFit : SoFar → Type 0
 AllFit so_far = MaySplit so_far.script
 
 one_more : (script : ScriptData) (line : Line) → MaySplit script → Fits line.verb → MaySplit (record script { lines = script.lines ++ line ∷ [] })
 one_more script line may now = record {
-  cache = may.cache;
-  direct = may.direct;
-  strict = may.strict;
   ticks = All-push (λ (l : Line). RisesInBounds l.verb) script.lines line may.ticks now.rise;
   masters = All-push (λ (l : Line). NamesNoMaster l.verb) script.lines line may.masters now.master;
 }
@@ -202,11 +137,12 @@ unless_fits : (cause : Option ScriptCause) (next : SoFar) → AllFit next → If
 unless_fits None next all = all
 unless_fits (Some cause) next all = tt
 
-setup_fits : (so_far : SoFar) (form : SetupForm) (words : LineWords) → AllFit so_far → IfOk (setup_line Split so_far form words) AllFit
+-- a setting leaves the lines
+setup_fits : (so_far : SoFar) (form : SetupForm) (words : LineWords) → AllFit so_far → IfOk (setup_line so_far form words) AllFit
 unfolding setup_line
 setup_fits so_far form words all =
-    bound (setting_of Split so_far.script.setup form words) _ IsPlain AllFit (setting_fits so_far.script.setup form words) (λ setting plain.
-    unless_fits (objection so_far.settings so_far.script setting) (after_setting so_far setting) (with_fits so_far.script setting all plain))
+    always (setting_of so_far.script.setup form words) _ AllFit (λ setting.
+    unless_fits (objection so_far.settings so_far.script setting) (after_setting so_far setting) (record { ticks = all.ticks; masters = all.masters }))
 
 actor_fits : (so_far : SoFar) (number : ℕ) (actor : Actor) (words : LineWords) → AllFit so_far → IfOk (actor_line Split so_far number actor words) AllFit
 unfolding actor_line
@@ -252,9 +188,6 @@ long_or false bad script all = all
 
 none_at_first : AllFit nothing_read
 none_at_first = record {
-  cache = refl;
-  direct = refl;
-  strict = refl;
   ticks = All-nil (λ (l : Line). RisesInBounds l.verb);
   masters = All-nil (λ (l : Line). NamesNoMaster l.verb);
 }

@@ -1,5 +1,5 @@
 -- What a script that is carried out over split stores comes to.
-use Rattle.std.specs.Prelude.{◌≡◌, ℕ, ◌≤◌, false, List, length, slice_get, Option, Some, Result, Ok, MatchResult}
+use Rattle.std.specs.Prelude.{◌≡◌, ℕ, ◌≤◌, List, length, slice_get, Option, Some, Result, Ok, MatchResult}
 use Rattle.tick_word.specs.Rule.{seat_limit}
 use Rattle.history_book.specs.declared.item.Item.{Item}
 use Rattle.script_data.specs.Data.{ScriptData}
@@ -18,11 +18,8 @@ use Rattle.split_driver.specs.declared.stop.SplitStop.{SplitStop}
 use Rattle.split_driver.specs.declared.stop.SplitStop.TheVariants as stop
 
 -- ---- scripts
--- the script turns on nothing that split stores have not, its lines name no master, and its ticks are in their bounds
+-- the lines of the script name no master, and its ticks are in their bounds
 pub record MaySplit (script : ScriptData) : Type 0 where
-  pub cache : script.setup.cache ≡ 0
-  pub direct : script.setup.direct ≡ false
-  pub strict : script.setup.strict ≡ false
   pub ticks : RiseInBounds script.lines
   pub masters : NameNoMaster script.lines
 

@@ -53,7 +53,9 @@ fn write_agrees(alloc: Global, value: Value, cells: Cells) -> Option<bool> {
         return None;
     };
     let record = Master::free(plan.setup.lease, plan.setup.skew, plan.setup.range);
-    let mut session = SessionPart::new(alloc, SessionNo::FIRST);
+    let Ok(mut session) = SessionPart::new(alloc, SessionNo::FIRST, 0) else {
+        return None;
+    };
     let mut clock = ClockPart::new(alloc);
     let mut node = NodePart::new(alloc, NodeNo::FIRST);
     let mut cells = CellsPart::new(alloc, cells);
