@@ -12,16 +12,15 @@ use Rattle.split_stores.specs.Merged.{Settled, IsTornInOrder}
 use Rattle.split_stores.specs.Merging.{logs_of}
 use Rattle.split_stores.specs.Orders.{without_lines}
 use Rattle.log_refinement.specs.Follows.{AllBegin, AllFollow, AllFollowSome}
-use Rattle.log_refinement.specs.Laws.{NameNoMaster, AllRise}
+use Rattle.log_refinement.specs.Laws.{AllRise}
 use Rattle.split_driver.specs.Runs.{RiseInBounds}
 use Rattle.split_driver.specs.declared.stop.SplitStop.{SplitStop}
 use Rattle.split_driver.specs.declared.stop.SplitStop.TheVariants as stop
 
 -- ---- scripts
--- the lines of the script name no master, and its ticks are in their bounds
+-- the script's ticks are in their bounds
 pub record MaySplit (script : ScriptData) : Type 0 where
   pub ticks : RiseInBounds script.lines
-  pub masters : NameNoMaster script.lines
 
 -- so is each script that was read for split stores
 abbrev pub SplitScriptsMaySplit : Type 0

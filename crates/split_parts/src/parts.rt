@@ -1,5 +1,5 @@
 // The parts of the system, each of which can be lent alone.
-ghost use Rattle.std.specs.Prelude.{◌≡◌, [], IfOk, None};
+ghost use Rattle.std.specs.Prelude.{◌≡◌, [], IfOk, None, unwrap_or};
 ghost use Rattle.machine.specs.State.{client_new};
 ghost use Rattle.session_script.specs.PostedNames.{is_posted};
 ghost use Rattle.split_parts.specs.Parts.{session_of};
@@ -186,6 +186,16 @@ impl MasterPart {
         ensures calls { result.calls ≡ 0 }
     {
         MasterPart { master, calls: 0 }
+    }
+
+    /// The node that holds the record, or the first node where none does.
+    pub fn holder(&self) -> NodeNo
+        ensures { result ≡ unwrap_or self.now.master.state.holder 0 }
+    {
+        match self.master.holder() {
+            Some(node) => node,
+            None => NodeNo::FIRST,
+        }
     }
 }
 

@@ -31,10 +31,7 @@ pub(crate) fn cut(
 }
 
 /// All sessions, which are free, and remember so many decisions.
-pub(crate) fn free_sessions(
-    alloc: Global,
-    cache: u64,
-) -> Result<Vec<Mutex<SessionPart>>, NoMemory>
+pub(crate) fn free_sessions(alloc: Global, cache: u64) -> Result<Vec<Mutex<SessionPart>>, NoMemory>
     ensures { IfOk result (λ sessions. vec_len sessions ≡ 16) }
 {
     let mut sessions = Vec::new(alloc);
