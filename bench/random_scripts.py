@@ -28,17 +28,16 @@ WAIT = 20
 
 
 class Maker:
-    """Makes one script. `split` leaves out what is not for split stores."""
+    """Makes one script."""
 
-    def __init__(self, seed, split):
+    def __init__(self, seed):
         self.draw = random.Random(seed)
-        self.split = split
         self.lines, self.names = [], 0
         self.nodes = self.draw.choice((1, 1, 2, 3))
         self.workers = self.draw.choice((1, 2, 4))
         self.sessions = self.draw.choice((1, 2, 3, 4, 8, 16))
         self.keys = self.draw.choice((1, 3, 20))
-        self.by_master = not split and self.draw.random() < 0.3
+        self.by_master = self.likely(0.3)
         self.lead = 0
 
     def likely(self, chance):
@@ -89,8 +88,7 @@ class Maker:
                 lines.append(f"{word} {draw.choice(numbers)}")
                 if lines[-1] == "skew 5":
                     lines.append(f"lead {self.node()} {draw.randrange(6)}")
-        if not self.split:
-            lines += [line for line in (f"cache {draw.choice((1, 8))}", "commits direct", "reads strict") if self.likely(0.3)]
+        lines += [line for line in (f"cache {draw.choice((1, 8))}", "commits direct", "reads strict") if self.likely(0.3)]
         if self.likely(0.4):
             planned = {(draw.choice(STORES), draw.randrange(1, 40)) for _ in range(draw.randrange(1, 6))}
             lines += [f"fault {store} {call} {draw.choice(('unchanged', 'applied'))}" for store, call in sorted(planned)]
@@ -252,9 +250,8 @@ def main():
     words.add_argument("--show", action="store_true")
     words.add_argument("files", nargs="*", metavar="FILE")
     said = words.parse_args()
-    split = "split" in said.words.split()
     named = [(file, open(file, encoding="ascii").read()) for file in said.files]
-    scripts = named or [(seed, Maker(seed, split).script()) for seed in range(said.seed, said.seed + said.scripts)]
+    scripts = named or [(seed, Maker(seed).script()) for seed in range(said.seed, said.seed + said.scripts)]
     if said.show:
         print("\n".join(script for _, script in scripts), end="")
         return

@@ -502,38 +502,38 @@ no_both false true none = refl
 no_both false false none = refl
 
 -- an event that does not touch the request is not due
-not_due : (s n base : ℕ) (leads : List ℕ) (d : Due) (e : Event) → touches n s (timed_at base leads e) ≡ false → is_due (Session s) n d e ≡ false
-not_due s n base leads due.Accept (event.Accept m r) none = no_both (m == n) (r == s) none
-not_due s n base leads due.Decide (event.Decide m r) none = no_both (m == n) (r == s) none
-not_due s n base leads due.Put (event.Put m r) none = no_both (m == n) (r == s) none
-not_due s n base leads due.Answer (event.Answer m r) none = no_both (m == n) (r == s) none
-not_due s n base leads due.Accept e none = refl
-not_due s n base leads due.Decide e none = refl
-not_due s n base leads due.Put e none = refl
-not_due s n base leads due.Answer e none = refl
+not_due : (s n base : ℕ) (leads : List ℕ) (master : ℕ) (d : Due) (e : Event) → touches n s (timed_at base leads master e) ≡ false → is_due (Session s) n d e ≡ false
+not_due s n base leads master due.Accept (event.Accept m r) none = no_both (m == n) (r == s) none
+not_due s n base leads master due.Decide (event.Decide m r) none = no_both (m == n) (r == s) none
+not_due s n base leads master due.Put (event.Put m r) none = no_both (m == n) (r == s) none
+not_due s n base leads master due.Answer (event.Answer m r) none = no_both (m == n) (r == s) none
+not_due s n base leads master due.Accept e none = refl
+not_due s n base leads master due.Decide e none = refl
+not_due s n base leads master due.Put e none = refl
+not_due s n base leads master due.Answer e none = refl
 
-abbrev OwnShows : State → ℕ → List ℕ → Event → Fate → ℕ → ℕ → Due → Type 0
-OwnShows w base leads e fate s n d =
-    let step : Step = stepped w (timed_at base leads e) fate in
+abbrev OwnShows : State → ℕ → List ℕ → ℕ → Event → Fate → ℕ → ℕ → Due → Type 0
+OwnShows w base leads master e fate s n d =
+    let step : Step = stepped w (timed_at base leads master e) fate in
     NodeShows step.state.nodes n s (after_due (Session s) e step.items (owed_over s (is_step e) (Answer n d) step.items))
 
-touching : (w : State) (base : ℕ) (leads : List ℕ) (e : Event) (fate : Fate) (s n : ℕ) (d : Due) → CanDecide w n → opener e ≡ None → touches n s (timed_at base leads e) ≡ true → HeldAt w.nodes n s d → OwnShows w base leads e fate s n d
-touching w base leads (event.Accept m r) fate s n d can opens is k =
+touching : (w : State) (base : ℕ) (leads : List ℕ) (master : ℕ) (e : Event) (fate : Fate) (s n : ℕ) (d : Due) → CanDecide w n → opener e ≡ None → touches n s (timed_at base leads master e) ≡ true → HeldAt w.nodes n s d → OwnShows w base leads master e fate s n d
+touching w base leads master (event.Accept m r) fate s n d can opens is k =
     let both = and_parts (m == n) (r == s) is in
-    subst (λ (q : ℕ). OwnShows w base leads (event.Accept q r) fate s n d) (sym (eqb-true m n both.0)) (subst (λ (q : ℕ). OwnShows w base leads (event.Accept n q) fate s n d) (sym (eqb-true r s both.1)) (accepts_so w s n _ fate d k))
-touching w base leads (event.Decide m r) fate s n d can opens is k =
+    subst (λ (q : ℕ). OwnShows w base leads master (event.Accept q r) fate s n d) (sym (eqb-true m n both.0)) (subst (λ (q : ℕ). OwnShows w base leads master (event.Accept n q) fate s n d) (sym (eqb-true r s both.1)) (accepts_so w s n _ fate d k))
+touching w base leads master (event.Decide m r) fate s n d can opens is k =
     let both = and_parts (m == n) (r == s) is in
-    subst (λ (q : ℕ). OwnShows w base leads (event.Decide q r) fate s n d) (sym (eqb-true m n both.0)) (subst (λ (q : ℕ). OwnShows w base leads (event.Decide n q) fate s n d) (sym (eqb-true r s both.1)) (decides_so w s n fate d can k))
-touching w base leads (event.Put m r) fate s n d can opens is k =
+    subst (λ (q : ℕ). OwnShows w base leads master (event.Decide q r) fate s n d) (sym (eqb-true m n both.0)) (subst (λ (q : ℕ). OwnShows w base leads master (event.Decide n q) fate s n d) (sym (eqb-true r s both.1)) (decides_so w s n fate d can k))
+touching w base leads master (event.Put m r) fate s n d can opens is k =
     let both = and_parts (m == n) (r == s) is in
-    subst (λ (q : ℕ). OwnShows w base leads (event.Put q r) fate s n d) (sym (eqb-true m n both.0)) (subst (λ (q : ℕ). OwnShows w base leads (event.Put n q) fate s n d) (sym (eqb-true r s both.1)) (puts_so w s n fate d k))
-touching w base leads (event.Answer m r) fate s n d can opens is k =
+    subst (λ (q : ℕ). OwnShows w base leads master (event.Put q r) fate s n d) (sym (eqb-true m n both.0)) (subst (λ (q : ℕ). OwnShows w base leads master (event.Put n q) fate s n d) (sym (eqb-true r s both.1)) (puts_so w s n fate d k))
+touching w base leads master (event.Answer m r) fate s n d can opens is k =
     let both = and_parts (m == n) (r == s) is in
-    subst (λ (q : ℕ). OwnShows w base leads (event.Answer q r) fate s n d) (sym (eqb-true m n both.0)) (subst (λ (q : ℕ). OwnShows w base leads (event.Answer n q) fate s n d) (sym (eqb-true r s both.1)) (answers_so w s n fate d k))
-touching w base leads e fate s n d can opens is k = absurd (cc)
+    subst (λ (q : ℕ). OwnShows w base leads master (event.Answer q r) fate s n d) (sym (eqb-true m n both.0)) (subst (λ (q : ℕ). OwnShows w base leads master (event.Answer n q) fate s n d) (sym (eqb-true r s both.1)) (answers_so w s n fate d k))
+touching w base leads master e fate s n d can opens is k = absurd (cc)
 
-pub own_answer : (w : State) (base : ℕ) (leads : List ℕ) (e : Event) (fate : Fate) (s n : ℕ) (d : Due) → CanDecide w n → opener e ≡ None → HeldAt w.nodes n s d → OwnShows w base leads e fate s n d
-own_answer w base leads e fate s n d can opens k = elim (cases_Bool (touches n s (timed_at base leads e))) [
-  | inl is ↦ touching w base leads e fate s n d can opens is k
-  | inr none ↦ undue_shows (stepped w (timed_at base leads e) fate).state.nodes s n (is_step e) d e (stepped w (timed_at base leads e) fate).items (not_due s n base leads d e none) (shows_past w (timed_at base leads e) fate n s (Answer n d) none k)
+pub own_answer : (w : State) (base : ℕ) (leads : List ℕ) (master : ℕ) (e : Event) (fate : Fate) (s n : ℕ) (d : Due) → CanDecide w n → opener e ≡ None → HeldAt w.nodes n s d → OwnShows w base leads master e fate s n d
+own_answer w base leads master e fate s n d can opens k = elim (cases_Bool (touches n s (timed_at base leads master e))) [
+  | inl is ↦ touching w base leads master e fate s n d can opens is k
+  | inr none ↦ undue_shows (stepped w (timed_at base leads master e) fate).state.nodes s n (is_step e) d e (stepped w (timed_at base leads master e) fate).items (not_due s n base leads master d e none) (shows_past w (timed_at base leads master e) fate n s (Answer n d) none k)
 ]

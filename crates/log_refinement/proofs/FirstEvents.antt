@@ -21,7 +21,7 @@ use Rattle.log_refinement.specs.Follows.{opener, first_event}
 -- ---- the first event of a line
 -- the run of the line opens with it, at the time of its clock; it opens lines of the actor, and ticks as long as the line
 pub record IsFirst (clocks : Clocks) (actor : Actor) (line : Verb) (view : View) (e : Event) : Type 0 where
-  pub next_is : next clocks actor line Opens view ≡ Some (timed_at clocks.base clocks.leads e)
+  pub next_is : next clocks actor line Opens view ≡ Some (timed_at clocks.base clocks.leads clocks.master e)
   pub own : opener e ≡ Some actor
   pub rises : rise_by e ≡ tick_by actor line
 
@@ -31,12 +31,12 @@ IfFirst clocks actor line view (Some e) = IsFirst clocks actor line view e
 
 session_first_is : (clocks : Clocks) (s : ℕ) (line : Verb) (view : View) → IfFirst clocks (Session s) line view (first_event (Session s) line)
 session_first_is clocks s (verb.Begin (target.Node node)) view = record { next_is = refl; own = refl; rises = refl }
-session_first_is clocks s (verb.Begin target.Master) view = tt
+session_first_is clocks s (verb.Begin target.Master) view = record { next_is = refl; own = refl; rises = refl }
 session_first_is clocks s (verb.AskBegin node) view = record { next_is = refl; own = refl; rises = refl }
 session_first_is clocks s (verb.Commit (target.Node node)) view = record { next_is = refl; own = refl; rises = refl }
-session_first_is clocks s (verb.Commit target.Master) view = tt
+session_first_is clocks s (verb.Commit target.Master) view = record { next_is = refl; own = refl; rises = refl }
 session_first_is clocks s (verb.Submit (target.Node node)) view = record { next_is = refl; own = refl; rises = refl }
-session_first_is clocks s (verb.Submit target.Master) view = tt
+session_first_is clocks s (verb.Submit target.Master) view = record { next_is = refl; own = refl; rises = refl }
 session_first_is clocks s (verb.AskCommit node) view = record { next_is = refl; own = refl; rises = refl }
 session_first_is clocks s (verb.Write key value) view = record { next_is = refl; own = refl; rises = refl }
 session_first_is clocks s (verb.Read key) view = record { next_is = refl; own = refl; rises = refl }
@@ -91,18 +91,18 @@ first_rises actor line e is = (first_own_is actor line e is).rises
 abbrev pub IsNotOf : Actor → Event → Type 0
 IsNotOf actor e = opener e ≡ Some actor → ⊥
 
-pub none_opens : (base : ℕ) (leads : List ℕ) (e : Event) → opener e ≡ None → OpensNone (timed_at base leads e)
-none_opens base leads (event.Extend node) is = tt
-none_opens base leads (event.Accept node session) is = tt
-none_opens base leads (event.Decide node session) is = tt
-none_opens base leads (event.Put node session) is = tt
-none_opens base leads (event.Answer node session) is = tt
-none_opens base leads (event.Step session) is = tt
-none_opens base leads (event.Heal session) is = tt
-none_opens base leads (event.Abort session) is = tt
-none_opens base leads (event.SweepOpen node txn) is = tt
-none_opens base leads event.SweepStep is = tt
-none_opens base leads _ is = absurd (none-some _ (sym is))
+pub none_opens : (base : ℕ) (leads : List ℕ) (master : ℕ) (e : Event) → opener e ≡ None → OpensNone (timed_at base leads master e)
+none_opens base leads master (event.Extend node) is = tt
+none_opens base leads master (event.Accept node session) is = tt
+none_opens base leads master (event.Decide node session) is = tt
+none_opens base leads master (event.Put node session) is = tt
+none_opens base leads master (event.Answer node session) is = tt
+none_opens base leads master (event.Step session) is = tt
+none_opens base leads master (event.Heal session) is = tt
+none_opens base leads master (event.Abort session) is = tt
+none_opens base leads master (event.SweepOpen node txn) is = tt
+none_opens base leads master event.SweepStep is = tt
+none_opens base leads master _ is = absurd (none-some _ (sym is))
 
 -- the clock alone ticks
 pub quiet_rise : (e : Event) → IsNotOf Clock e → rise_by e ≡ None

@@ -35,16 +35,16 @@ unfolding AllMade
 made_good script [] p made = made
 made_good script (e ∷ es) p made = made.0
 
-reads : (clocks : Clocks) (e : Event) → ReadsClocks clocks (rise_by e) (timed_at clocks.base clocks.leads e)
+reads : (clocks : Clocks) (e : Event) → ReadsClocks clocks (rise_by e) (timed_at clocks.base clocks.leads clocks.master e)
 reads clocks (event.Tick by) = refl
 reads clocks (event.Take node) = (refl, refl)
 reads clocks (event.Renew node) = (refl, refl)
 reads clocks (event.Accept node session) = (refl, refl)
 reads clocks _ = refl
 
-clock_rises : (base : ℕ) (leads : List ℕ) (e : Event) → clock_after base (timed_at base leads e) ≡ base + unwrap_or (rise_by e) 0
-clock_rises base leads (event.Tick by) = refl
-clock_rises base leads _ = omega arith
+clock_rises : (base : ℕ) (leads : List ℕ) (master : ℕ) (e : Event) → clock_after base (timed_at base leads master e) ≡ base + unwrap_or (rise_by e) 0
+clock_rises base leads master (event.Tick by) = refl
+clock_rises base leads master _ = omega arith
 
 pub first_rise : (tick : Option ℕ) (ticks : List ℕ) → sum (with_tick tick ticks) ≡ unwrap_or tick 0 + sum ticks
 first_rise None ticks = omega arith
@@ -65,6 +65,6 @@ unfolding AllMade rises_in entries_played
 all_made law script [] p leads room good replayed = good
 all_made law script (e ∷ es) p leads room good replayed =
     let total : sum (with_tick (rise_by e.event) (rises_in es)) ≡ unwrap_or (rise_by e.event) 0 + sum (rises_in es) = first_rise (rise_by e.event) (rises_in es) in
-    let up : (played_with script p e.event).clock ≡ p.clock + unwrap_or (rise_by e.event) 0 = clock_rises p.clock script.leads e.event in
+    let up : (played_with script p e.event).clock ≡ p.clock + unwrap_or (rise_by e.event) 0 = clock_rises p.clock script.leads (clocks_of script p).master e.event in
     let next : IsGood script (played_with script p e.event) = good_next law script p e.event leads (omega (arith, room, total)) good in
     (good, replayed.at 0 e refl, all_made law script es (played_with script p e.event) leads (omega (arith, up, room, total)) next (record { at = λ place x found. replayed.at (suc place) x found }))

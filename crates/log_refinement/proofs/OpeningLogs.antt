@@ -2,12 +2,10 @@
 use Rattle.std.proofs.Common.{◌≡◌, ◌⊎◌, Bool, true, false, cond, ◌&&◌, List, [], ◌∷◌, Option, Some, None, inl, inr, refl, sym, ◌∙◌, ap, subst}
 use Rattle.std.specs.Prelude.{filter, is_some}
 use Rattle.std.specs.List.{AllZip}
-use Rattle.std.proofs.lemmas.List.Elements.{All-head, All-tail}
 use Rattle.std.proofs.lemmas.Option.{none-some}
 use Rattle.history_book.specs.declared.item.Actor.{Actor}
 use Rattle.history_book.specs.declared.item.Actor.TheVariants.{Clock, Node, Session, Janitor}
 use Rattle.script_data.specs.declared.line.Line.{Line}
-use Rattle.script_data.specs.declared.line.Target.TheVariants as target
 use Rattle.script_data.specs.declared.line.Verb.{Verb}
 use Rattle.script_data.specs.declared.line.Verb.TheVariants as verb
 use Rattle.script_data.specs.Data.{ScriptData}
@@ -18,7 +16,6 @@ use Rattle.split_parts.specs.declared.event.Event.TheVariants as event
 use Rattle.split_stores.specs.declared.seat.Entry.{Entry}
 use Rattle.split_stores.specs.Logs.{Logged}
 use Rattle.log_refinement.specs.Follows.{FollowsLines, opener, first_event, plain_event, IsLater, Follows, is_own, AllFollow}
-use Rattle.log_refinement.specs.Laws.{NamesNoMaster, NameNoMaster}
 use Rattle.log_refinement.specs.Owed.{Standing, first_standing, gone_on, opened, is_paid}
 
 -- ---- the walk over lines that have an opening item
@@ -53,17 +50,14 @@ later_none Janitor event.SweepStep later = refl
 later_none actor e later = absurd later
 
 -- a form has an opening item where its first event is known by it
-opens_first : (actor : Actor) (v : Verb) → NamesNoMaster v → has_opening actor v ≡ is_some (first_event actor v)
-opens_first (Session s) (verb.Begin (target.Node node)) names = refl
-opens_first (Session s) (verb.Begin target.Master) names = absurd names
-opens_first (Session s) (verb.Commit (target.Node node)) names = refl
-opens_first (Session s) (verb.Commit target.Master) names = absurd names
-opens_first (Session s) (verb.Submit (target.Node node)) names = refl
-opens_first (Session s) (verb.Submit target.Master) names = absurd names
-opens_first Clock (verb.Tick by) names = refl
-opens_first (Node n) verb.Take names = refl
-opens_first Janitor (verb.Post name) names = refl
-opens_first actor v names = refl
+opens_first : (actor : Actor) (v : Verb) → has_opening actor v ≡ is_some (first_event actor v)
+opens_first (Session s) (verb.Begin to) = refl
+opens_first (Session s) (verb.Commit to) = refl
+opens_first (Session s) (verb.Submit to) = refl
+opens_first Clock (verb.Tick by) = refl
+opens_first (Node n) verb.Take = refl
+opens_first Janitor (verb.Post name) = refl
+opens_first actor v = refl
 
 -- the first event of any other form opens no line by an item
 abbrev IsPlain : Actor → Verb → Option Event → Type 0
@@ -98,16 +92,16 @@ pub first_alone : (actor : Actor) (v : Verb) (e : Event) → first_event actor v
 first_alone actor v e first = one_of actor v e (plain_event actor v) (plain_is actor v) first
 
 -- ---- one line more
-with_item : (actor : Actor) (P : List Line → Type 0) (line : Line) (lines : List Line) → NamesNoMaster line.verb → (e : Event) → first_event actor line.verb ≡ Some e → P (line ∷ filter (λ l. has_opening actor l.verb) lines) → P (filter (λ l. has_opening actor l.verb) (line ∷ lines))
-with_item actor P line lines names e first so =
+with_item : (actor : Actor) (P : List Line → Type 0) (line : Line) (lines : List Line) → (e : Event) → first_event actor line.verb ≡ Some e → P (line ∷ filter (λ l. has_opening actor l.verb) lines) → P (filter (λ l. has_opening actor l.verb) (line ∷ lines))
+with_item actor P line lines e first so =
     let rest : List Line = filter (λ l. has_opening actor l.verb) lines in
-    let has : has_opening actor line.verb ≡ true = opens_first actor line.verb names ∙ ap is_some first in
+    let has : has_opening actor line.verb ≡ true = opens_first actor line.verb ∙ ap is_some first in
     subst (λ (b : Bool). P (cond b (line ∷ rest) rest)) (sym has) so
 
-without_item : (actor : Actor) (P : List Line → Type 0) (line : Line) (lines : List Line) → NamesNoMaster line.verb → first_event actor line.verb ≡ None → P (filter (λ l. has_opening actor l.verb) lines) → P (filter (λ l. has_opening actor l.verb) (line ∷ lines))
-without_item actor P line lines names none so =
+without_item : (actor : Actor) (P : List Line → Type 0) (line : Line) (lines : List Line) → first_event actor line.verb ≡ None → P (filter (λ l. has_opening actor l.verb) lines) → P (filter (λ l. has_opening actor l.verb) (line ∷ lines))
+without_item actor P line lines none so =
     let rest : List Line = filter (λ l. has_opening actor l.verb) lines in
-    let lacks : has_opening actor line.verb ≡ false = opens_first actor line.verb names ∙ ap is_some none in
+    let lacks : has_opening actor line.verb ≡ false = opens_first actor line.verb ∙ ap is_some none in
     subst (λ (b : Bool). P (cond b (line ∷ rest) rest)) (sym lacks) so
 
 -- ---- the walk
@@ -116,40 +110,23 @@ unfolding FollowsOpened
 opened_past actor st [] e es none walks = (none, walks)
 opened_past actor st (line ∷ lines) e es none walks = inl (none, walks)
 
--- the lines name no master
-unfoldable Named : List Line → Type 0
-Named [] = Unit {0}
-Named (line ∷ lines) = NamesNoMaster line.verb × Named lines
-
-follows_opened : (actor : Actor) (st : Standing) (lines : List Line) (es : List Entry) → Named lines → Follows actor st lines es → FollowsOpened actor st (filter (λ l. has_opening actor l.verb) lines) es
-unfolding Follows FollowsOpened Named
-follows_opened actor st [] [] named follows = (refl, follows)
-follows_opened actor st (line ∷ lines) [] named follows = without_item actor (λ (ls : List Line). FollowsOpened actor st ls []) line lines named.0 follows.0.0 (follows_opened actor st lines [] named.1 follows.1)
-follows_opened actor st [] (e ∷ es) named follows = (later_none actor e.event follows.0, follows_opened actor (gone_on actor st e) [] es tt follows.1)
-follows_opened actor st (line ∷ lines) (e ∷ es) named (inl on) =
-    opened_past actor st (filter (λ l. has_opening actor l.verb) (line ∷ lines)) e es (later_none actor e.event on.0) (follows_opened actor (gone_on actor st e) (line ∷ lines) es named on.1)
-follows_opened actor st (line ∷ lines) (e ∷ es) named (inr (inl k)) =
-    with_item actor (λ (ls : List Line). FollowsOpened actor st ls (e ∷ es)) line lines named.0 e.event k.1 (inr (k.0, k.1, follows_opened actor (opened actor line.verb st e.kept.items) lines es named.1 k.2))
-follows_opened actor st (line ∷ lines) (e ∷ es) named (inr (inr (inl k))) =
+follows_opened : (actor : Actor) (st : Standing) (lines : List Line) (es : List Entry) → Follows actor st lines es → FollowsOpened actor st (filter (λ l. has_opening actor l.verb) lines) es
+unfolding Follows FollowsOpened
+follows_opened actor st [] [] follows = (refl, follows)
+follows_opened actor st (line ∷ lines) [] follows = without_item actor (λ (ls : List Line). FollowsOpened actor st ls []) line lines follows.0.0 (follows_opened actor st lines [] follows.1)
+follows_opened actor st [] (e ∷ es) follows = (later_none actor e.event follows.0, follows_opened actor (gone_on actor st e) [] es follows.1)
+follows_opened actor st (line ∷ lines) (e ∷ es) (inl on) =
+    opened_past actor st (filter (λ l. has_opening actor l.verb) (line ∷ lines)) e es (later_none actor e.event on.0) (follows_opened actor (gone_on actor st e) (line ∷ lines) es on.1)
+follows_opened actor st (line ∷ lines) (e ∷ es) (inr (inl k)) =
+    with_item actor (λ (ls : List Line). FollowsOpened actor st ls (e ∷ es)) line lines e.event k.1 (inr (k.0, k.1, follows_opened actor (opened actor line.verb st e.kept.items) lines es k.2))
+follows_opened actor st (line ∷ lines) (e ∷ es) (inr (inr (inl k))) =
     let plain = plain_by actor line.verb e.event k.1 in
     let rest : List Line = filter (λ l. has_opening actor l.verb) lines in
-    without_item actor (λ (ls : List Line). FollowsOpened actor st ls (e ∷ es)) line lines named.0 plain.0 (opened_past actor st rest e es plain.1 (follows_opened actor (gone_on actor st e) lines es named.1 k.2))
-follows_opened actor st (line ∷ lines) (e ∷ es) named (inr (inr (inr k))) =
-    without_item actor (λ (ls : List Line). FollowsOpened actor st ls (e ∷ es)) line lines named.0 k.0.0 (follows_opened actor st lines (e ∷ es) named.1 k.1)
+    without_item actor (λ (ls : List Line). FollowsOpened actor st ls (e ∷ es)) line lines plain.0 (opened_past actor st rest e es plain.1 (follows_opened actor (gone_on actor st e) lines es k.2))
+follows_opened actor st (line ∷ lines) (e ∷ es) (inr (inr (inr k))) =
+    without_item actor (λ (ls : List Line). FollowsOpened actor st ls (e ∷ es)) line lines k.0.0 (follows_opened actor st lines (e ∷ es) k.1)
 
 -- ---- the lines of an actor
-named_by : (actor : Actor) (line : Line) (lines : List Line) → NamesNoMaster line.verb → Named (filter (is_own actor) lines) → (own : Bool) → Named (cond own (line ∷ filter (is_own actor) lines) (filter (is_own actor) lines))
-unfolding Named
-named_by actor line lines names rest true = (names, rest)
-named_by actor line lines names rest false = rest
-
-own_named : (actor : Actor) (lines : List Line) → NameNoMaster lines → Named (filter (is_own actor) lines)
-unfolding Named
-own_named actor [] names = tt
-own_named actor (line ∷ lines) names =
-    let Names : Line → Type 0 = λ l. NamesNoMaster l.verb in
-    named_by actor line lines (All-head Names line lines names) (own_named actor lines (All-tail Names line lines names)) (is_own actor line)
-
 -- those of them that have an opening item
 own_by : (actor : Actor) (line : Line) (lines : List Line) (own : Bool) → is_own actor line ≡ own → filter (is_of actor) lines ≡ filter (λ l. has_opening actor l.verb) (filter (is_own actor) lines) → filter (is_of actor) (line ∷ lines) ≡ filter (λ l. has_opening actor l.verb) (cond own (line ∷ filter (is_own actor) lines) (filter (is_own actor) lines))
 own_by actor line lines false is rest = ap (λ (b : Bool). cond (b && has_opening line.actor line.verb) (line ∷ filter (is_of actor) lines) (filter (is_of actor) lines)) is ∙ rest
@@ -162,13 +139,13 @@ own_opened : (actor : Actor) (lines : List Line) → filter (is_of actor) lines 
 own_opened actor [] = refl
 own_opened actor (line ∷ lines) = own_by actor line lines (is_own actor line) refl (own_opened actor lines)
 
-opened_lines : (lines : List Line) (actor : Actor) (es : List Entry) → NameNoMaster lines → Follows actor first_standing (filter (is_own actor) lines) es → OpenedLines lines actor es
-opened_lines lines actor es names follows =
-    subst (λ (ls : List Line). FollowsOpened actor first_standing ls es) (sym (own_opened actor lines)) (follows_opened actor first_standing (filter (is_own actor) lines) es (own_named actor lines names) follows)
+opened_lines : (lines : List Line) (actor : Actor) (es : List Entry) → Follows actor first_standing (filter (is_own actor) lines) es → OpenedLines lines actor es
+opened_lines lines actor es follows =
+    subst (λ (ls : List Line). FollowsOpened actor first_standing ls es) (sym (own_opened actor lines)) (follows_opened actor first_standing (filter (is_own actor) lines) es follows)
 
 -- ---- the logs of all
-pub all_opened : (script : ScriptData) (actors : List Actor) (logs : List Logged) → NameNoMaster script.lines → AllFollow script actors logs → AllOpened script actors logs
-all_opened script [] [] names follow = tt
-all_opened script [] (log ∷ logs) names follow = absurd follow
-all_opened script (actor ∷ actors) [] names follow = absurd follow
-all_opened script (actor ∷ actors) (log ∷ logs) names follow = (record { opened = opened_lines script.lines actor log.entries names follow.0; whole = follow.0 }, all_opened script actors logs names follow.1)
+pub all_opened : (script : ScriptData) (actors : List Actor) (logs : List Logged) → AllFollow script actors logs → AllOpened script actors logs
+all_opened script [] [] follow = tt
+all_opened script [] (log ∷ logs) follow = absurd follow
+all_opened script (actor ∷ actors) [] follow = absurd follow
+all_opened script (actor ∷ actors) (log ∷ logs) follow = (record { opened = opened_lines script.lines actor log.entries follow.0; whole = follow.0 }, all_opened script actors logs follow.1)

@@ -67,9 +67,9 @@ abbrev pub IsOther : SetupNumbers → Actor → Event → Type 0
 IsOther setup actor e = (opener e ≡ None) ⊎ OpensOther setup actor e
 
 -- it appends no item that opens a line of the actor
-pub other_not : (actor : Actor) (clocks : Clocks) (w : State) (h : List Item) (e : Event) (fate : Fate) → ReachedInvariant w h → Fit w → clocks.master < w.setup.nodes → IsOther w.setup actor e → AllNot actor (stepped w (timed_at clocks.base clocks.leads e) fate).items
-other_not actor clocks w h e fate stands fit master (inl none) = plain_not actor _ (events_plain w (timed_at clocks.base clocks.leads e) fate (none_opens clocks.base clocks.leads e none))
-other_not actor clocks w h e fate stands fit master (inr k) = any_not actor clocks w h k.line Opens (timed_at clocks.base clocks.leads e) fate stands fit k.own.in_range k.own.asks master (λ has same. k.differs same) (first_is clocks k.line.actor k.line.verb (view_of w k.line.actor) e k.first).next_is
+pub other_not : (actor : Actor) (clocks : Clocks) (w : State) (h : List Item) (e : Event) (fate : Fate) → ReachedInvariant w h → Fit w → clocks.master < w.setup.nodes → IsOther w.setup actor e → AllNot actor (stepped w (timed_at clocks.base clocks.leads clocks.master e) fate).items
+other_not actor clocks w h e fate stands fit master (inl none) = plain_not actor _ (events_plain w (timed_at clocks.base clocks.leads clocks.master e) fate (none_opens clocks.base clocks.leads clocks.master e none))
+other_not actor clocks w h e fate stands fit master (inr k) = any_not actor clocks w h k.line Opens (timed_at clocks.base clocks.leads clocks.master e) fate stands fit k.own.in_range k.own.asks master (λ has same. k.differs same) (first_is clocks k.line.actor k.line.verb (view_of w k.line.actor) e k.first).next_is
 
 -- and only the clock's raise the clock
 pub other_rise : (setup : SetupNumbers) (e : Event) → IsOther setup Clock e → rise_by e ≡ None

@@ -6,15 +6,20 @@ use Rattle.history_book.specs.declared.item.Actor.TheVariants.{Session}
 use Rattle.history_book.specs.declared.item.Item.{Item}
 use Rattle.history_book.specs.declared.item.Item.TheVariants as item
 use Rattle.script_data.specs.declared.line.Line.{Line}
+use Rattle.script_data.specs.declared.line.Target.{Target}
+use Rattle.script_data.specs.declared.line.Target.TheVariants as target
 use Rattle.script_data.specs.declared.line.Verb.{Verb}
 use Rattle.script_data.specs.Data.{ScriptData}
 use Rattle.command_semantics.specs.Answers.{IsAnswer, asks_last}
 use Rattle.command_semantics.specs.Laws.{ActorFits, VerbFits}
+use Rattle.command_semantics.specs.Master.{last_master}
 use Rattle.command_semantics.specs.Runs.{Played, fate_of}
 use Rattle.command_semantics.proofs.OpeningItems.{Begins}
 use Rattle.command_semantics.proofs.Walks.{AllNot, plain_not}
 use Rattle.history_book.specs.Members.{◌∈◌}
 use Rattle.machine.specs.Machine.{Step, stepped}
+use Rattle.machine.specs.declared.event.Event.TheVariants as machine_event
+use Rattle.split_parts.specs.Parts.{node_for}
 use Rattle.split_parts.specs.declared.event.Event.{Event}
 use Rattle.split_stores.specs.declared.seat.Entry.{Entry}
 use Rattle.split_stores.specs.Merged.{timed_at, timed_in, played_with, IsReplayed, kept_items}
@@ -34,7 +39,7 @@ use Rattle.log_refinement.proofs.DueRequests.{HeldAt, CanDecide}
 use Rattle.log_refinement.proofs.ShownRequests.{IsApart, HasPlaces, begin_held, commit_held, own_shows, other_shows, plain_script}
 use Rattle.log_refinement.proofs.ServedItems.{begun_over, shift, walks_over, ComesTo, Moved, LeavesShown, TakesOn, comes_past, gone_by, TimedMove, made_of, comes_on, has_ended, OpensLine, comes_open}
 use Rattle.log_refinement.proofs.SinceAsk.{in_not}
-use Rattle.log_refinement.proofs.WalkedEntries.{plain_kept, other_kept, open_kept, WalkAt, played_after, left_of, walk_at}
+use Rattle.log_refinement.proofs.WalkedEntries.{master_fits, plain_kept, other_kept, open_kept, WalkAt, played_after, left_of, walk_at}
 use Rattle.log_refinement.proofs.Weaving.{Woven}
 
 -- ---- places
@@ -43,7 +48,7 @@ known_of script p good ends = record { tells = good.told.tells; ends = ends; fit
 
 -- the event of an entry, made where it is replayed
 abbrev replayed : WalkAt → TimedMove
-replayed a = record { state = a.played.state; history = a.played.items; base = a.played.clock; leads = a.script.leads; event = a.entry.event; fate = fate_of a.script a.played (timed_in a.script a.played a.entry.event) }
+replayed a = record { state = a.played.state; history = a.played.items; base = a.played.clock; leads = a.script.leads; master = last_master a.played.items; event = a.entry.event; fate = fate_of a.script a.played (timed_in a.script a.played a.entry.event) }
 
 abbrev move_of : WalkAt → Move
 move_of a = made_of (replayed a)
@@ -108,7 +113,7 @@ walk_past a begun lines here none later =
 -- an event of another's log leaves what the node shows
 leaves_shown : (a : WalkAt) → IsApart a.script a.actor a.entry.event → LeavesShown a.script a.actor (move_of a)
 leaves_shown a other s n owed own alone standing k =
-    other_shows a.script.setup a.played.state a.played.clock a.script.leads a.entry.event (move_of a).fate n s owed (subst (λ (x : Actor). IsOther a.script.setup x a.entry.event) own other.0) (other.1 s own alone) standing k
+    other_shows a.script.setup a.played.state a.played.clock a.script.leads (last_master a.played.items) a.entry.event (move_of a).fate n s owed (subst (λ (x : Actor). IsOther a.script.setup x a.entry.event) own other.0) (other.1 s own alone) standing k
 
 -- where commits are not handed over, the node can decide
 can_decide : (a : WalkAt) (s n : ℕ) → Stands a → Moved (move_of a) → others_serve a.script s ≡ false → CanDecide a.played.state n
@@ -118,17 +123,29 @@ can_decide a s n at moved alone = record {
 }
 
 takes_on : (a : WalkAt) → Stands a → Moved (move_of a) → opener a.entry.event ≡ None → TakesOn a.script a.actor (replayed a)
-takes_on a at moved opens s n st own alone asks k = own_shows a.played.state a.played.clock a.script.leads a.entry.event (move_of a).fate s n st (can_decide a s n at moved alone) opens asks k
+takes_on a at moved opens s n st own alone asks k = own_shows a.played.state a.played.clock a.script.leads (last_master a.played.items) a.entry.event (move_of a).fate s n st (can_decide a s n at moved alone) opens asks k
 
 has_places : (a : WalkAt) (s n : ℕ) → s < 16 → Moved (move_of a) → HasPlaces a.played.state n s
 has_places a s n less moved i there = let many : length i.requests ≡ 16 = moved.k.tells.shows.open_asks.sixteen n i there in omega (arith, many, less)
 
 -- the event of the entry, were it this one
 abbrev BeginHeldBy : WalkAt → ℕ → ℕ → Event → Type 0
-BeginHeldBy a s n e = let step : Step = stepped a.played.state (timed_at a.played.clock a.script.leads e) (move_of a).fate in item.AskBegin s n ∈ step.items → HeldAt step.state.nodes n s due.Accept
+BeginHeldBy a s n e = let step : Step = stepped a.played.state (timed_at a.played.clock a.script.leads (last_master a.played.items) e) (move_of a).fate in item.AskBegin s n ∈ step.items → HeldAt step.state.nodes n s due.Accept
 
 abbrev CommitHeldBy : WalkAt → ℕ → ℕ → Event → Type 0
-CommitHeldBy a s n e = let step : Step = stepped a.played.state (timed_at a.played.clock a.script.leads e) (move_of a).fate in (t : ℕ) → item.AskCommit s n t ∈ step.items → HeldAt step.state.nodes n s due.Accept
+CommitHeldBy a s n e = let step : Step = stepped a.played.state (timed_at a.played.clock a.script.leads (last_master a.played.items) e) (move_of a).fate in (t : ℕ) → item.AskCommit s n t ∈ step.items → HeldAt step.state.nodes n s due.Accept
+
+-- and were it an ask of this node
+abbrev BeginHeldAt : WalkAt → ℕ → ℕ → ℕ → Type 0
+BeginHeldAt a s n m = let step : Step = stepped a.played.state (machine_event.AskBegin s m) (move_of a).fate in item.AskBegin s n ∈ step.items → HeldAt step.state.nodes n s due.Accept
+
+abbrev CommitHeldAt : WalkAt → ℕ → ℕ → ℕ → Type 0
+CommitHeldAt a s n m = let step : Step = stepped a.played.state (machine_event.AskCommit s m) (move_of a).fate in (t : ℕ) → item.AskCommit s n t ∈ step.items → HeldAt step.state.nodes n s due.Accept
+
+-- the node that the ask is for
+node_is : (h : List Item) (to : Target) (n : ℕ) → asks_last h to n → n ≡ node_for (last_master h) to
+node_is h (target.Node named) n is = is
+node_is h target.Master n is = is
 
 other_step : MachineLaws → (a : WalkAt) → Stands a → IsApart a.script a.actor a.entry.event → Serves a.script a.actor a.own (a.entry ∷ a.entries) a.played
 other_step laws a at other ends st begun lines are_own follows kept comes =
@@ -184,8 +201,9 @@ open_step laws a st begun line lines at come mine are_own paid first follows =
       kept = come.kept;
       answers = subst (λ (x : Actor). IsAnswer (asks_last p.items) x line.verb b.first) mine.same b.answers;
       is = sym at.here ∙ b.is;
-      begin_held = λ s n less own told. subst (λ (e : Event). BeginHeldBy a s n e) (sym own) (begin_held p.state s n v.fate (has_places a s n less moved)) told;
-      commit_held = λ s n t less own told. subst (λ (e : Event). CommitHeldBy a s n e) (sym own) (commit_held p.state s n v.fate (has_places a s n less moved)) t told;
+      master = master_fits a.script p at.good;
+      begin_held = λ s n to less own asked told. subst (λ (e : Event). BeginHeldBy a s n e) (sym own) (subst (λ (m : ℕ). BeginHeldAt a s n m) (node_is p.items to n asked) (begin_held p.state s n v.fate (has_places a s n less moved))) told;
+      commit_held = λ s n t to less own asked told. subst (λ (e : Event). CommitHeldBy a s n e) (sym own) (subst (λ (m : ℕ). CommitHeldAt a s n m) (node_is p.items to n asked) (commit_held p.state s n v.fate (has_places a s n less moved))) t told;
     } in
     let now : FollowsOpened actor (opened actor line.verb st items) lines a.own = subst (λ (xs : List Item). FollowsOpened actor (opened actor line.verb st xs) lines a.own) at.here follows in
     walk_open a begun line lines at.here b (has_ended a.script actor p.state p.items st begun come.comes paid)

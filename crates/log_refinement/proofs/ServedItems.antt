@@ -1,6 +1,6 @@
 -- The walk of a history along an actor's lines, over the items of one entry: what a line has begun, and what is owed of it.
 use Rattle.std.proofs.Common.{◌≡◌, ℕ, ◌==◌, ◌<◌, Bool, true, false, if◌then◌else◌, List, [], ◌∷◌, ◌++◌, Option, Some, None, ◌⊎◌, inl, inr, refl, sym, ◌∙◌, ap, subst, append_assoc, arith, length}
-use Rattle.std.proofs.lemmas.Option.{same_Some, none-some}
+use Rattle.std.proofs.lemmas.Option.{same_Some}
 use Rattle.stamp_base.specs.SetupNumbers.{SetupNumbers}
 use Rattle.std.proofs.lemmas.Bool.{and_parts, cases_Bool, eqb-true}
 use Rattle.std.proofs.lemmas.List.{append-nil}
@@ -22,6 +22,7 @@ use Rattle.script_data.specs.declared.line.Target.TheVariants as target
 use Rattle.script_data.specs.declared.line.Verb.{Verb}
 use Rattle.script_data.specs.declared.line.Verb.TheVariants as verb
 use Rattle.command_semantics.specs.Answers.{IsAnswer, asks_last}
+use Rattle.command_semantics.specs.Master.{last_master}
 use Rattle.command_semantics.specs.Laws.{ActorFits, TargetFits, VerbFits}
 use Rattle.command_semantics.proofs.AlwaysFit.{found}
 use Rattle.command_semantics.proofs.Walks.{AllNot}
@@ -34,7 +35,6 @@ use Rattle.log_refinement.specs.declared.owed.Owed.{Owed}
 use Rattle.log_refinement.specs.declared.owed.Owed.TheVariants.{Nothing as OwesNothing, Read, Answer, Denied, Removal, Erasure, Quiet}
 use Rattle.log_refinement.specs.Owed.{ends_read, Standing, with_item, with_items, is_paid, is_due, due_after, denies_request, when_due, after_due, repeats, after_repeat, is_step, opened, standing_with}
 use Rattle.log_refinement.specs.Follows.{first_event}
-use Rattle.log_refinement.specs.Laws.{NamesNode}
 use Rattle.log_refinement.specs.Served.{others_serve, HasCrashed, WasDenied, IsLeft, HasCome, Begun, Nothing, Reads, Asks, begun_by, begun_after, HasEnded, AnsweredServed}
 use Rattle.log_refinement.proofs.AskFacts.{MachineLaws, if_either, was_denied, EndsBy}
 use Rattle.log_refinement.proofs.DueRequests.{HeldAt, NodeShows}
@@ -153,9 +153,9 @@ comes_past laws script actor v st (Asks s ask since) moved leaves none comes = s
 abbrev pub gone_by : Actor → Standing → Event → List Item → Standing
 gone_by actor st e items = record (with_items actor (is_step e) st items) { owed = after_repeat actor e items (after_due actor e items (with_items actor (is_step e) st items).owed) }
 
-step_is : (base : ℕ) (leads : List ℕ) (e : Event) → is_step e ≡ true → (r : ℕ) × (timed_at base leads e ≡ made.Step r)
-step_is base leads (event.Step session) is = (session, refl)
-step_is base leads _ is = absurd (cc)
+step_is : (base : ℕ) (leads : List ℕ) (master : ℕ) (e : Event) → is_step e ≡ true → (r : ℕ) × (timed_at base leads master e ≡ made.Step r)
+step_is base leads master (event.Step session) is = (session, refl)
+step_is base leads master _ is = absurd (cc)
 
 -- an answer that repeats is of the ask, and says nothing
 pub record Repeats (s n : ℕ) (e : Event) (items : List Item) : Type 0 where
@@ -222,11 +222,12 @@ pub record TimedMove : Type 0 where
   pub history : List Item
   pub base : ℕ
   pub leads : List ℕ
+  pub master : ℕ
   pub event : Event
   pub fate : Fate
 
 abbrev pub made_of : TimedMove → Move
-made_of g = record { state = g.state; history = g.history; event = timed_at g.base g.leads g.event; fate = g.fate }
+made_of g = record { state = g.state; history = g.history; event = timed_at g.base g.leads g.master g.event; fate = g.fate }
 
 own_stands : MachineLaws → (s n : ℕ) (start : Option ℕ) (g : TimedMove) (since : List Item) (st : Standing) → n < g.state.setup.nodes → Between s (made_of g) → AskStands s n start g.state g.history since st →
     AskStands s n start (state_after (made_of g)) (history_after (made_of g)) (since ++ items_of (made_of g)) (gone_by (Session s) st g.event (items_of (made_of g)))
@@ -236,10 +237,10 @@ own_stands laws s n start g since st less b stands =
     let steps : Bool = is_step g.event in
     let one : Standing = with_items (Session s) steps st items in
     let post = found g.state.nodes n (let many : length g.state.nodes ≡ g.state.setup.nodes = b.k.fit.nodes in omega (arith, many, less)) in
-    let behind : AskStands s n start (state_after v) (history_after v) (since ++ items) one = stands_own laws s n start v since steps st b (λ is x m. let r = step_is g.base g.leads g.event is in own_says s r.0 v b r.1 x m) stands in
+    let behind : AskStands s n start (state_after v) (history_after v) (since ++ items) one = stands_own laws s n start v since steps st b (λ is x m. let r = step_is g.base g.leads g.master g.event is in own_says s r.0 v b r.1 x m) stands in
     repeat_by s n start (state_after v) (history_after v) (since ++ items) g.event items (after_due (Session s) g.event items one.owed) one
     (λ k. subst (λ (z : Standing). AskStands s n start (state_after v) (history_after v) (since ++ items) (record z { owed = OwesNothing })) (sym (no_items s steps st items k.none))
-    (stands_silent laws s n start v since st b (record { post = post.0; here = post.1; answer = ap (λ (x : Event). timed_at g.base g.leads x) k.is; none = k.none }) stands))
+    (stands_silent laws s n start v since st b (record { post = post.0; here = post.1; answer = ap (λ (x : Event). timed_at g.base g.leads g.master x) k.is; none = k.none }) stands))
     (due_by_event s n start (state_after v) (history_after v) since items g.event one.owed one behind)
 
 -- ---- an event of its own
@@ -340,27 +341,10 @@ commit_answer h Janitor to session node start (inl k) = absurd k
 commit_answer h Janitor to session node start (inr (inl refusal)) = absurd refusal
 commit_answer h Janitor to session node start (inr (inr instead)) = absurd instead
 
--- the node is in range; a line that names the master has no first event
-node_fits : (h : List Item) (setup : SetupNumbers) (to : Target) (node : ℕ) → NamesNode to → asks_last h to node → TargetFits setup to → node < setup.nodes
-node_fits h setup (target.Node named) node names is fits = subst (λ (n : ℕ). n < setup.nodes) (sym is) fits
-node_fits h setup target.Master node names is fits = absurd names
-
-none_there : (e : Event) → None ≡ Some e → ⊥
-none_there e is = none-some e is
-
-begin_names : (actor : Actor) (to : Target) (e : Event) → first_event actor (verb.Begin to) ≡ Some e → NamesNode to
-begin_names (Session s) (target.Node node) e is = tt
-begin_names (Session s) target.Master e is = none_there e is
-begin_names (Node n) to e is = absurd (none_there e is)
-begin_names Clock to e is = absurd (none_there e is)
-begin_names Janitor to e is = absurd (none_there e is)
-
-commit_names : (actor : Actor) (to : Target) (e : Event) → first_event actor (verb.Commit to) ≡ Some e → NamesNode to
-commit_names (Session s) (target.Node node) e is = tt
-commit_names (Session s) target.Master e is = none_there e is
-commit_names (Node n) to e is = absurd (none_there e is)
-commit_names Clock to e is = absurd (none_there e is)
-commit_names Janitor to e is = absurd (none_there e is)
+-- the node is in range
+node_fits : (h : List Item) (setup : SetupNumbers) (to : Target) (node : ℕ) → last_master h < setup.nodes → asks_last h to node → TargetFits setup to → node < setup.nodes
+node_fits h setup (target.Node named) node master is fits = subst (λ (n : ℕ). n < setup.nodes) (sym is) fits
+node_fits h setup target.Master node master is fits = subst (λ (n : ℕ). n < setup.nodes) (sym is) master
 
 -- what the line has begun, and what is owed of it, by its items
 abbrev Opened : ScriptData → Actor → Verb → State → List Item → Standing → Item → List Item → List Item → Type 0
@@ -389,26 +373,23 @@ pub record OpensLine (actor : Actor) (line : Verb) (st : Standing) (first : Item
   pub moved : Moved v
   pub fits : ActorFits v.state.setup actor
   pub asks : VerbFits v.state.setup line
+  pub master : last_master v.history < v.state.setup.nodes
   pub begins : first_event actor line ≡ Some own
   pub kept : KeysKept actor v.state st.written
   pub answers : IsAnswer (asks_last v.history) actor line first
   pub is : items_of v ≡ first ∷ rest
-  pub begin_held : (s n : ℕ) → s < 16 → own ≡ event.AskBegin s n → item.AskBegin s n ∈ items_of v → HeldAt (state_after v).nodes n s due.Accept
-  pub commit_held : (s n t : ℕ) → s < 16 → own ≡ event.AskCommit s n → item.AskCommit s n t ∈ items_of v → HeldAt (state_after v).nodes n s due.Accept
+  pub begin_held : (s n : ℕ) (to : Target) → s < 16 → own ≡ event.AskBegin s to → asks_last v.history to n → item.AskBegin s n ∈ items_of v → HeldAt (state_after v).nodes n s due.Accept
+  pub commit_held : (s n t : ℕ) (to : Target) → s < 16 → own ≡ event.AskCommit s to → asks_last v.history to n → item.AskCommit s n t ∈ items_of v → HeldAt (state_after v).nodes n s due.Accept
 
 -- what the line has begun behind it
 abbrev OpenedBehind : ScriptData → Actor → Verb → Standing → Item → List Item → Move → Type 0
 OpenedBehind script actor line st first rest v = Opened script actor line (state_after v) v.history st first rest (items_of v)
 
-begin_own : (h : List Item) (actor : Actor) (to : Target) (e : Event) (session node : ℕ) → (actor ≡ Session session) × asks_last h to node → first_event actor (verb.Begin to) ≡ Some e → e ≡ event.AskBegin session node
-begin_own h actor (target.Node named) e session node answer is =
-    sym (same_Some (event.AskBegin session named) e (sym (ap (λ (a : Actor). first_event a (verb.Begin (target.Node named))) answer.0) ∙ is)) ∙ ap (λ (n : ℕ). event.AskBegin session n) (sym answer.1)
-begin_own h actor target.Master e session node answer is = absurd (none-some e (sym (ap (λ (a : Actor). first_event a (verb.Begin target.Master)) answer.0) ∙ is))
+begin_own : (actor : Actor) (to : Target) (e : Event) (session : ℕ) → actor ≡ Session session → first_event actor (verb.Begin to) ≡ Some e → e ≡ event.AskBegin session to
+begin_own actor to e session same is = sym (same_Some (event.AskBegin session to) e (sym (ap (λ (a : Actor). first_event a (verb.Begin to)) same) ∙ is))
 
-commit_own : (h : List Item) (actor : Actor) (to : Target) (e : Event) (session node : ℕ) → (actor ≡ Session session) × asks_last h to node → first_event actor (verb.Commit to) ≡ Some e → e ≡ event.AskCommit session node
-commit_own h actor (target.Node named) e session node answer is =
-    sym (same_Some (event.AskCommit session named) e (sym (ap (λ (a : Actor). first_event a (verb.Commit (target.Node named))) answer.0) ∙ is)) ∙ ap (λ (n : ℕ). event.AskCommit session n) (sym answer.1)
-commit_own h actor target.Master e session node answer is = absurd (none-some e (sym (ap (λ (a : Actor). first_event a (verb.Commit target.Master)) answer.0) ∙ is))
+commit_own : (actor : Actor) (to : Target) (e : Event) (session : ℕ) → actor ≡ Session session → first_event actor (verb.Commit to) ≡ Some e → e ≡ event.AskCommit session to
+commit_own actor to e session same is = sym (same_Some (event.AskCommit session to) e (sym (ap (λ (a : Actor). first_event a (verb.Commit to)) same) ∙ is))
 
 begin_opened : MachineLaws → (script : ScriptData) (actor : Actor) (to : Target) (st : Standing) (session node : ℕ) (rest : List Item) (own : Event) (v : Move) → OpensLine actor (verb.Begin to) st (item.AskBegin session node) rest own v → OpenedBehind script actor (verb.Begin to) st (item.AskBegin session node) rest v
 unfolding ◌∈◌ with_items begun_over
@@ -426,9 +407,9 @@ begin_opened laws script actor to st session node rest own v o =
     let of : OfAsk script actor session (begin_ask node) (state_after v) (h ++ x ∷ []) [] (standing_with actor false st x (Answer node due.Accept)) = record {
       own = answer.0;
       session = less;
-      node = subst (λ (n : ℕ). node < n) (sym o.moved.setup) (node_fits h w.setup to node (begin_names actor to own o.begins) answer.1 o.asks);
+      node = subst (λ (n : ℕ). node < n) (sym o.moved.setup) (node_fits h w.setup to node o.master answer.1 o.asks);
       stands = begin_first session node h;
-      shown = λ alone standing. o.begin_held session node less (begin_own h actor to own session node answer o.begins) told;
+      shown = λ alone standing. o.begin_held session node to less (begin_own actor to own session answer.0 o.begins) answer.1 told;
     } in
     subst (λ (xs : List Item). OpenedBehind script actor (verb.Begin to) st x xs v) (sym none) (subst (λ (xs : List Item). Opened script actor (verb.Begin to) (state_after v) h st x [] xs) (sym takes.2) of)
 
@@ -450,9 +431,9 @@ commit_opened laws script actor to st session node start rest own v o =
     let of : OfAsk script actor session (commit_ask node start) (state_after v) (h ++ x ∷ []) [] (standing_with actor false st x (Answer node due.Accept)) = record {
       own = answer.0;
       session = less;
-      node = subst (λ (n : ℕ). node < n) (sym o.moved.setup) (node_fits h w.setup to node (commit_names actor to own o.begins) answer.1 o.asks);
+      node = subst (λ (n : ℕ). node < n) (sym o.moved.setup) (node_fits h w.setup to node o.master answer.1 o.asks);
       stands = commit_first session node start w (state_after v) h c.0 d.0 (standing_with actor false st x (Answer node due.Accept)) asked (subst (λ (a : Actor). KeysKept a w st.written) answer.0 o.kept) refl;
-      shown = λ alone standing. o.commit_held session node start less (commit_own h actor to own session node answer o.begins) told;
+      shown = λ alone standing. o.commit_held session node start to less (commit_own actor to own session answer.0 o.begins) answer.1 told;
     } in
     subst (λ (xs : List Item). OpenedBehind script actor (verb.Commit to) st x xs v) (sym none) (subst (λ (xs : List Item). Opened script actor (verb.Commit to) (state_after v) h st x [] xs) (sym takes.4) of)
 

@@ -60,7 +60,7 @@ all_settled law by_plans script logs whole carried follow rise settled =
 
 pub settled_logs_answer : EventsStayTold → SettledByPlans → SettledLogsAnswer
 settled_logs_answer law by_plans script logs whole carried follow_all rise settled actor =
-    let follow : AllOpened script (actors_of script) logs = all_opened script (actors_of script) logs carried.masters follow_all in
+    let follow : AllOpened script (actors_of script) logs = all_opened script (actors_of script) logs follow_all in
     let k : WovenLog script actor settled.merged = woven_log script actor logs settled.merged carried.lines follow rise settled.in_order in
     let made : AllMade script settled.merged (opening_played script) = all_settled law by_plans script logs whole carried follow rise settled in
     let answers : Answered asks_last actor [] None (filter (is_of actor) script.lines) (kept_items settled.merged) = entries_answer script actor k.entries settled.merged (opening_played script) made (woven_others script actor k.entries settled.merged k.woven) first_standing None (filter (is_of actor) script.lines) (own_lines script.setup actor script.lines carried.lines) k.follows tt in
@@ -68,12 +68,12 @@ settled_logs_answer law by_plans script logs whole carried follow_all rise settl
 
 pub settled_logs_are_planned : SettledIsPlanned → SettledLogsArePlanned
 settled_logs_are_planned law script logs whole carried follow rise settled =
-    law script (logs_of logs) whole settled carried.setup carried.playable (rises_settled script logs whole carried (all_opened script (actors_of script) logs carried.masters follow) rise settled)
+    law script (logs_of logs) whole settled carried.setup carried.playable (rises_settled script logs whole carried (all_opened script (actors_of script) logs follow) rise settled)
 
 pub settled_logs_keep_service : SettledIsOrdered → OrdersKeepService → SettledLogsKeepService
 settled_logs_keep_service ordered law script logs whole carried follow rise settled =
     let order : IsOrdered script settled.merged whole = ordered script (logs_of logs) whole settled in
-    let ticks : ticks_made order.events ≡ ticks_in script.lines = order.ticks ∙ rises_settled script logs whole carried (all_opened script (actors_of script) logs carried.masters follow) rise settled in
+    let ticks : ticks_made order.events ≡ ticks_in script.lines = order.ticks ∙ rises_settled script logs whole carried (all_opened script (actors_of script) logs follow) rise settled in
     let few : sum (ticks_made order.events) ≤ ticks_of script.lines = subst (λ (made : List ℕ). sum made ≤ ticks_of script.lines) (sym ticks) (ticks_most script.lines) in
     subst (KeepsService script.setup) (sym order.items) (law script order.events carried.setup carried.playable order.read few)
 
@@ -87,7 +87,7 @@ keys_first script _ carried = tt
 
 pub settled_logs_serve : MachineLaws → EventsStayTold → SettledByPlans → SettledLogsServe
 settled_logs_serve laws law by_plans script logs whole carried follow_all rise settled actor =
-    let follow : AllOpened script (actors_of script) logs = all_opened script (actors_of script) logs carried.masters follow_all in
+    let follow : AllOpened script (actors_of script) logs = all_opened script (actors_of script) logs follow_all in
     let k : WovenLog script actor settled.merged = woven_log script actor logs settled.merged carried.lines follow rise settled.in_order in
     let made : AllMade script settled.merged (opening_played script) = all_settled law by_plans script logs whole carried follow rise settled in
     let serves : AnsweredServed (HasEnded script) actor [] Nothing (filter (is_of actor) script.lines) (kept_items settled.merged) =

@@ -31,6 +31,7 @@ use Rattle.script_data.specs.declared.line.Line.{Line}
 use Rattle.script_data.specs.declared.line.Verb.{Verb}
 use Rattle.script_data.specs.declared.line.Verb.TheVariants as verb
 use Rattle.script_data.specs.Data.{ScriptData}
+use Rattle.split_parts.specs.Parts.{node_for}
 use Rattle.split_parts.specs.declared.event.Event.{Event}
 use Rattle.split_parts.specs.declared.event.Event.TheVariants as event
 use Rattle.split_stores.specs.declared.seat.Entry.{Entry}
@@ -77,24 +78,24 @@ own_rest nodes s n steps e items owed rest =
     let over : IsRest (owed_over s steps owed items) = rest_over s steps owed items rest in
     subst (NodeShows nodes n s) (sym (due_rest s e items (owed_over s steps owed items) over)) (shows_rest nodes n s (owed_over s steps owed items) over)
 
-own_over : (w : State) (base : ℕ) (leads : List ℕ) (e : Event) (fate : Fate) (s n : ℕ) (owed : Owed) → CanDecide w n → opener e ≡ None → AsksNode n owed → NodeShows w.nodes n s owed →
-    let step : Step = stepped w (timed_at base leads e) fate in NodeShows step.state.nodes n s (after_due (Session s) e step.items (owed_over s (is_step e) owed step.items))
-own_over w base leads e fate s n (Answer asked d) can opens asks k =
-    let step : Step = stepped w (timed_at base leads e) fate in
-    subst (λ (m : ℕ). NodeShows step.state.nodes n s (after_due (Session s) e step.items (owed_over s (is_step e) (Answer m d) step.items))) (sym asks) (own_answer w base leads e fate s n d can opens k)
-own_over w base leads e fate s n Denied can opens asks k = absurd k
-own_over w base leads e fate s n Nothing can opens asks k = own_rest _ s n (is_step e) e _ Nothing tt
-own_over w base leads e fate s n (Read key) can opens asks k = own_rest _ s n (is_step e) e _ (Read key) tt
-own_over w base leads e fate s n (Removal start) can opens asks k = own_rest _ s n (is_step e) e _ (Removal start) tt
-own_over w base leads e fate s n Erasure can opens asks k = own_rest _ s n (is_step e) e _ Erasure tt
-own_over w base leads e fate s n Quiet can opens asks k = own_rest _ s n (is_step e) e _ Quiet tt
+own_over : (w : State) (base : ℕ) (leads : List ℕ) (master : ℕ) (e : Event) (fate : Fate) (s n : ℕ) (owed : Owed) → CanDecide w n → opener e ≡ None → AsksNode n owed → NodeShows w.nodes n s owed →
+    let step : Step = stepped w (timed_at base leads master e) fate in NodeShows step.state.nodes n s (after_due (Session s) e step.items (owed_over s (is_step e) owed step.items))
+own_over w base leads master e fate s n (Answer asked d) can opens asks k =
+    let step : Step = stepped w (timed_at base leads master e) fate in
+    subst (λ (m : ℕ). NodeShows step.state.nodes n s (after_due (Session s) e step.items (owed_over s (is_step e) (Answer m d) step.items))) (sym asks) (own_answer w base leads master e fate s n d can opens k)
+own_over w base leads master e fate s n Denied can opens asks k = absurd k
+own_over w base leads master e fate s n Nothing can opens asks k = own_rest _ s n (is_step e) e _ Nothing tt
+own_over w base leads master e fate s n (Read key) can opens asks k = own_rest _ s n (is_step e) e _ (Read key) tt
+own_over w base leads master e fate s n (Removal start) can opens asks k = own_rest _ s n (is_step e) e _ (Removal start) tt
+own_over w base leads master e fate s n Erasure can opens asks k = own_rest _ s n (is_step e) e _ Erasure tt
+own_over w base leads master e fate s n Quiet can opens asks k = own_rest _ s n (is_step e) e _ Quiet tt
 
-pub own_shows : (w : State) (base : ℕ) (leads : List ℕ) (e : Event) (fate : Fate) (s n : ℕ) (st : Standing) → CanDecide w n → opener e ≡ None → AsksNode n st.owed → NodeShows w.nodes n s st.owed →
-    let step : Step = stepped w (timed_at base leads e) fate in NodeShows step.state.nodes n s (after_repeat (Session s) e step.items (after_due (Session s) e step.items (with_items (Session s) (is_step e) st step.items).owed))
-own_shows w base leads e fate s n st can opens asks k =
-    let step : Step = stepped w (timed_at base leads e) fate in
+pub own_shows : (w : State) (base : ℕ) (leads : List ℕ) (master : ℕ) (e : Event) (fate : Fate) (s n : ℕ) (st : Standing) → CanDecide w n → opener e ≡ None → AsksNode n st.owed → NodeShows w.nodes n s st.owed →
+    let step : Step = stepped w (timed_at base leads master e) fate in NodeShows step.state.nodes n s (after_repeat (Session s) e step.items (after_due (Session s) e step.items (with_items (Session s) (is_step e) st step.items).owed))
+own_shows w base leads master e fate s n st can opens asks k =
+    let step : Step = stepped w (timed_at base leads master e) fate in
     repeat_shows step.state.nodes s n e step.items (after_due (Session s) e step.items (with_items (Session s) (is_step e) st step.items).owed)
-    (subst (λ (o : Owed). NodeShows step.state.nodes n s (after_due (Session s) e step.items o)) (sym (standing_over s (is_step e) st step.items)) (own_over w base leads e fate s n st.owed can opens asks k))
+    (subst (λ (o : Owed). NodeShows step.state.nodes n s (after_due (Session s) e step.items o)) (sym (standing_over s (is_step e) st step.items)) (own_over w base leads master e fate s n st.owed can opens asks k))
 
 -- ---- crashes
 crash_found : (w : State) (n : ℕ) (i : InstanceEntry) (fate : Fate) (found : Option (Option InstanceEntry)) → slice_get w.nodes n ≡ found → found ≡ Some (Some i) → HasCrashed n (stepped w (made.Crash n) fate).items
@@ -229,44 +230,44 @@ and_none : (a b : Bool) → b ≡ false → a && b ≡ false
 and_none true b none = none
 and_none false b none = refl
 
-serving_touch : (n s base : ℕ) (leads : List ℕ) (e : Event) → serves s e ≡ false → opener e ≡ None → touches n s (timed_at base leads e) ≡ false
-serving_touch n s base leads (event.Accept m r) none opens = and_none (m == n) (r == s) none
-serving_touch n s base leads (event.Decide m r) none opens = and_none (m == n) (r == s) none
-serving_touch n s base leads (event.Put m r) none opens = and_none (m == n) (r == s) none
-serving_touch n s base leads (event.Answer m r) none opens = and_none (m == n) (r == s) none
-serving_touch n s base leads (event.Crash m) none opens = absurd (none-some (Node m) (sym opens))
-serving_touch n s base leads (event.AskBegin r m) none opens = absurd (none-some (Session r) (sym opens))
-serving_touch n s base leads (event.AskCommit r m) none opens = absurd (none-some (Session r) (sym opens))
-serving_touch n s base leads e none opens = refl
+serving_touch : (n s base : ℕ) (leads : List ℕ) (master : ℕ) (e : Event) → serves s e ≡ false → opener e ≡ None → touches n s (timed_at base leads master e) ≡ false
+serving_touch n s base leads master (event.Accept m r) none opens = and_none (m == n) (r == s) none
+serving_touch n s base leads master (event.Decide m r) none opens = and_none (m == n) (r == s) none
+serving_touch n s base leads master (event.Put m r) none opens = and_none (m == n) (r == s) none
+serving_touch n s base leads master (event.Answer m r) none opens = and_none (m == n) (r == s) none
+serving_touch n s base leads master (event.Crash m) none opens = absurd (none-some (Node m) (sym opens))
+serving_touch n s base leads master (event.AskBegin r to) none opens = absurd (none-some (Session r) (sym opens))
+serving_touch n s base leads master (event.AskCommit r to) none opens = absurd (none-some (Session r) (sym opens))
+serving_touch n s base leads master e none opens = refl
 
 -- one that opens a line of another is no ask of the session
-opening_touch : (n s base : ℕ) (leads : List ℕ) (e : Event) (who : Actor) → opener e ≡ Some who → (who ≡ Session s → ⊥) → (e ≡ event.Crash n → ⊥) → touches n s (timed_at base leads e) ≡ false
-opening_touch n s base leads (event.AskBegin r m) who opens differs crash = and_none (m == n) (r == s) (other_session s r r (λ same. differs (sym (same_Some (Session r) who opens) ∙ same)) refl)
-opening_touch n s base leads (event.AskCommit r m) who opens differs crash = and_none (m == n) (r == s) (other_session s r r (λ same. differs (sym (same_Some (Session r) who opens) ∙ same)) refl)
-opening_touch n s base leads (event.Crash m) who opens differs crash = by_node (m == n) refl
+opening_touch : (n s base : ℕ) (leads : List ℕ) (master : ℕ) (e : Event) (who : Actor) → opener e ≡ Some who → (who ≡ Session s → ⊥) → (e ≡ event.Crash n → ⊥) → touches n s (timed_at base leads master e) ≡ false
+opening_touch n s base leads master (event.AskBegin r to) who opens differs crash = and_none (node_for master to == n) (r == s) (other_session s r r (λ same. differs (sym (same_Some (Session r) who opens) ∙ same)) refl)
+opening_touch n s base leads master (event.AskCommit r to) who opens differs crash = and_none (node_for master to == n) (r == s) (other_session s r r (λ same. differs (sym (same_Some (Session r) who opens) ∙ same)) refl)
+opening_touch n s base leads master (event.Crash m) who opens differs crash = by_node (m == n) refl
   where
     by_node : (b : Bool) → (m == n) ≡ b → (m == n) ≡ false
     by_node true is = absurd (crash (ap (λ (q : ℕ). event.Crash q) (eqb-true m n is)))
     by_node false is = is
-opening_touch n s base leads (event.Accept m r) who opens differs crash = absurd (none-some who opens)
-opening_touch n s base leads (event.Decide m r) who opens differs crash = absurd (none-some who opens)
-opening_touch n s base leads (event.Put m r) who opens differs crash = absurd (none-some who opens)
-opening_touch n s base leads (event.Answer m r) who opens differs crash = absurd (none-some who opens)
-opening_touch n s base leads e who opens differs crash = refl
+opening_touch n s base leads master (event.Accept m r) who opens differs crash = absurd (none-some who opens)
+opening_touch n s base leads master (event.Decide m r) who opens differs crash = absurd (none-some who opens)
+opening_touch n s base leads master (event.Put m r) who opens differs crash = absurd (none-some who opens)
+opening_touch n s base leads master (event.Answer m r) who opens differs crash = absurd (none-some who opens)
+opening_touch n s base leads master e who opens differs crash = refl
 
-apart_touch : (setup : SetupNumbers) (n s base : ℕ) (leads : List ℕ) (e : Event) → IsOther setup (Session s) e → serves s e ≡ false → (e ≡ event.Crash n → ⊥) → touches n s (timed_at base leads e) ≡ false
-apart_touch setup n s base leads e (inl none) idle crash = serving_touch n s base leads e idle none
-apart_touch setup n s base leads e (inr k) idle crash = opening_touch n s base leads e k.line.actor (first_own k.line.actor k.line.verb e k.first) k.differs crash
+apart_touch : (setup : SetupNumbers) (n s base : ℕ) (leads : List ℕ) (master : ℕ) (e : Event) → IsOther setup (Session s) e → serves s e ≡ false → (e ≡ event.Crash n → ⊥) → touches n s (timed_at base leads master e) ≡ false
+apart_touch setup n s base leads master e (inl none) idle crash = serving_touch n s base leads master e idle none
+apart_touch setup n s base leads master e (inr k) idle crash = opening_touch n s base leads master e k.line.actor (first_own k.line.actor k.line.verb e k.first) k.differs crash
 
-pub other_shows : (setup : SetupNumbers) (w : State) (base : ℕ) (leads : List ℕ) (e : Event) (fate : Fate) (n s : ℕ) (owed : Owed) → IsOther setup (Session s) e → serves s e ≡ false → (HasCrashed n (stepped w (timed_at base leads e) fate).items → ⊥) → NodeShows w.nodes n s owed → NodeShows (stepped w (timed_at base leads e) fate).state.nodes n s owed
-other_shows setup w base leads e fate n s (Answer asked d) other idle crashed k =
-    shows_past w (timed_at base leads e) fate n s (Answer asked d) (apart_touch setup n s base leads e other idle (λ is. crashed (subst (λ (q : Event). HasCrashed n (stepped w (timed_at base leads q) fate).items) (sym is) (crash_tells w n s d fate k)))) k
-other_shows setup w base leads e fate n s Denied other idle crashed k = absurd k
-other_shows setup w base leads e fate n s Nothing other idle crashed k = tt
-other_shows setup w base leads e fate n s (Read key) other idle crashed k = tt
-other_shows setup w base leads e fate n s (Removal start) other idle crashed k = tt
-other_shows setup w base leads e fate n s Erasure other idle crashed k = tt
-other_shows setup w base leads e fate n s Quiet other idle crashed k = tt
+pub other_shows : (setup : SetupNumbers) (w : State) (base : ℕ) (leads : List ℕ) (master : ℕ) (e : Event) (fate : Fate) (n s : ℕ) (owed : Owed) → IsOther setup (Session s) e → serves s e ≡ false → (HasCrashed n (stepped w (timed_at base leads master e) fate).items → ⊥) → NodeShows w.nodes n s owed → NodeShows (stepped w (timed_at base leads master e) fate).state.nodes n s owed
+other_shows setup w base leads master e fate n s (Answer asked d) other idle crashed k =
+    shows_past w (timed_at base leads master e) fate n s (Answer asked d) (apart_touch setup n s base leads master e other idle (λ is. crashed (subst (λ (q : Event). HasCrashed n (stepped w (timed_at base leads master q) fate).items) (sym is) (crash_tells w n s d fate k)))) k
+other_shows setup w base leads master e fate n s Denied other idle crashed k = absurd k
+other_shows setup w base leads master e fate n s Nothing other idle crashed k = tt
+other_shows setup w base leads master e fate n s (Read key) other idle crashed k = tt
+other_shows setup w base leads master e fate n s (Removal start) other idle crashed k = tt
+other_shows setup w base leads master e fate n s Erasure other idle crashed k = tt
+other_shows setup w base leads master e fate n s Quiet other idle crashed k = tt
 
 -- ---- an event that asks
 abbrev BeginHeld : ℕ → ℕ → Step → Type 0

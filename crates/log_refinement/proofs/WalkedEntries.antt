@@ -31,14 +31,14 @@ use Rattle.log_refinement.proofs.WalkedItems.{IsOwed, none_begun, Walked, walked
 use Rattle.log_refinement.proofs.Weaving.{Woven}
 
 -- ---- the items of one entry
-master_fits : (script : ScriptData) (p : Played) → IsGood script p → (clocks_of script p).master < p.state.setup.nodes
+pub master_fits : (script : ScriptData) (p : Played) → IsGood script p → (clocks_of script p).master < p.state.setup.nodes
 master_fits script p good = last_fits p.state.setup.nodes p.items good.takes
 
 -- an event that opens no line
 pub plain_kept : (script : ScriptData) (actor : Actor) (p : Played) (e : Entry) → IsReplayed script p e → opener e.event ≡ None → AllNot actor e.kept.items
 plain_kept script actor p e here none =
     let made : machine.Event = timed_in script p e.event in
-    subst (λ (xs : List Item). AllNot actor xs) (sym here) (plain_not actor (replayed_items script p e.event) (events_plain p.state made (fate_of script p made) (none_opens p.clock script.leads e.event none)))
+    subst (λ (xs : List Item). AllNot actor xs) (sym here) (plain_not actor (replayed_items script p e.event) (events_plain p.state made (fate_of script p made) (none_opens p.clock script.leads (clocks_of script p).master e.event none)))
 
 -- an event of another log
 pub other_kept : (script : ScriptData) (actor : Actor) (p : Played) (e : Entry) → IsGood script p → IsReplayed script p e → IsOther script.setup actor e.event → AllNot actor e.kept.items

@@ -5,7 +5,6 @@ use Rattle.history_book.specs.declared.item.Actor.{Actor}
 use Rattle.history_book.specs.declared.item.Actor.TheVariants.{Clock, Node, Session, Janitor}
 use Rattle.history_book.specs.declared.item.Note.TheVariants as note
 use Rattle.script_data.specs.declared.line.Line.{Line}
-use Rattle.script_data.specs.declared.line.Target.{Target}
 use Rattle.script_data.specs.declared.line.Target.TheVariants as target
 use Rattle.script_data.specs.declared.line.Verb.{Verb}
 use Rattle.script_data.specs.declared.line.Verb.TheVariants as verb
@@ -25,33 +24,25 @@ opener (event.Note actor said) = Some actor
 opener (event.Take node) = Some (Node node)
 opener (event.Renew node) = Some (Node node)
 opener (event.Crash node) = Some (Node node)
-opener (event.AskBegin session node) = Some (Session session)
-opener (event.AskCommit session node) = Some (Session session)
+opener (event.AskBegin session to) = Some (Session session)
+opener (event.AskCommit session to) = Some (Session session)
 opener (event.Write session key value) = Some (Session session)
 opener (event.Fetch session key) = Some (Session session)
 opener (event.Vanish session) = Some (Session session)
 opener _ = None
 
-abbrev pub asked_begin : ℕ → Target → Option Event
-asked_begin session (target.Node node) = Some (event.AskBegin session node)
-asked_begin session target.Master = None
-
-abbrev pub asked_commit : ℕ → Target → Option Event
-asked_commit session (target.Node node) = Some (event.AskCommit session node)
-asked_commit session target.Master = None
-
--- the first event of a line of a form that has an opening item; none of another form, and none of a line that names the master
+-- the first event of a line of a form that has an opening item; none of another form
 abbrev pub noted : Actor → Verb → Option Event
 noted actor (verb.Post name) = Some (event.Note actor (note.Post name))
 noted actor (verb.Await name) = Some (event.Note actor (note.Await name))
 noted actor _ = None
 
 abbrev pub session_first : ℕ → Verb → Option Event
-session_first s (verb.Begin to) = asked_begin s to
-session_first s (verb.AskBegin node) = Some (event.AskBegin s node)
-session_first s (verb.Commit to) = asked_commit s to
-session_first s (verb.Submit to) = asked_commit s to
-session_first s (verb.AskCommit node) = Some (event.AskCommit s node)
+session_first s (verb.Begin to) = Some (event.AskBegin s to)
+session_first s (verb.AskBegin node) = Some (event.AskBegin s (target.Node node))
+session_first s (verb.Commit to) = Some (event.AskCommit s to)
+session_first s (verb.Submit to) = Some (event.AskCommit s to)
+session_first s (verb.AskCommit node) = Some (event.AskCommit s (target.Node node))
 session_first s (verb.Write key value) = Some (event.Write s key value)
 session_first s (verb.Read key) = Some (event.Fetch s key)
 session_first s (verb.Fetch key) = Some (event.Fetch s key)
@@ -102,8 +93,8 @@ plain_event (Node n) verb = node_plain n verb
 plain_event (Session s) verb = session_plain s verb
 plain_event Janitor verb = janitor_plain verb
 
--- The form tells no first event. Of the lines of a script that names no master it is a collect: it begins with the event that its
--- request is waiting for, or with a step, and makes none where something else of the session is under way.
+-- The form tells no first event. It is a collect: it begins with the event that its request is waiting for, or with a step, and makes
+-- none where something else of the session is under way.
 abbrev pub TellsNoFirst : Actor → Verb → Type 0
 TellsNoFirst actor verb = (first_event actor verb ≡ None) × (plain_event actor verb ≡ None)
 

@@ -1,11 +1,6 @@
 -- What holds of the history that logs settle into, which follow the lines of a script.
 use Rattle.std.specs.Prelude.{◌≡◌, true, List, All}
 use Rattle.stamp_base.specs.SetupNumbers.{AreInRange}
-use Rattle.script_data.specs.declared.line.Line.{Line}
-use Rattle.script_data.specs.declared.line.Target.{Target}
-use Rattle.script_data.specs.declared.line.Target.TheVariants as target
-use Rattle.script_data.specs.declared.line.Verb.{Verb}
-use Rattle.script_data.specs.declared.line.Verb.TheVariants as verb
 use Rattle.script_data.specs.Data.{ScriptData}
 use Rattle.history_book.specs.declared.item.Item.{Item}
 use Rattle.command_semantics.specs.Answers.{Answers}
@@ -22,26 +17,11 @@ use Rattle.log_refinement.specs.Follows.{AllFollow}
 use Rattle.log_refinement.specs.Served.{Served, IsServedByOutcomes}
 
 -- ---- scripts
-abbrev pub NamesNode : Target → Type 0
-NamesNode (target.Node node) = Unit {0}
-NamesNode target.Master = ⊥
-
--- the line names no master
-abbrev pub NamesNoMaster : Verb → Type 0
-NamesNoMaster (verb.Begin to) = NamesNode to
-NamesNoMaster (verb.Commit to) = NamesNode to
-NamesNoMaster (verb.Submit to) = NamesNode to
-NamesNoMaster _ = Unit {0}
-
-abbrev pub NameNoMaster : List Line → Type 0
-NameNoMaster lines = All (λ line. NamesNoMaster line.verb) lines
-
 -- what a script that is carried out over split stores keeps
 pub record IsCarried (script : ScriptData) : Type 0 where
   pub setup : AreInRange script.setup
   pub playable : IsPlayable script 0 script.lines
   pub lines : AreLinesOf script.setup script.lines
-  pub masters : NameNoMaster script.lines
 
 -- ---- histories
 -- the ticks of each log rise, as those of a seat do by its type

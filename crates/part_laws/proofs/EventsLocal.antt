@@ -33,7 +33,7 @@ use Rattle.machine.specs.Events.Vanish.{vanish_on}
 use Rattle.machine.specs.Events.SweepOpen.{sweep_open_on}
 use Rattle.machine.specs.Events.Clock.{tick_items, note_items}
 use Rattle.split_parts.specs.declared.event.Event.TheVariants as event
-use Rattle.split_parts.specs.Parts.{CellRows, Marks, Parts, Record, base_by, called, cells_called, filled, lent_master, lent_pairs, lent_rows, master_called, reading_of, table_called, with_lent}
+use Rattle.split_parts.specs.Parts.{CellRows, Marks, Parts, Record, base_by, called, cells_called, filled, lent_master, lent_pairs, lent_rows, master_called, node_asked, reading_of, table_called, with_lent}
 use Rattle.split_parts.specs.Agrees.{HasSession, HasNode, HasStore}
 use Rattle.part_laws.specs.Local.{AreOf, IsOfParts, IsLocal, EventsAreLocal, ActsAreSteps}
 use Rattle.part_laws.proofs.FoundInParts.{kept, finds_client, finds_post, finds_rows, finds_pairs, finds_sweep}
@@ -130,8 +130,8 @@ events w l (event.Take node) fate of has = takes w l node (reading_of (base_by l
 events w l (event.Renew node) fate of has = renews w l node (reading_of (base_by l.clock) l.plan.leads node) fate of has.1 has.2
 events w l (event.Extend node) fate of has = extends w l node fate of has.0 has.1
 events w l (event.Crash node) fate of has = record { asked = refl; step = of_clients node (λ clients post. crash_on node post clients) (crash_as_many node w.clients) of has.0 has.1 }
-events w l (event.AskBegin session node) fate of has = record { asked = refl; step = of_ask session node (ask_begin_on session node) of has.0 has.1 }
-events w l (event.AskCommit session node) fate of has = record { asked = refl; step = of_ask session node (ask_commit_on session node) of has.0 has.1 }
+events w l (event.AskBegin session to) fate of has = record { asked = refl; step = of_ask session (node_asked l to) (ask_begin_on session (node_asked l to)) of has.0 has.1 }
+events w l (event.AskCommit session to) fate of has = record { asked = refl; step = of_ask session (node_asked l to) (ask_commit_on session (node_asked l to)) of has.0 has.1 }
 events w l (event.Accept node session) fate of has =
     let reading : ℕ = reading_of (base_by l.clock) l.plan.leads node in
     record { asked = refl; step = of_request (max w.seen reading) (max 0 reading) node session (accept_on node session reading) of has.0 has.2 }

@@ -26,7 +26,7 @@ use Rattle.cause_laws.proofs.StepCalls.{steps_ask}
 use Rattle.cluster_core.specs.Required.{Covers, MayMakeStep}
 use Rattle.split_parts.specs.declared.event.Event.{Event}
 use Rattle.split_parts.specs.declared.event.Event.TheVariants as event
-use Rattle.split_parts.specs.Parts.{Parts, filled}
+use Rattle.split_parts.specs.Parts.{Parts, filled, node_asked}
 use Rattle.split_parts.specs.Agrees.{IsAsked, HoldsNoneIn, HasNode, HasParts, HasSession, HasStore, ClockFits, CallsFit, store_by, Fits, Agrees}
 use Rattle.part_laws.specs.Local.{AreOf}
 use Rattle.part_laws.specs.Reached.{HoldWrittenKeys}
@@ -73,8 +73,8 @@ fits : (w : State) (h : List Item) (l : Parts) (e : Event) → ExplainedInvarian
 fits w h l (event.Extend node) tells keys of has =
     grind (arith, finds_post, finds_master, covers, extensions_fit, same_post)
 fits w h l (event.Crash node) tells keys of has = grind (arith, finds_post, same_post, all_asked, finds_clients)
-fits w h l (event.AskBegin session node) tells keys of has = none_of_parts w l phase.Free session node of has.0 has.1 (free_holds_none w h tells session node)
-fits w h l (event.AskCommit session node) tells keys of has = none_of_parts w l phase.Open session node of has.0 has.1 (open_holds_none w h tells session node)
+fits w h l (event.AskBegin session to) tells keys of has = none_of_parts w l phase.Free session (node_asked l to) of has.0 has.1 (free_holds_none w h tells session (node_asked l to))
+fits w h l (event.AskCommit session to) tells keys of has = none_of_parts w l phase.Open session (node_asked l to) of has.0 has.1 (open_holds_none w h tells session (node_asked l to))
 fits w h l (event.Accept node session) tells keys of has = asked_of_parts w l node session of has.0 has.2 (all_asked w h tells keys node session)
 fits w h l (event.Decide node session) tells keys of has = asked_of_parts w l node session of has.0 has.1 (all_asked w h tells keys node session)
 fits w h l (event.Answer node session) tells keys of has = asked_of_parts w l node session of has.0 has.1 (all_asked w h tells keys node session)

@@ -127,16 +127,3 @@ is_replay_only Extend = true
 is_replay_only AskBegin = true
 is_replay_only AskCommit = true
 is_replay_only _ = false
-
--- the line names the master, in a form that may
-abbrev pub names_master : VerbForm → List ℕ → Bool
-names_master Begin word = bytes_eq word (codes "master")
-names_master Commit word = bytes_eq word (codes "master")
-names_master Submit word = bytes_eq word (codes "master")
-names_master _ word = false
-
--- the setup lines that turn on what split stores have not: a memory of what became of others, and other commits and reads
-abbrev pub is_unsplit : SetupForm → Bool
-is_unsplit (Number numbers.Cache) = true
-is_unsplit (Flag flag) = true
-is_unsplit _ = false

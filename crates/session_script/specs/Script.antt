@@ -60,9 +60,9 @@ after_telling so_far line = record {
 }
 
 -- what was read once a setup line of the form has been read
-unfoldable pub setup_line : Mode → SoFar → SetupForm → LineWords → Result SoFar ScriptCause
-setup_line mode so_far form words = do
-  setting ← setting_of mode so_far.script.setup form words
+unfoldable pub setup_line : SoFar → SetupForm → LineWords → Result SoFar ScriptCause
+setup_line so_far form words = do
+  setting ← setting_of so_far.script.setup form words
   unless (objection so_far.settings so_far.script setting) (after_setting so_far setting)
 
 -- what was read once a line of the actor has been read
@@ -73,7 +73,7 @@ actor_line mode so_far number actor words = do
 
 -- a line begins with a setup word or an actor
 abbrev pub opened_line : Mode → SoFar → ℕ → LineWords → Option SetupForm → Option Actor → Result SoFar ScriptCause
-opened_line mode so_far number words (Some form) actor = setup_line mode so_far form words
+opened_line mode so_far number words (Some form) actor = setup_line so_far form words
 opened_line mode so_far number words None (Some actor) = actor_line mode so_far number actor words
 opened_line mode so_far number words None None = Err UnknownActor
 

@@ -9,16 +9,14 @@ use Rattle.stamp_base.specs.declared.setup_number.SetupNumber.TheVariants as num
 use Rattle.port_io.specs.Planned.{PlannedFault, same_store}
 use Rattle.session_script.specs.declared.form.SetupForm.{SetupForm}
 use Rattle.session_script.specs.declared.form.SetupForm.TheVariants as forms
-use Rattle.session_script.specs.declared.mode.Mode.{Mode}
-use Rattle.session_script.specs.declared.mode.Mode.TheVariants.{Replay, Run, Split}
 use Rattle.script_data.specs.declared.limits.TheConstants.{FAULT_LIMIT}
 use Rattle.session_script.specs.declared.setting.Setting.{Setting}
 use Rattle.session_script.specs.declared.setting.Setting.TheVariants.{Number, Flag, Buckets, Lead, Fault}
 use Rattle.session_script.specs.declared.cause.ScriptCause.{ScriptCause}
-use Rattle.session_script.specs.declared.cause.ScriptCause.TheVariants.{WrongNumberOfWords, ReplayOnly, SetupOrder, SetupTwice, TooManyFaults}
+use Rattle.session_script.specs.declared.cause.ScriptCause.TheVariants.{WrongNumberOfWords, SetupOrder, SetupTwice, TooManyFaults}
 use Rattle.session_script.specs.Checked.{number_at, setup_number_at, flag_at, node_at, store_at, kind_at}
 use Rattle.script_data.specs.Data.{ScriptData}
-use Rattle.session_script.specs.Grammar.{setup_words, is_unsplit}
+use Rattle.session_script.specs.Grammar.{setup_words}
 use Rattle.session_script.specs.Results.{◌>>=◌}
 use Rattle.session_script.specs.Words.{LineWords}
 
@@ -30,16 +28,9 @@ arguments_of setup forms.Buckets words = setup_number_at numbers.Buckets words.s
 arguments_of setup forms.Lead words = node_at setup.nodes words.second >>= (λ node. number_at 0 setup.skew words.third >>= (λ lead. Ok (Lead node lead)))
 arguments_of setup forms.Fault words = store_at words.second >>= (λ store. number_at 1 1000000 words.third >>= (λ number. kind_at words.fourth >>= (λ kind. Ok (Fault store number kind))))
 
--- the setup lines that a mode leaves to a replay
-abbrev pub is_left_to_replay : Mode → SetupForm → Bool
-is_left_to_replay Replay form = false
-is_left_to_replay Run form = false
-is_left_to_replay Split form = is_unsplit form
-
-unfoldable pub setting_of : Mode → SetupNumbers → SetupForm → LineWords → Result Setting ScriptCause
-setting_of mode setup form words =
+unfoldable pub setting_of : SetupNumbers → SetupForm → LineWords → Result Setting ScriptCause
+setting_of setup form words =
     if not (words.count == setup_words form) then Err WrongNumberOfWords
-    else if is_left_to_replay mode form then Err ReplayOnly
     else arguments_of setup form words
 
 -- the numbers are in their bounds

@@ -10,22 +10,22 @@ use Rattle.script_data.specs.declared.line.Verb.TheVariants as verbs
 use Rattle.session_script.specs.declared.cause.ScriptCause.{ScriptCause}
 use Rattle.session_script.specs.declared.cause.ScriptCause.TheVariants.{UnknownVerb, WrongNumberOfWords, ReplayOnly}
 use Rattle.session_script.specs.Checked.{number_at, start_at, node_at, target_at, session_at, key_at, value_at, stage_at, name_at}
-use Rattle.session_script.specs.Grammar.{named, verb_forms, verb_words, is_replay_only, names_master}
+use Rattle.session_script.specs.Grammar.{named, verb_forms, verb_words, is_replay_only}
 use Rattle.session_script.specs.Results.{◌>>=◌}
 use Rattle.session_script.specs.Words.{LineWords}
 
--- the lines that a mode leaves to a replay: on threads those of single stages, and over split stores those that name the master
-abbrev pub is_left_to_replay : Mode → VerbForm → LineWords → Bool
-is_left_to_replay Replay form words = false
-is_left_to_replay Run form words = is_replay_only form
-is_left_to_replay Split form words = names_master form words.third
+-- the lines that a mode leaves to a replay: on threads those of single stages
+abbrev pub is_left_to_replay : Mode → VerbForm → Bool
+is_left_to_replay Replay form = false
+is_left_to_replay Run form = is_replay_only form
+is_left_to_replay Split form = false
 
 -- the tests of an actor's line before its arguments, in their order
 abbrev pub form_at : Mode → LineWords → Option VerbForm → Result VerbForm ScriptCause
 form_at mode words None = Err UnknownVerb
 form_at mode words (Some form) =
     if not (words.count == verb_words form) then Err WrongNumberOfWords
-    else if is_left_to_replay mode form words then Err ReplayOnly
+    else if is_left_to_replay mode form then Err ReplayOnly
     else Ok form
 
 -- the form of an actor's line, which names no verb where the actor stands alone

@@ -1,8 +1,7 @@
 // The forms of lines: how many words each has, and which only a replay takes.
 ghost use Rattle.std.specs.Prelude.{◌≡◌};
-ghost use Rattle.session_script.specs.Grammar.{setup_words, verb_words, is_replay_only, names_master, is_unsplit};
+ghost use Rattle.session_script.specs.Grammar.{setup_words, verb_words, is_replay_only};
 
-use crate::tables::is_same;
 use stamp_base::{SetupFlag, SetupNumber};
 
 /// The form of a setup line, whatever its arguments are.
@@ -64,16 +63,6 @@ impl SetupForm {
             SetupForm::Fault => 4,
         }
     }
-
-    /// Whether it turns on what split stores have not.
-    pub fn is_unsplit(self) -> bool
-        ensures { result ≡ is_unsplit self }
-    {
-        matches!(
-            self,
-            SetupForm::Number(SetupNumber::Cache) | SetupForm::Flag(_)
-        )
-    }
 }
 
 impl VerbForm {
@@ -102,16 +91,6 @@ impl VerbForm {
         match self {
             VerbForm::Accept | VerbForm::Decide | VerbForm::Put | VerbForm::Answer => true,
             VerbForm::Extend | VerbForm::AskBegin | VerbForm::AskCommit => true,
-            _ => false,
-        }
-    }
-
-    /// Whether a line of the form, of which this is the third word, names the master.
-    pub fn names_master(self, word: &[u8]) -> bool
-        ensures { result ≡ names_master self word.now }
-    {
-        match self {
-            VerbForm::Begin | VerbForm::Commit | VerbForm::Submit => is_same(word, b"master"),
             _ => false,
         }
     }

@@ -46,7 +46,7 @@ fn tested_form(mode: Mode, words: &Words, form: VerbForm) -> Result<VerbForm, Sc
 {
     if words.count != form.words() {
         Err(ScriptCause::WrongNumberOfWords)
-    } else if is_left_to_replay(mode, form, words) {
+    } else if is_left_to_replay(mode, form) {
         Err(ScriptCause::ReplayOnly)
     } else {
         Ok(form)
@@ -54,13 +54,12 @@ fn tested_form(mode: Mode, words: &Words, form: VerbForm) -> Result<VerbForm, Sc
 }
 
 /// Whether the mode leaves a line of the form to a replay.
-fn is_left_to_replay(mode: Mode, form: VerbForm, words: &Words) -> bool
-    ensures { result ≡ is_left_to_replay mode form (seen words.now) }
+fn is_left_to_replay(mode: Mode, form: VerbForm) -> bool
+    ensures { result ≡ is_left_to_replay mode form }
 {
     match mode {
-        Mode::Replay => false,
         Mode::Run => form.is_replay_only(),
-        Mode::Split => form.names_master(words.third),
+        Mode::Replay | Mode::Split => false,
     }
 }
 

@@ -95,7 +95,7 @@ fn read_words(
     ensures { ReadsLine result number (after_words mode (so_far reading.old) number (seen words.now)) (so_far reading.new) }
 {
     if let Some(form) = setup_form(words.first) {
-        return read_setting(reading, mode, number, form, words);
+        return read_setting(reading, number, form, words);
     }
     match actor_of(&reading.script.setup, words.first) {
         Some(actor) => read_actor_line(reading, mode, number, actor, words),
@@ -107,15 +107,14 @@ fn read_words(
 #[tactic(auto, unfolding(crate::specs::Script::setup_line))]
 fn read_setting(
     reading: &mut ReadSoFar,
-    mode: Mode,
     number: u64,
     form: SetupForm,
     words: &Words,
 ) -> Result<(), ScriptFault>
     requires { reading.old.counted < LINE_LIMIT }
-    ensures { ReadsLine result number (setup_line mode (so_far reading.old) form (seen words.now)) (so_far reading.new) }
+    ensures { ReadsLine result number (setup_line (so_far reading.old) form (seen words.now)) (so_far reading.new) }
 {
-    match setting_of(mode, &reading.script.setup, form, words) {
+    match setting_of(&reading.script.setup, form, words) {
         Ok(setting) => add_setting(reading, number, setting),
         Err(cause) => bad_line(number, cause),
     }

@@ -2,13 +2,12 @@
 ghost use Rattle.std.specs.Prelude.{◌≡◌, IfOk};
 ghost use Rattle.std.specs.List.{list_any};
 ghost use Rattle.stamp_base.specs.Setups.{numbers_of};
-ghost use Rattle.session_script.specs.Settings.{arguments_of, is_left_to_replay, setting_of, IsInBounds, with_number, same_number, same_flag, sets_same, is_lead, bounds_leads, is_fault};
+ghost use Rattle.session_script.specs.Settings.{arguments_of, setting_of, IsInBounds, with_number, same_number, same_flag, sets_same, is_lead, bounds_leads, is_fault};
 ghost use Rattle.session_script.specs.Words.{seen};
 
 use crate::cause::ScriptCause;
 use crate::checked::{flag_at, kind_at, node_at, number_at, setup_number_at, store_at};
 use crate::form::SetupForm;
-use crate::mode::Mode;
 use crate::words::Words;
 use port_io::Fate;
 use stamp_base::{NodeNo, Setup, SetupFlag, SetupNumber, Store};
@@ -130,31 +129,14 @@ pub fn any_same(settings: &[Setting], setting: &Setting) -> bool
 
 /// What a setup line says.
 #[tactic(auto, unfolding(crate::specs::Settings::setting_of))]
-pub fn setting_of(
-    mode: Mode,
-    setup: &Setup,
-    form: SetupForm,
-    words: &Words,
-) -> Result<Setting, ScriptCause>
-    ensures setting { result ≡ setting_of mode (numbers_of setup.now) form (seen words.now) }
+pub fn setting_of(setup: &Setup, form: SetupForm, words: &Words) -> Result<Setting, ScriptCause>
+    ensures setting { result ≡ setting_of (numbers_of setup.now) form (seen words.now) }
     ensures bounds { IfOk result (IsInBounds (numbers_of setup.now)) }
 {
     if words.count != form.words() {
         Err(ScriptCause::WrongNumberOfWords)
-    } else if is_left_to_replay(mode, form) {
-        Err(ScriptCause::ReplayOnly)
     } else {
         arguments_of(setup, form, words)
-    }
-}
-
-/// Whether the mode leaves a setup line of the form to a replay.
-fn is_left_to_replay(mode: Mode, form: SetupForm) -> bool
-    ensures { result ≡ is_left_to_replay mode form }
-{
-    match mode {
-        Mode::Replay | Mode::Run => false,
-        Mode::Split => form.is_unsplit(),
     }
 }
 

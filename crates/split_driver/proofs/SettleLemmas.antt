@@ -93,7 +93,6 @@ is_carried script sound few may there = record {
   setup = sound.setup;
   playable = playable_at_first script sound few;
   lines = lines_fit script.setup script.lines sound.lines (λ k d within here. there k d here);
-  masters = may.masters;
 }
 
 module _ (script : ScriptData) (sound : IsSound script) (few : length script.lines ≤ 131072) (may : MaySplit script) (there : All (λ (line : Line). SessionIsThere line.actor) script.lines) where

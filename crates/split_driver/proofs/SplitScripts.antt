@@ -1,39 +1,28 @@
--- Reading for split stores keeps out what these have not.
-use Rattle.std.proofs.Common.{◌≡◌, ℕ, ◌+◌, ◌≤◌, ◌==◌, nat_lt, nat_le, Bool, true, false, not, if◌then◌else◌, List, [], ◌∷◌, ◌++◌, Option, Some, None, Result, Ok, Err, IfOk, length, refl, subst, codes}
-use Rattle.std.specs.Prelude.{option_map}
+-- Reading for split stores keeps ticks in their bounds.
+use Rattle.std.proofs.Common.{◌≡◌, ℕ, ◌+◌, ◌≤◌, nat_lt, nat_le, Bool, true, false, not, if◌then◌else◌, List, [], ◌∷◌, ◌++◌, Option, Some, None, Result, Ok, Err, IfOk, length, refl, subst}
 use Rattle.std.specs.List.{list_all}
-use Rattle.std.specs.Str.{bytes_eq}
 use Rattle.std.specs.Str.Lines.{lines}
 use Rattle.std.proofs.lemmas.Bool.{leb-true}
 use Rattle.std.proofs.lemmas.List.Elements.{All-nil, All-push}
 use Rattle.stamp_base.specs.declared.limits.TheConstants.{BYTE_LIMIT, LINE_LIMIT}
-use Rattle.stamp_base.specs.SetupNumbers.{SetupNumbers}
-use Rattle.stamp_base.specs.declared.setup_number.SetupNumber.{SetupNumber}
-use Rattle.stamp_base.specs.declared.setup_number.SetupNumber.TheVariants as numbers
 use Rattle.history_book.specs.declared.item.Actor.{Actor}
 use Rattle.script_data.specs.Data.{ScriptData}
 use Rattle.script_data.specs.declared.line.Line.{Line}
-use Rattle.script_data.specs.declared.line.Target.TheVariants as target
-use Rattle.script_data.specs.declared.line.Verb.{Verb}
 use Rattle.session_script.specs.declared.cause.ScriptCause.{ScriptCause}
-use Rattle.session_script.specs.declared.cause.ScriptCause.TheVariants.{TooManyLines, BadByte, WrongNumberOfWords, ReplayOnly, UnknownNode}
+use Rattle.session_script.specs.declared.cause.ScriptCause.TheVariants.{TooManyLines, BadByte}
 use Rattle.session_script.specs.declared.form.SetupForm.{SetupForm}
-use Rattle.session_script.specs.declared.form.SetupForm.TheVariants as setup
 use Rattle.session_script.specs.declared.form.VerbForm.{VerbForm}
 use Rattle.session_script.specs.declared.form.VerbForm.TheVariants.{Tick, Take, Renew, Crash, Extend, Hold, Free, Accept, Decide, Put, Answer, Begin, Commit, Submit, AskBegin, AskCommit, Write, Read, Fetch, Collect, Abort, Heal, Vanish, Step, Finish, Sweep, OpenSweep, SweepStep, SweepFinish, Post, Await}
 use Rattle.session_script.specs.declared.mode.Mode.TheVariants.{Split}
-use Rattle.session_script.specs.Arguments.{actor_of, number_of, node_of}
-use Rattle.session_script.specs.Checked.{number_within, number_at, setup_number_at, start_at, node_at, session_at, store_at, kind_at, target_at, key_at, value_at, stage_at, name_at}
-use Rattle.session_script.specs.Grammar.{named, setup_forms, setup_words, verb_forms, verb_words, names_master, is_unsplit}
-use Rattle.session_script.specs.Results.{◌>>=◌, or_cause, unless}
-use Rattle.session_script.specs.Verbs.{form_at, form_of, verb_of, verb_at}
+use Rattle.session_script.specs.Arguments.{actor_of, number_of}
+use Rattle.session_script.specs.Checked.{number_within, number_at, start_at, node_at, session_at, target_at, key_at, value_at, stage_at, name_at}
+use Rattle.session_script.specs.Grammar.{named, setup_forms}
+use Rattle.session_script.specs.Results.{◌>>=◌, unless}
+use Rattle.session_script.specs.Verbs.{form_of, verb_of, verb_at}
 use Rattle.session_script.specs.Words.{is_plain, is_silent, words_of, LineWords, line_words}
-use Rattle.session_script.specs.declared.setting.Setting.{Setting}
-use Rattle.session_script.specs.declared.setting.Setting.TheVariants.{Number, Flag, Buckets, Lead, Fault}
 use Rattle.session_script.specs.Names.{name_objection}
 use Rattle.session_script.specs.Script.{SoFar, BadLine, script_from, after_line, after_words, opened_line, setup_line, actor_line, after_setting, after_telling, or_bad_line, nothing_read}
-use Rattle.session_script.specs.Settings.{setting_of, arguments_of, with_setting, objection}
-use Rattle.log_refinement.specs.Laws.{NamesNode, NamesNoMaster}
+use Rattle.session_script.specs.Settings.{setting_of, objection}
 use Rattle.split_driver.specs.Runs.{RisesInBounds}
 use Rattle.split_driver.specs.Splits.{MaySplit, SplitScriptsMaySplit}
 
@@ -51,10 +40,6 @@ unless_so true cause rest P holds = tt
 unless_so false cause rest P holds = holds refl
 
 -- ---- verbs
-record Fits (verb : Verb) : Type 0 where
-  rise : RisesInBounds verb
-  master : NamesNoMaster verb
-
 within : (least most n : ℕ) → (b c : Bool) → nat_le least n ≡ b → nat_le n most ≡ c → IfOk (number_within least most (Some n)) (λ m. (least ≤ m) × (m ≤ most))
 within least most n true true low high = rw (low, high) (leb-true least n low, leb-true n most high)
 within least most n true false low high = rw (low, high) tt
@@ -68,150 +53,67 @@ number_at_fits : (least most : ℕ) (word : List ℕ) → IfOk (number_at least 
 unfolding number_at
 number_at_fits least most word = number_fits least most (number_of word)
 
-node_fits : (read : Option ℕ) → IfOk (or_cause UnknownNode (option_map (λ node. target.Node node) read)) NamesNode
-node_fits None = tt
-node_fits (Some node) = tt
+verb_fits : (nodes : ℕ) (form : VerbForm) (words : LineWords) → IfOk (verb_of nodes form words) RisesInBounds
+verb_fits nodes Tick words = bound (number_at 1 1000000 words.third) _ (λ by. (1 ≤ by) × (by ≤ 1000000)) RisesInBounds (number_at_fits 1 1000000 words.third) (λ by is. is)
+verb_fits nodes Take words = tt
+verb_fits nodes Renew words = tt
+verb_fits nodes Crash words = tt
+verb_fits nodes Extend words = tt
+verb_fits nodes Hold words = always (stage_at words.third) _ _ (λ stage. tt)
+verb_fits nodes Free words = always (stage_at words.third) _ _ (λ stage. tt)
+verb_fits nodes Accept words = always (session_at words.third) _ _ (λ session. tt)
+verb_fits nodes Decide words = always (session_at words.third) _ _ (λ session. tt)
+verb_fits nodes Put words = always (session_at words.third) _ _ (λ session. tt)
+verb_fits nodes Answer words = always (session_at words.third) _ _ (λ session. tt)
+verb_fits nodes Begin words = always (target_at nodes words.third) _ _ (λ to. tt)
+verb_fits nodes Commit words = always (target_at nodes words.third) _ _ (λ to. tt)
+verb_fits nodes Submit words = always (target_at nodes words.third) _ _ (λ to. tt)
+verb_fits nodes AskBegin words = always (node_at nodes words.third) _ _ (λ node. tt)
+verb_fits nodes AskCommit words = always (node_at nodes words.third) _ _ (λ node. tt)
+verb_fits nodes Write words = always (key_at words.third) _ _ (λ key. always (value_at words.fourth) _ _ (λ value. tt))
+verb_fits nodes Read words = always (key_at words.third) _ _ (λ key. tt)
+verb_fits nodes Fetch words = always (key_at words.third) _ _ (λ key. tt)
+verb_fits nodes Collect words = tt
+verb_fits nodes Abort words = tt
+verb_fits nodes Heal words = tt
+verb_fits nodes Vanish words = tt
+verb_fits nodes Step words = tt
+verb_fits nodes Finish words = tt
+verb_fits nodes Sweep words = always (node_at nodes words.third) _ _ (λ node. always (start_at words.fourth) _ _ (λ txn. tt))
+verb_fits nodes OpenSweep words = always (node_at nodes words.third) _ _ (λ node. always (start_at words.fourth) _ _ (λ txn. tt))
+verb_fits nodes SweepStep words = tt
+verb_fits nodes SweepFinish words = tt
+verb_fits nodes Post words = always (name_at words.third) _ _ (λ name. tt)
+verb_fits nodes Await words = always (name_at words.third) _ _ (λ name. tt)
 
-target_fits : (nodes : ℕ) (word : List ℕ) → bytes_eq word (codes "master") ≡ false → IfOk (target_at nodes word) NamesNode
-unfolding target_at
-target_fits nodes word other = rw other (node_fits (node_of nodes word))
-
-fits : (verb : Verb) → RisesInBounds verb → NamesNoMaster verb → Fits verb
-fits verb rise master = record { rise = rise; master = master }
-
-verb_fits : (nodes : ℕ) (form : VerbForm) (words : LineWords) → names_master form words.third ≡ false → IfOk (verb_of nodes form words) Fits
-verb_fits nodes Tick words other = bound (number_at 1 1000000 words.third) _ (λ by. (1 ≤ by) × (by ≤ 1000000)) Fits (number_at_fits 1 1000000 words.third) (λ by is. fits _ is tt)
-verb_fits nodes Take words other = fits _ tt tt
-verb_fits nodes Renew words other = fits _ tt tt
-verb_fits nodes Crash words other = fits _ tt tt
-verb_fits nodes Extend words other = fits _ tt tt
-verb_fits nodes Hold words other = always (stage_at words.third) _ _ (λ stage. fits _ tt tt)
-verb_fits nodes Free words other = always (stage_at words.third) _ _ (λ stage. fits _ tt tt)
-verb_fits nodes Accept words other = always (session_at words.third) _ _ (λ session. fits _ tt tt)
-verb_fits nodes Decide words other = always (session_at words.third) _ _ (λ session. fits _ tt tt)
-verb_fits nodes Put words other = always (session_at words.third) _ _ (λ session. fits _ tt tt)
-verb_fits nodes Answer words other = always (session_at words.third) _ _ (λ session. fits _ tt tt)
-verb_fits nodes Begin words other = bound (target_at nodes words.third) _ NamesNode Fits (target_fits nodes words.third other) (λ to is. fits _ tt is)
-verb_fits nodes Commit words other = bound (target_at nodes words.third) _ NamesNode Fits (target_fits nodes words.third other) (λ to is. fits _ tt is)
-verb_fits nodes Submit words other = bound (target_at nodes words.third) _ NamesNode Fits (target_fits nodes words.third other) (λ to is. fits _ tt is)
-verb_fits nodes AskBegin words other = always (node_at nodes words.third) _ _ (λ node. fits _ tt tt)
-verb_fits nodes AskCommit words other = always (node_at nodes words.third) _ _ (λ node. fits _ tt tt)
-verb_fits nodes Write words other = always (key_at words.third) _ _ (λ key. always (value_at words.fourth) _ _ (λ value. fits _ tt tt))
-verb_fits nodes Read words other = always (key_at words.third) _ _ (λ key. fits _ tt tt)
-verb_fits nodes Fetch words other = always (key_at words.third) _ _ (λ key. fits _ tt tt)
-verb_fits nodes Collect words other = fits _ tt tt
-verb_fits nodes Abort words other = fits _ tt tt
-verb_fits nodes Heal words other = fits _ tt tt
-verb_fits nodes Vanish words other = fits _ tt tt
-verb_fits nodes Step words other = fits _ tt tt
-verb_fits nodes Finish words other = fits _ tt tt
-verb_fits nodes Sweep words other = always (node_at nodes words.third) _ _ (λ node. always (start_at words.fourth) _ _ (λ txn. fits _ tt tt))
-verb_fits nodes OpenSweep words other = always (node_at nodes words.third) _ _ (λ node. always (start_at words.fourth) _ _ (λ txn. fits _ tt tt))
-verb_fits nodes SweepStep words other = fits _ tt tt
-verb_fits nodes SweepFinish words other = fits _ tt tt
-verb_fits nodes Post words other = always (name_at words.third) _ _ (λ name. fits _ tt tt)
-verb_fits nodes Await words other = always (name_at words.third) _ _ (λ name. fits _ tt tt)
-
-form_at_fits : (words : LineWords) (form : Option VerbForm) → IfOk (form_at Split words form) (λ f. names_master f words.third ≡ false)
-form_at_fits words None = tt
-form_at_fits words (Some form) =
-    unless_so (not (words.count == verb_words form)) WrongNumberOfWords _ _ (λ right.
-    unless_so (names_master form words.third) ReplayOnly (Ok form) _ (λ other. other))
-
-form_fits : (actor : Actor) (words : LineWords) → IfOk (form_of Split actor words) (λ f. names_master f words.third ≡ false)
-unfolding form_of
-form_fits actor words = unless_so (nat_lt words.count 2) WrongNumberOfWords _ _ (λ enough. form_at_fits words (named (verb_forms actor) words.second))
-
-line_fits : (nodes : ℕ) (actor : Actor) (words : LineWords) → IfOk (verb_at Split nodes actor words) Fits
+line_fits : (nodes : ℕ) (actor : Actor) (words : LineWords) → IfOk (verb_at Split nodes actor words) RisesInBounds
 unfolding verb_at
-line_fits nodes actor words =
-    bound (form_of Split actor words) _ (λ f. names_master f words.third ≡ false) _ (form_fits actor words) (λ form other.
-    verb_fits nodes form words other)
-
--- ---- settings
--- the setting turns on nothing that split stores have not
-abbrev IsPlain : Setting → Type 0
-IsPlain (Number numbers.Cache n) = ⊥
-IsPlain (Flag flag) = ⊥
-IsPlain _ = Unit {0}
-
-plain_number : (number : SetupNumber) (n : ℕ) → is_unsplit (setup.Number number) ≡ false → IsPlain (Number number n)
-plain_number numbers.Cache n plain = absurd (cc)
-plain_number numbers.Nodes n plain = tt
-plain_number numbers.Lease n plain = tt
-plain_number numbers.Skew n plain = tt
-plain_number numbers.Range n plain = tt
-plain_number numbers.Buckets n plain = tt
-plain_number numbers.Width n plain = tt
-plain_number numbers.Slots n plain = tt
-plain_number numbers.Batch n plain = tt
-plain_number numbers.Workers n plain = tt
-
-arguments_fit : (now : SetupNumbers) (form : SetupForm) (words : LineWords) → is_unsplit form ≡ false → IfOk (arguments_of now form words) IsPlain
-arguments_fit now (setup.Number number) words plain = always (setup_number_at number words.second) _ _ (λ n. plain_number number n plain)
-arguments_fit now (setup.Flag flag) words plain = absurd (cc)
-arguments_fit now setup.Buckets words plain = always (setup_number_at numbers.Buckets words.second) _ _ (λ buckets. always (setup_number_at numbers.Width words.third) _ _ (λ width. tt))
-arguments_fit now setup.Lead words plain = always (node_at now.nodes words.second) _ _ (λ node. always (number_at 0 now.skew words.third) _ _ (λ lead. tt))
-arguments_fit now setup.Fault words plain = always (store_at words.second) _ _ (λ store. always (number_at 1 1000000 words.third) _ _ (λ number. always (kind_at words.fourth) _ _ (λ kind. tt)))
-
-setting_fits : (now : SetupNumbers) (form : SetupForm) (words : LineWords) → IfOk (setting_of Split now form words) IsPlain
-unfolding setting_of
-setting_fits now form words =
-    unless_so (not (words.count == setup_words form)) WrongNumberOfWords _ _ (λ right.
-    unless_so (is_unsplit form) ReplayOnly (arguments_of now form words) _ (λ plain. arguments_fit now form words plain))
-
-same_flags : (old new : ScriptData) → MaySplit old → new.setup.cache ≡ old.setup.cache → new.setup.direct ≡ old.setup.direct → new.setup.strict ≡ old.setup.strict → new.lines ≡ old.lines → MaySplit new
-same_flags old new may cache direct strict same = record {
-  cache = rw cache may.cache;
-  direct = rw direct may.direct;
-  strict = rw strict may.strict;
-  ticks = rw same may.ticks;
-  masters = rw same may.masters;
-}
-
-with_fits : (script : ScriptData) (setting : Setting) → MaySplit script → IsPlain setting → MaySplit (with_setting script setting)
-with_fits script (Number numbers.Cache n) may plain = absurd plain
-with_fits script (Flag flag) may plain = absurd plain
-with_fits script (Number numbers.Nodes n) may plain = same_flags script _ may refl refl refl refl
-with_fits script (Number numbers.Lease n) may plain = same_flags script _ may refl refl refl refl
-with_fits script (Number numbers.Skew n) may plain = same_flags script _ may refl refl refl refl
-with_fits script (Number numbers.Range n) may plain = same_flags script _ may refl refl refl refl
-with_fits script (Number numbers.Buckets n) may plain = same_flags script _ may refl refl refl refl
-with_fits script (Number numbers.Width n) may plain = same_flags script _ may refl refl refl refl
-with_fits script (Number numbers.Slots n) may plain = same_flags script _ may refl refl refl refl
-with_fits script (Number numbers.Batch n) may plain = same_flags script _ may refl refl refl refl
-with_fits script (Number numbers.Workers n) may plain = same_flags script _ may refl refl refl refl
-with_fits script (Buckets buckets width) may plain = same_flags script _ may refl refl refl refl
-with_fits script (Lead node lead) may plain = same_flags script _ may refl refl refl refl
-with_fits script (Fault store number kind) may plain = same_flags script _ may refl refl refl refl
+line_fits nodes actor words = always (form_of Split actor words) _ _ (λ form. verb_fits nodes form words)
 
 -- ---- lines
 abbrev AllFit : SoFar → Type 0
 AllFit so_far = MaySplit so_far.script
 
-one_more : (script : ScriptData) (line : Line) → MaySplit script → Fits line.verb → MaySplit (record script { lines = script.lines ++ line ∷ [] })
+one_more : (script : ScriptData) (line : Line) → MaySplit script → RisesInBounds line.verb → MaySplit (record script { lines = script.lines ++ line ∷ [] })
 one_more script line may now = record {
-  cache = may.cache;
-  direct = may.direct;
-  strict = may.strict;
-  ticks = All-push (λ (l : Line). RisesInBounds l.verb) script.lines line may.ticks now.rise;
-  masters = All-push (λ (l : Line). NamesNoMaster l.verb) script.lines line may.masters now.master;
+  ticks = All-push (λ (l : Line). RisesInBounds l.verb) script.lines line may.ticks now;
 }
 
 unless_fits : (cause : Option ScriptCause) (next : SoFar) → AllFit next → IfOk (unless cause next) AllFit
 unless_fits None next all = all
 unless_fits (Some cause) next all = tt
 
-setup_fits : (so_far : SoFar) (form : SetupForm) (words : LineWords) → AllFit so_far → IfOk (setup_line Split so_far form words) AllFit
+-- a setting leaves the lines
+setup_fits : (so_far : SoFar) (form : SetupForm) (words : LineWords) → AllFit so_far → IfOk (setup_line so_far form words) AllFit
 unfolding setup_line
 setup_fits so_far form words all =
-    bound (setting_of Split so_far.script.setup form words) _ IsPlain AllFit (setting_fits so_far.script.setup form words) (λ setting plain.
-    unless_fits (objection so_far.settings so_far.script setting) (after_setting so_far setting) (with_fits so_far.script setting all plain))
+    always (setting_of so_far.script.setup form words) _ AllFit (λ setting.
+    unless_fits (objection so_far.settings so_far.script setting) (after_setting so_far setting) (record { ticks = all.ticks }))
 
 actor_fits : (so_far : SoFar) (number : ℕ) (actor : Actor) (words : LineWords) → AllFit so_far → IfOk (actor_line Split so_far number actor words) AllFit
 unfolding actor_line
 actor_fits so_far number actor words all =
-    bound (verb_at Split so_far.script.setup.nodes actor words) _ Fits AllFit (line_fits so_far.script.setup.nodes actor words) (λ verb now.
+    bound (verb_at Split so_far.script.setup.nodes actor words) _ RisesInBounds AllFit (line_fits so_far.script.setup.nodes actor words) (λ verb now.
     let line : Line = record { number = number; actor = actor; verb = verb } in
     unless_fits (name_objection so_far.posted verb) (after_telling so_far line) (one_more so_far.script line all now))
 
@@ -252,11 +154,7 @@ long_or false bad script all = all
 
 none_at_first : AllFit nothing_read
 none_at_first = record {
-  cache = refl;
-  direct = refl;
-  strict = refl;
   ticks = All-nil (λ (l : Line). RisesInBounds l.verb);
-  masters = All-nil (λ (l : Line). NamesNoMaster l.verb);
 }
 
 pub split_scripts_may_split : SplitScriptsMaySplit

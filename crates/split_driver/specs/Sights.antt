@@ -4,7 +4,7 @@ use Rattle.history_book.specs.declared.item.Actor.{Actor}
 use Rattle.history_book.specs.declared.item.Actor.TheVariants.{Clock, Janitor, Node, Session}
 use Rattle.system_parts.specs.declared.instance.Place.{Place}
 use Rattle.machine.specs.declared.event.Doing.{Doing}
-use Rattle.machine.specs.declared.event.Doing.TheVariants.{Completing, Free, Gone, Open, Reading}
+use Rattle.machine.specs.declared.event.Doing.TheVariants.{Completing, Free, Gone, Open, Placing, Reading}
 use Rattle.machine.specs.Readers.{is_commit}
 use Rattle.command_semantics.specs.declared.point.View.{View}
 use Rattle.split_stores.specs.declared.searching.HeldRequest.{HeldRequest}
@@ -18,6 +18,7 @@ may_wait (Some Free) = false
 may_wait (Some Open) = false
 may_wait (Some Reading) = false
 may_wait (Some Completing) = false
+may_wait (Some Placing) = false
 may_wait _ = true
 
 -- it was seen of this actor: a request was looked for, unless the session waits for nothing

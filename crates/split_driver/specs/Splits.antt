@@ -1,5 +1,5 @@
 -- What a script that is carried out over split stores comes to.
-use Rattle.std.specs.Prelude.{◌≡◌, ℕ, ◌≤◌, false, List, length, slice_get, Option, Some, Result, Ok, MatchResult}
+use Rattle.std.specs.Prelude.{◌≡◌, ℕ, ◌≤◌, List, length, slice_get, Option, Some, Result, Ok, MatchResult}
 use Rattle.tick_word.specs.Rule.{seat_limit}
 use Rattle.history_book.specs.declared.item.Item.{Item}
 use Rattle.script_data.specs.Data.{ScriptData}
@@ -12,19 +12,15 @@ use Rattle.split_stores.specs.Merged.{Settled, IsTornInOrder}
 use Rattle.split_stores.specs.Merging.{logs_of}
 use Rattle.split_stores.specs.Orders.{without_lines}
 use Rattle.log_refinement.specs.Follows.{AllBegin, AllFollow, AllFollowSome}
-use Rattle.log_refinement.specs.Laws.{NameNoMaster, AllRise}
+use Rattle.log_refinement.specs.Laws.{AllRise}
 use Rattle.split_driver.specs.Runs.{RiseInBounds}
 use Rattle.split_driver.specs.declared.stop.SplitStop.{SplitStop}
 use Rattle.split_driver.specs.declared.stop.SplitStop.TheVariants as stop
 
 -- ---- scripts
--- the script turns on nothing that split stores have not, its lines name no master, and its ticks are in their bounds
+-- the script's ticks are in their bounds
 pub record MaySplit (script : ScriptData) : Type 0 where
-  pub cache : script.setup.cache ≡ 0
-  pub direct : script.setup.direct ≡ false
-  pub strict : script.setup.strict ≡ false
   pub ticks : RiseInBounds script.lines
-  pub masters : NameNoMaster script.lines
 
 -- so is each script that was read for split stores
 abbrev pub SplitScriptsMaySplit : Type 0

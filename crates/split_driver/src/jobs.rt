@@ -4,7 +4,6 @@ ghost use Rattle.std.specs.List.{AllZip};
 ghost use Rattle.std.specs.Vec.{vec_capacity};
 ghost use Rattle.stamp_base.specs.declared.limits.TheConstants.{LINE_LIMIT};
 ghost use Rattle.split_stores.specs.Logs.{IsNew};
-ghost use Rattle.log_refinement.specs.Laws.{NameNoMaster};
 ghost use Rattle.split_driver.specs.Runs.{RiseInBounds};
 ghost use Rattle.split_driver.specs.Actors.{IsJobOf, IsPlayedBy};
 
@@ -67,7 +66,6 @@ pub(crate) fn play_all<R: Threads + Wait + Sync, G: PartGate>(
     requires jobs { All (λ job. IsNew split.now.id job.seat) jobs.items }
     requires few { vec_len script.now.lines ≤ LINE_LIMIT }
     requires ticks { RiseInBounds script.now.lines.items }
-    requires masters { NameNoMaster script.now.lines.items }
     ensures { IfOk result (λ played. AllZip (IsPlayedBy script.now.lines.items) jobs.items played.items) }
 {
     let posting = Posting::new();
@@ -87,7 +85,6 @@ fn run_all<R: Threads + Wait + Sync, G: PartGate>(
     requires jobs { All (λ job. IsNew split.now.id job.seat) jobs.items }
     requires few { vec_len script.now.lines ≤ LINE_LIMIT }
     requires ticks { RiseInBounds script.now.lines.items }
-    requires masters { NameNoMaster script.now.lines.items }
     ensures { IfOk result (λ played. AllZip (IsPlayedBy script.now.lines.items) jobs.items played.items) }
 {
     let threads = Vec::with_capacity(alloc, jobs.len())?;
@@ -96,7 +93,7 @@ fn run_all<R: Threads + Wait + Sync, G: PartGate>(
         thread::scope_env(),
         rt,
         move |scope| -> Result<Vec<Job>, NoMemory>
-            requires { All (λ job. IsNew split.now.id job.seat) jobs.items × (vec_len script.now.lines ≤ LINE_LIMIT) × RiseInBounds script.now.lines.items × NameNoMaster script.now.lines.items
+            requires { All (λ job. IsNew split.now.id job.seat) jobs.items × (vec_len script.now.lines ≤ LINE_LIMIT) × RiseInBounds script.now.lines.items
                 × (vec_len threads ≡ 0) × (vec_len jobs ≤ vec_capacity threads) × (vec_len played ≡ 0) × (vec_len jobs ≤ vec_capacity played) }
             ensures { IfOk result (λ played. AllZip (IsPlayedBy script.entry.now.lines.items) jobs.items played.items) }
         {

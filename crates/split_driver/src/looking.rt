@@ -69,7 +69,7 @@ fn may_wait(doing: &Option<Doing>) -> bool
 {
     !matches!(
         doing,
-        Some(Doing::Free | Doing::Open | Doing::Reading | Doing::Completing)
+        Some(Doing::Free | Doing::Open | Doing::Reading | Doing::Completing | Doing::Placing)
     )
 }
 

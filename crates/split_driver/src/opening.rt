@@ -1,11 +1,10 @@
 // The event with which a line opens.
-ghost use Rattle.std.specs.Prelude.{◌≡◌, ◌≤◌, List, IfSome, is_some, true};
+ghost use Rattle.std.specs.Prelude.{◌≡◌, ◌≤◌, List, IfSome, is_some};
 ghost use Rattle.script_data.specs.Ticks.{tick_of};
 ghost use Rattle.command_semantics.specs.Answers.{has_opening};
 ghost use Rattle.split_stores.specs.declared.seat.Entry.{Entry};
 ghost use Rattle.split_stores.specs.Logs.{CanRise, rise_of};
 ghost use Rattle.log_refinement.specs.Follows as follows;
-ghost use Rattle.log_refinement.specs.Laws.{NamesNode, NamesNoMaster};
 ghost use Rattle.split_driver.specs.Runs.{CanOpen};
 
 use history_book::{Actor, Note};
@@ -13,10 +12,10 @@ use script_data::{Target, Verb};
 use split_stores::Event;
 use stamp_base::{NodeNo, SessionNo};
 
-/// The first event of a line of a form that has an opening item; none of another form, and none of a line that names the master.
+/// The first event of a line of a form that has an opening item; none of another form.
 pub fn first_event(actor: Actor, verb: &Verb) -> Option<Event>
     ensures value { result ≡ follows.first_event actor verb.now }
-    ensures own { NamesNoMaster verb.now → has_opening actor verb.now ≡ is_some result }
+    ensures own { has_opening actor verb.now ≡ is_some result }
     ensures rises { (entries : List Entry) → CanOpen verb.now entries → IfSome result (λ e. CanRise e entries) }
     ensures tick { IfSome result (λ e. rise_of e ≤ tick_of verb.now) }
 {
@@ -65,15 +64,23 @@ fn node_first(node: NodeNo, verb: &Verb) -> Option<Event>
 
 fn session_first(session: SessionNo, verb: &Verb) -> Option<Event>
     ensures value { result ≡ follows.session_first session verb.now }
-    ensures own { NamesNoMaster verb.now → has_opening (Actor.Session session) verb.now ≡ is_some result }
+    ensures own { has_opening (Actor.Session session) verb.now ≡ is_some result }
     ensures rises { (entries : List Entry) → IfSome result (λ e. CanRise e entries) }
     ensures tick { IfSome result (λ e. rise_of e ≡ 0) }
 {
     match *verb {
-        Verb::Begin { target } => asked_begin(session, target),
-        Verb::AskBegin { node } => Some(Event::AskBegin { session, node }),
-        Verb::Commit { target } | Verb::Submit { target } => asked_commit(session, target),
-        Verb::AskCommit { node } => Some(Event::AskCommit { session, node }),
+        Verb::Begin { target } => Some(Event::AskBegin { session, target }),
+        Verb::AskBegin { node } => Some(Event::AskBegin {
+            session,
+            target: Target::Node(node),
+        }),
+        Verb::Commit { target } | Verb::Submit { target } => {
+            Some(Event::AskCommit { session, target })
+        }
+        Verb::AskCommit { node } => Some(Event::AskCommit {
+            session,
+            target: Target::Node(node),
+        }),
         Verb::Write { key, value } => Some(Event::Write {
             session,
             key,
@@ -82,30 +89,6 @@ fn session_first(session: SessionNo, verb: &Verb) -> Option<Event>
         Verb::Read { key } | Verb::Fetch { key } => Some(Event::Fetch { session, key }),
         Verb::Vanish => Some(Event::Vanish { session }),
         _ => noted(Actor::Session(session), verb),
-    }
-}
-
-fn asked_begin(session: SessionNo, target: Target) -> Option<Event>
-    ensures value { result ≡ follows.asked_begin session target }
-    ensures rises { (entries : List Entry) → IfSome result (λ e. CanRise e entries) }
-    ensures tick { IfSome result (λ e. rise_of e ≡ 0) }
-    ensures own { NamesNode target → is_some result ≡ true }
-{
-    match target {
-        Target::Node(node) => Some(Event::AskBegin { session, node }),
-        Target::Master => None,
-    }
-}
-
-fn asked_commit(session: SessionNo, target: Target) -> Option<Event>
-    ensures value { result ≡ follows.asked_commit session target }
-    ensures rises { (entries : List Entry) → IfSome result (λ e. CanRise e entries) }
-    ensures tick { IfSome result (λ e. rise_of e ≡ 0) }
-    ensures own { NamesNode target → is_some result ≡ true }
-{
-    match target {
-        Target::Node(node) => Some(Event::AskCommit { session, node }),
-        Target::Master => None,
     }
 }
 

@@ -8,7 +8,6 @@ ghost use Rattle.split_parts.specs.declared.event.Event.{Event};
 ghost use Rattle.split_stores.specs.Logs.{CanRise, Logged, rise_of};
 ghost use Rattle.split_stores.specs.Makes.{Makes};
 ghost use Rattle.log_refinement.specs.Follows as follows;
-ghost use Rattle.log_refinement.specs.Laws.{NamesNoMaster, NameNoMaster};
 ghost use Rattle.log_refinement.specs.Owed.{is_paid, first_standing};
 ghost use Rattle.split_driver.specs.Runs.{CanOpen, Enters, GoesOn, MayRun, OpensLine, PlaysLine, RisesInBounds, RiseInBounds, StopsIn, StopsOn, StopsOpening, TellsDrawn, stand};
 
@@ -51,7 +50,6 @@ impl<R: Wait, G: PartGate> Player<'_, R, G> {
         requires fresh { (seat.old.entries ≡ []) × (account.old ≡ first_standing) }
         requires few { length lines.now ≤ LINE_LIMIT }
         requires ticks { RiseInBounds lines.now }
-        requires masters { NameNoMaster lines.now }
         ensures word { seat.new.word ≡ seat.old.word }
         ensures follows { OnOk result (follows.FollowsLines lines.now self.now.actor seat.new.entries) }
         ensures front { follows.FollowsSome lines.now self.now.actor seat.new.entries }
@@ -74,7 +72,6 @@ impl<R: Wait, G: PartGate> Player<'_, R, G> {
         requires paid { is_paid account.old ≡ true }
         requires rises { CanOpen line.now.verb seat.old.entries }
         requires ticks { RisesInBounds line.now.verb }
-        requires master { NamesNoMaster line.now.verb }
         ensures word { seat.new.word ≡ seat.old.word }
         ensures plays { OnOk result (PlaysLine self.now.actor line.now (stand seat.old account.old) (stand seat.new account.new)) }
         ensures stops { OnErr result (StopsIn self.now.actor line.now (stand seat.old account.old) seat.new.entries) }

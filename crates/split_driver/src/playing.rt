@@ -2,7 +2,6 @@
 ghost use Rattle.std.specs.Prelude.{◌≡◌, ◌≤◌, [], IfErr, OnOk, length};
 ghost use Rattle.stamp_base.specs.declared.limits.TheConstants.{LINE_LIMIT};
 ghost use Rattle.log_refinement.specs.Follows.{FollowsLines, FollowsSome};
-ghost use Rattle.log_refinement.specs.Laws.{NameNoMaster};
 ghost use Rattle.split_driver.specs.Runs.{RiseInBounds, TellsDrawn};
 
 use crate::account::Account;
@@ -31,7 +30,6 @@ pub fn play_lines<R: Wait, G: PartGate>(
     requires fresh { seat.old.entries ≡ [] }
     requires few { length lines.now ≤ LINE_LIMIT }
     requires ticks { RiseInBounds lines.now }
-    requires masters { NameNoMaster lines.now }
     ensures word { seat.new.word ≡ seat.old.word }
     ensures follows { OnOk result (FollowsLines lines.now actor seat.new.entries) }
     ensures front { FollowsSome lines.now actor seat.new.entries }

@@ -4,7 +4,6 @@ ghost use Rattle.std.specs.List.{AllZip};
 ghost use Rattle.std.specs.Vec.{vec_capacity};
 ghost use Rattle.stamp_base.specs.declared.limits.TheConstants.{LINE_LIMIT};
 ghost use Rattle.split_stores.specs.Logs.{IsNew};
-ghost use Rattle.log_refinement.specs.Laws.{NameNoMaster};
 ghost use Rattle.split_driver.specs.Runs.{RiseInBounds};
 ghost use Rattle.split_driver.specs.Actors.{GivesBack, IsPlayedBy, task};
 
@@ -84,7 +83,6 @@ pub(crate) fn start_all<'s, E: 's, R: Wait + Sync + 's, G: PartGate + 's>(
     requires jobs { All (λ job. IsNew split.now.id job.seat) jobs.items }
     requires few { vec_len script.now.lines ≤ LINE_LIMIT }
     requires ticks { RiseInBounds script.now.lines.items }
-    requires masters { NameNoMaster script.now.lines.items }
     requires none { vec_len threads ≡ 0 }
     requires room { vec_len jobs ≤ vec_capacity threads }
     ensures all { IsTrue result.all → result.threads.items ≡ map (task script.now.lines.items) jobs.items }
@@ -119,7 +117,6 @@ fn start<'s, E: 's, R: Wait + Sync + 's, G: PartGate + 's>(
     requires job { IsNew split.now.id job.seat }
     requires few { vec_len script.now.lines ≤ LINE_LIMIT }
     requires ticks { RiseInBounds script.now.lines.items }
-    requires masters { NameNoMaster script.now.lines.items }
     ensures { IfOk result (λ thread. thread ≡ task script.now.lines.items job) }
 {
     if gate.may_start_thread() {
@@ -130,7 +127,7 @@ fn start<'s, E: 's, R: Wait + Sync + 's, G: PartGate + 's>(
         let started = scope.spawn_with(
             promise,
             move || -> Job
-                requires { IsNew split.now.id job.seat × (vec_len script.now.lines ≤ LINE_LIMIT) × RiseInBounds script.now.lines.items × NameNoMaster script.now.lines.items }
+                requires { IsNew split.now.id job.seat × (vec_len script.now.lines ≤ LINE_LIMIT) × RiseInBounds script.now.lines.items }
                 ensures { IsPlayedBy script.entry.now.lines.items job result }
             { play(rt, alloc, split, posting, script, gate, job) },
         );
@@ -155,7 +152,6 @@ fn play<R: Wait, G: PartGate>(
     requires new { IsNew split.now.id job.seat }
     requires few { vec_len script.now.lines ≤ LINE_LIMIT }
     requires ticks { RiseInBounds script.now.lines.items }
-    requires masters { NameNoMaster script.now.lines.items }
     ensures { IsPlayedBy script.now.lines.items job result }
 {
     let mut job = job;

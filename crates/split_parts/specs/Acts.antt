@@ -11,34 +11,35 @@ use Rattle.event_parts.specs.declared.stopped.Stopped.TheVariants.{Refused, Stor
 use Rattle.split_parts.specs.declared.acting.Acted.{Acted}
 use Rattle.split_parts.specs.declared.event.Event.{Event}
 use Rattle.split_parts.specs.declared.event.Event.TheVariants as event
-use Rattle.split_parts.specs.Parts.{Parts, filled, given, given_from, base_by, reading_of, fate_of, called}
+use Rattle.split_parts.specs.Parts.{Parts, filled, given, given_from, base_by, holder_by, node_for, reading_of, fate_of, called}
 
--- the event of the machine: a tick goes up to the base clock with its rise, and a reading is the base clock with the node's lead
-abbrev pub timed_at : ℕ → List ℕ → Event → machine.Event
-timed_at base leads (event.Tick by) = timed.Tick (base + by)
-timed_at base leads (event.Note actor note) = timed.Note actor note
-timed_at base leads (event.Take node) = timed.Take node (reading_of base leads node)
-timed_at base leads (event.Renew node) = timed.Renew node (reading_of base leads node)
-timed_at base leads (event.Extend node) = timed.Extend node
-timed_at base leads (event.Crash node) = timed.Crash node
-timed_at base leads (event.AskBegin session node) = timed.AskBegin session node
-timed_at base leads (event.AskCommit session node) = timed.AskCommit session node
-timed_at base leads (event.Accept node session) = timed.Accept node session (reading_of base leads node)
-timed_at base leads (event.Decide node session) = timed.Decide node session
-timed_at base leads (event.Put node session) = timed.Put node session
-timed_at base leads (event.Answer node session) = timed.Answer node session
-timed_at base leads (event.Write session key value) = timed.Write session key value
-timed_at base leads (event.Fetch session key) = timed.Fetch session key
-timed_at base leads (event.Step session) = timed.Step session
-timed_at base leads (event.Heal session) = timed.Heal session
-timed_at base leads (event.Abort session) = timed.Abort session
-timed_at base leads (event.Vanish session) = timed.Vanish session
-timed_at base leads (event.SweepOpen node txn) = timed.SweepOpen node txn
-timed_at base leads event.SweepStep = timed.SweepStep
+-- the event of the machine: a tick goes up to the base clock with its rise, a reading is the base clock with the node's lead, and an
+-- ask of the master is one of this node
+abbrev pub timed_at : ℕ → List ℕ → ℕ → Event → machine.Event
+timed_at base leads master (event.Tick by) = timed.Tick (base + by)
+timed_at base leads master (event.Note actor note) = timed.Note actor note
+timed_at base leads master (event.Take node) = timed.Take node (reading_of base leads node)
+timed_at base leads master (event.Renew node) = timed.Renew node (reading_of base leads node)
+timed_at base leads master (event.Extend node) = timed.Extend node
+timed_at base leads master (event.Crash node) = timed.Crash node
+timed_at base leads master (event.AskBegin session to) = timed.AskBegin session (node_for master to)
+timed_at base leads master (event.AskCommit session to) = timed.AskCommit session (node_for master to)
+timed_at base leads master (event.Accept node session) = timed.Accept node session (reading_of base leads node)
+timed_at base leads master (event.Decide node session) = timed.Decide node session
+timed_at base leads master (event.Put node session) = timed.Put node session
+timed_at base leads master (event.Answer node session) = timed.Answer node session
+timed_at base leads master (event.Write session key value) = timed.Write session key value
+timed_at base leads master (event.Fetch session key) = timed.Fetch session key
+timed_at base leads master (event.Step session) = timed.Step session
+timed_at base leads master (event.Heal session) = timed.Heal session
+timed_at base leads master (event.Abort session) = timed.Abort session
+timed_at base leads master (event.Vanish session) = timed.Vanish session
+timed_at base leads master (event.SweepOpen node txn) = timed.SweepOpen node txn
+timed_at base leads master event.SweepStep = timed.SweepStep
 
--- at the lent base clock, by the leads of the plan
+-- at the lent base clock and the lent record, by the leads of the plan
 abbrev pub timed_by : Parts → Event → machine.Event
-timed_by l e = timed_at (base_by l.clock) l.plan.leads e
+timed_by l e = timed_at (base_by l.clock) l.plan.leads (holder_by l.master) e
 
 -- the store that the event asks of the parts
 abbrev pub asked_of : Parts → machine.Event → Option Store

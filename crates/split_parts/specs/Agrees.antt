@@ -3,6 +3,8 @@ use Rattle.std.specs.Prelude.{◌≡◌, ◌≢◌, ℕ, ◌+◌, ◌<◌, ◌�
 use Rattle.stamp_base.specs.declared.stores.Mark.TheVariants.{Committed}
 use Rattle.stamp_base.specs.declared.stores.Store.{Store}
 use Rattle.stamp_base.specs.declared.stores.Store.TheVariants as store
+use Rattle.script_data.specs.declared.line.Target.{Target}
+use Rattle.script_data.specs.declared.line.Target.TheVariants as target
 use Rattle.system_parts.specs.Pairs.{Pairs, mark_of}
 use Rattle.system_parts.specs.Rows.{IsBare}
 use Rattle.system_parts.specs.declared.session.State as state
@@ -20,7 +22,7 @@ use Rattle.cluster_core.specs.Required.{MayExtend, MayHeal, MayMakeStep, MaySwee
 use Rattle.cluster_core.specs.Served.{held_in}
 use Rattle.split_parts.specs.declared.event.Event.{Event}
 use Rattle.split_parts.specs.declared.event.Event.TheVariants as event
-use Rattle.split_parts.specs.Parts.{Parts, filled, base_by}
+use Rattle.split_parts.specs.Parts.{Parts, filled, base_by, node_asked}
 use Rattle.split_parts.specs.Acts.{timed_by, asked_of}
 
 -- ---- the parts that an event has to do with
@@ -36,6 +38,11 @@ HasStore l (Some store.Cells) = IsSome l.cells
 HasStore l (Some store.Table) = IsSome l.table
 HasStore l (Some store.Master) = IsSome l.master
 
+-- who asks the master looks at the record
+abbrev pub HasRecordFor : Parts → Target → Type 0
+HasRecordFor l (target.Node node) = Unit {0}
+HasRecordFor l target.Master = IsSome l.master
+
 abbrev pub HasParts : Parts → Event → Type 0
 HasParts l (event.Tick by) = IsSome l.clock
 HasParts l (event.Note actor note) = IsSome l.names
@@ -43,8 +50,8 @@ HasParts l (event.Take node) = IsSome l.clock × HasNode l node × IsSome l.mast
 HasParts l (event.Renew node) = IsSome l.clock × HasNode l node × IsSome l.master
 HasParts l (event.Extend node) = HasNode l node × IsSome l.master
 HasParts l (event.Crash node) = ((session : ℕ) → session < 16 → HasSession l session) × HasNode l node
-HasParts l (event.AskBegin session node) = HasSession l session × HasNode l node
-HasParts l (event.AskCommit session node) = HasSession l session × HasNode l node
+HasParts l (event.AskBegin session to) = HasSession l session × HasNode l (node_asked l to) × HasRecordFor l to
+HasParts l (event.AskCommit session to) = HasSession l session × HasNode l (node_asked l to) × HasRecordFor l to
 HasParts l (event.Accept node session) = HasSession l session × IsSome l.clock × HasNode l node
 HasParts l (event.Decide node session) = HasSession l session × HasNode l node
 HasParts l (event.Put node session) = HasNode l node × IsSome l.table
@@ -122,8 +129,8 @@ NotPlaced pairs (Some stamps) = (commit : ℕ) → mark_of pairs stamps.0 ≡ So
 abbrev pub Fits : Parts → Event → Type 0
 Fits l (event.Extend node) = MayExtend (filled l) node
 Fits l (event.Crash node) = (session : ℕ) → IsAsked (filled l) node session
-Fits l (event.AskBegin session node) = HoldsNoneIn state.TheVariants.Free (filled l) session node
-Fits l (event.AskCommit session node) = HoldsNoneIn state.TheVariants.Open (filled l) session node
+Fits l (event.AskBegin session to) = HoldsNoneIn state.TheVariants.Free (filled l) session (node_asked l to)
+Fits l (event.AskCommit session to) = HoldsNoneIn state.TheVariants.Open (filled l) session (node_asked l to)
 Fits l (event.Accept node session) = IsAsked (filled l) node session
 Fits l (event.Decide node session) = IsAsked (filled l) node session
 Fits l (event.Put node session) = NotPlaced (filled l).pairs (to_place (held_in (filled l) node session))

@@ -1,5 +1,5 @@
 -- The parts that are lent to an event, under what the script sets, and the state that is filled up around them.
-use Rattle.std.specs.Prelude.{◌≡◌, ℕ, zero, suc, ◌+◌, List, [], ◌∷◌, slice_set, slice_index_or, Option, None, Some, IfSome}
+use Rattle.std.specs.Prelude.{◌≡◌, ℕ, zero, suc, ◌+◌, List, [], ◌∷◌, slice_set, slice_index_or, Option, None, Some, IfSome, unwrap_or}
 use Rattle.std.specs.Borrow.{MutBor}
 use Rattle.stamp_base.specs.SetupNumbers.{SetupNumbers}
 use Rattle.stamp_base.specs.declared.stores.Store.{Store}
@@ -8,6 +8,8 @@ use Rattle.port_io.specs.declared.weather.Fate.{Fate}
 use Rattle.port_io.specs.declared.weather.Fate.TheVariants.{Works}
 use Rattle.port_io.specs.Planned.{PlannedFault, planned_fate}
 use Rattle.script_data.specs.Data.{ScriptData}
+use Rattle.script_data.specs.declared.line.Target.{Target}
+use Rattle.script_data.specs.declared.line.Target.TheVariants as target
 use Rattle.system_parts.specs.Rows.{Row}
 use Rattle.system_parts.specs.Pairs.{Pairs}
 use Rattle.system_parts.specs.Record.{MasterRecord, Leasing}
@@ -236,6 +238,21 @@ filled l = with_lent (opening (setup_of l)) l
 -- the lent record leases by that setup
 abbrev pub LeasesBySetup : Parts → Type 0
 LeasesBySetup l = IfSome l.master (λ part. part.rules ≡ rules_of (setup_of l))
+
+-- ---- the node that is asked
+-- the node that holds the lent record, or the first node where none does
+abbrev pub holder_by : Option Record → ℕ
+holder_by None = 0
+holder_by (Some part) = unwrap_or part.state.holder 0
+
+-- the node of the target, where this one is the master
+abbrev pub node_for : ℕ → Target → ℕ
+node_for master (target.Node node) = node
+node_for master target.Master = master
+
+-- the node that an ask of the target is for, by the lent record
+abbrev pub node_asked : Parts → Target → ℕ
+node_asked l to = node_for (holder_by l.master) to
 
 -- ---- clock and fates
 abbrev pub base_by : Option ℕ → ℕ

@@ -7,11 +7,12 @@ ghost use Rattle.cluster_core.specs.Served.{held_in};
 ghost use Rattle.split_parts.specs.Acts.{asked_of, timed_by};
 ghost use Rattle.split_parts.specs.Agrees.{Agrees, CallsFit, ClockFits, Fits, HasNode, HasParts, HasSession, HoldsNoneIn, IsAsked, NotPlaced, store_by, WritesBare};
 ghost use Rattle.split_parts.specs.Lookups.{client_lent, post_by, session_at};
-ghost use Rattle.split_parts.specs.Parts.{behind, filled, seen, session_of};
+ghost use Rattle.split_parts.specs.Parts.{behind, filled, node_asked, seen, session_of};
 
 use crate::parts::SessionPart;
 use crate::{Event, Lent, deciding};
 use event_parts::Client;
+use script_data::Target;
 use stamp_base::{KeyNo, NodeNo, SessionNo, Store};
 use system_parts::State;
 use takeover_core::Post;
@@ -107,8 +108,8 @@ impl Lent<'_> {
         match event {
             Event::Extend { node } => self.extend_fits(*node),
             Event::Crash { node } => self.crash_fits(*node),
-            Event::AskBegin { session, node } => self.begin_fits(*session, *node),
-            Event::AskCommit { session, node } => self.commit_fits(*session, *node),
+            Event::AskBegin { session, target } => self.begin_fits(*session, *target),
+            Event::AskCommit { session, target } => self.commit_fits(*session, *target),
             Event::Accept { node, session } => self.request_fits(*node, *session),
             Event::Decide { node, session } => self.request_fits(*node, *session),
             Event::Answer { node, session } => self.request_fits(*node, *session),
@@ -181,9 +182,9 @@ impl Lent<'_> {
         }
     }
 
-    fn begin_fits(&self, session: SessionNo, node: NodeNo) -> bool
-        requires { HasSession (seen self.now) session × HasNode (seen self.now) node }
-        ensures { IsTrue result ↔ HoldsNoneIn Free (filled (seen self.now)) session node }
+    fn begin_fits(&self, session: SessionNo, target: Target) -> bool
+        requires { HasSession (seen self.now) session × HasNode (seen self.now) (node_asked (seen self.now) target) }
+        ensures { IsTrue result ↔ HoldsNoneIn Free (filled (seen self.now)) session (node_asked (seen self.now) target) }
     {
         let Some(client) = self.client(session) else {
             return true;
@@ -194,9 +195,9 @@ impl Lent<'_> {
         deciding::holds_none_in(client, State::Free, post, session)
     }
 
-    fn commit_fits(&self, session: SessionNo, node: NodeNo) -> bool
-        requires { HasSession (seen self.now) session × HasNode (seen self.now) node }
-        ensures { IsTrue result ↔ HoldsNoneIn Open (filled (seen self.now)) session node }
+    fn commit_fits(&self, session: SessionNo, target: Target) -> bool
+        requires { HasSession (seen self.now) session × HasNode (seen self.now) (node_asked (seen self.now) target) }
+        ensures { IsTrue result ↔ HoldsNoneIn Open (filled (seen self.now)) session (node_asked (seen self.now) target) }
     {
         let Some(client) = self.client(session) else {
             return true;

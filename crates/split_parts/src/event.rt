@@ -1,9 +1,11 @@
 // What can happen to the parts.
 use history_book::{Actor, Note};
+use script_data::Target;
 use stamp_base::{KeyNo, NodeNo, SessionNo, TxnId, Value};
 
 /// What can happen to the system. It is an event of the machine without what the clock tells: a reading is the base clock, as
-/// its part has it, with the node's lead, and a tick says by how much the base clock rises.
+/// its part has it, with the node's lead, and a tick says by how much the base clock rises. An ask of the master is one of the node
+/// that holds the record.
 #[derive(Clone, Copy, Debug, PartialEq, Eq)]
 pub enum Event {
     Tick {
@@ -27,11 +29,11 @@ pub enum Event {
     },
     AskBegin {
         session: SessionNo,
-        node: NodeNo,
+        target: Target,
     },
     AskCommit {
         session: SessionNo,
-        node: NodeNo,
+        target: Target,
     },
     Accept {
         node: NodeNo,

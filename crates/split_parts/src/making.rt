@@ -7,16 +7,17 @@ ghost use Rattle.cluster_core.specs.ClusterModel.{MakesStep};
 ghost use Rattle.split_parts.specs.Acts.{noted, timed_by};
 ghost use Rattle.split_parts.specs.Agrees.{CallsFit, ClockFits};
 ghost use Rattle.split_parts.specs.Making.{AddsIf, called_after};
-ghost use Rattle.split_parts.specs.Parts.{base_by, behind, called, fate_of, LeasesBySetup, posted_of, seen, setup_of};
+ghost use Rattle.split_parts.specs.Parts.{base_by, behind, called, fate_of, holder_by, LeasesBySetup, node_asked, posted_of, seen, setup_of};
 
 use crate::fates::planned_fate;
-use crate::timing::timed;
+use crate::timing::{node_for, timed};
 use crate::{Event, Lent};
 use cluster_core::ClusterState;
 use event_parts::Stopped;
 use machine::Event as TimedEvent;
 use port_io::{Fate, OneFate};
-use stamp_base::{NoMemory, Setup, Store};
+use script_data::Target;
+use stamp_base::{NoMemory, NodeNo, Setup, Store};
 
 impl Lent<'_> {
     /// The setup of the script.
@@ -37,14 +38,36 @@ impl Lent<'_> {
         }
     }
 
-    /// The event of the machine, at the readings of the nodes' clocks.
+    /// The node that holds the lent record, or the first node where none does.
+    fn holder(&self) -> NodeNo
+        ensures { result ≡ holder_by (seen self.now).master }
+    {
+        match &self.master {
+            Some(part) => part.holder(),
+            None => NodeNo::FIRST,
+        }
+    }
+
+    /// The node that an ask of the target is for, by the lent record.
+    pub fn node_asked(&self, target: Target) -> NodeNo
+        ensures { result ≡ node_asked (seen self.now) target }
+    {
+        node_for(self.holder(), target)
+    }
+
+    /// The event of the machine, at the readings of the nodes' clocks and the holder of the record.
     pub(crate) fn timed(&self, event: &Event) -> TimedEvent
         requires { ClockFits (seen self.now) event.now }
         ensures event { result ≡ timed_by (seen self.now) event.now }
         ensures leads { All (λ lead. lead ≤ 1000000) (seen self.now).plan.leads }
     {
         self.plan.tell_leads();
-        timed(self.base(), self.plan.leads.as_slice(), event)
+        timed(
+            self.base(),
+            self.plan.leads.as_slice(),
+            self.holder(),
+            event,
+        )
     }
 
     /// The base clock.

@@ -1,5 +1,5 @@
 // The parts of the system, each of which can be lent alone.
-ghost use Rattle.std.specs.Prelude.{◌≡◌, [], None};
+ghost use Rattle.std.specs.Prelude.{◌≡◌, [], IfOk, None, unwrap_or};
 ghost use Rattle.machine.specs.State.{client_new};
 ghost use Rattle.session_script.specs.PostedNames.{is_posted};
 ghost use Rattle.split_parts.specs.Parts.{session_of};
@@ -10,7 +10,7 @@ use event_parts::{Client, Stopped};
 use invalidator::Sweep;
 use master_record::Master;
 use session_script::PostedNames;
-use stamp_base::{Name, NodeNo, SessionNo};
+use stamp_base::{Name, NoMemory, NodeNo, SessionNo};
 use std::alloc::Global;
 use takeover_core::Post;
 
@@ -24,16 +24,16 @@ pub struct SessionPart {
 }
 
 impl SessionPart {
-    /// The session is free.
-    pub fn new(_: Global, number: SessionNo) -> SessionPart
-        ensures number { result.number ≡ number }
-        ensures client { result.client ≡ client_new 0 }
+    /// The session is free, and remembers so many decisions.
+    pub fn new(alloc: Global, number: SessionNo, cache: u64) -> Result<SessionPart, NoMemory>
+        ensures number { IfOk result (λ part. part.number ≡ number) }
+        ensures client { IfOk result (λ part. part.client ≡ client_new cache) }
     {
-        SessionPart {
+        Ok(SessionPart {
             number,
-            client: Client::without_cache(),
+            client: Client::new(alloc, cache)?,
             asked: None,
-        }
+        })
     }
 
     /// Which session it is.
@@ -186,6 +186,16 @@ impl MasterPart {
         ensures calls { result.calls ≡ 0 }
     {
         MasterPart { master, calls: 0 }
+    }
+
+    /// The node that holds the record, or the first node where none does.
+    pub fn holder(&self) -> NodeNo
+        ensures { result ≡ unwrap_or self.now.master.state.holder 0 }
+    {
+        match self.master.holder() {
+            Some(node) => node,
+            None => NodeNo::FIRST,
+        }
     }
 }
 

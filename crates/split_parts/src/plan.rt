@@ -1,5 +1,5 @@
 // What a script sets, without its lines.
-ghost use Rattle.std.specs.Prelude.{◌≡◌, [], false};
+ghost use Rattle.std.specs.Prelude.{◌≡◌, []};
 ghost use Rattle.stamp_base.specs.Setups.{numbers_of};
 ghost use Rattle.script_data.specs.Data.{IsSound};
 
@@ -17,8 +17,6 @@ pub struct Plan {
     /// The store, the number of the call on it from 1 on, and its fate.
     pub faults: Vec<(Store, u64, Fate)>,
     pub ghost sound: { IsSound (record { setup = numbers_of setup; leads = leads.items; faults = faults.items; lines = [] }) },
-    /// Sessions keep no decisions, nodes place commits, and reads are not strict.
-    pub ghost plain: { (setup.cache ≡ 0) × (setup.direct ≡ false) × (setup.strict ≡ false) },
 }
 
 impl Plan {
@@ -27,9 +25,6 @@ impl Plan {
 
     /// What the script sets.
     pub fn new(alloc: Global, script: &Script) -> Result<Plan, NoMemory>
-        requires cache { script.now.setup.cache ≡ 0 }
-        requires direct { script.now.setup.direct ≡ false }
-        requires strict { script.now.setup.strict ≡ false }
         ensures { IfOk result (λ plan. plan_data plan ≡ planned_by script.now) }
     {
         let mut leads = Vec::new(alloc);

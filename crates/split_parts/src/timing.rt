@@ -2,18 +2,19 @@
 ghost use Rattle.std.specs.Prelude.{◌≡◌, ◌≤◌, ◌^◌, All};
 ghost use Rattle.split_parts.specs.Acts.{timed_at};
 ghost use Rattle.split_parts.specs.Agrees.{ClockAllows};
-ghost use Rattle.split_parts.specs.Parts.{reading_of};
+ghost use Rattle.split_parts.specs.Parts.{node_for, reading_of};
 
 use crate::Event;
 use machine::Event as TimedEvent;
+use script_data::Target;
 use stamp_base::NodeNo;
 
-/// The event of the machine at this base clock: a tick goes up to the base clock with its rise, and a reading is the base clock
-/// with the node's lead.
-pub fn timed(base: u64, leads: &[u64], event: &Event) -> TimedEvent
+/// The event of the machine at this base clock: a tick goes up to the base clock with its rise, a reading is the base clock with the
+/// node's lead, and an ask of the master is one of this node.
+pub fn timed(base: u64, leads: &[u64], master: NodeNo, event: &Event) -> TimedEvent
     requires clock { ClockAllows base event.now }
     requires leads { All (λ lead. lead ≤ 2 ^ 60) leads.now }
-    ensures { result ≡ timed_at base leads.now event.now }
+    ensures { result ≡ timed_at base leads.now master event.now }
 {
     match *event {
         Event::Tick { by } => TimedEvent::Tick { to: base + by },
@@ -28,8 +29,14 @@ pub fn timed(base: u64, leads: &[u64], event: &Event) -> TimedEvent
         },
         Event::Extend { node } => TimedEvent::Extend { node },
         Event::Crash { node } => TimedEvent::Crash { node },
-        Event::AskBegin { session, node } => TimedEvent::AskBegin { session, node },
-        Event::AskCommit { session, node } => TimedEvent::AskCommit { session, node },
+        Event::AskBegin { session, target } => TimedEvent::AskBegin {
+            session,
+            node: node_for(master, target),
+        },
+        Event::AskCommit { session, target } => TimedEvent::AskCommit {
+            session,
+            node: node_for(master, target),
+        },
         Event::Accept { node, session } => TimedEvent::Accept {
             node,
             session,
@@ -54,6 +61,16 @@ pub fn timed(base: u64, leads: &[u64], event: &Event) -> TimedEvent
         Event::Vanish { session } => TimedEvent::Vanish { session },
         Event::SweepOpen { node, txn } => TimedEvent::SweepOpen { node, txn },
         Event::SweepStep => TimedEvent::SweepStep,
+    }
+}
+
+/// The node of the target, where this one is the master.
+pub(crate) fn node_for(master: NodeNo, target: Target) -> NodeNo
+    ensures { result ≡ node_for master target }
+{
+    match target {
+        Target::Node(node) => node,
+        Target::Master => master,
     }
 }
 

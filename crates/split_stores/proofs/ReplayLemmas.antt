@@ -14,6 +14,7 @@ use Rattle.machine.specs.State.{State}
 use Rattle.machine.specs.Machine.{IsSteadyAt, reading_of}
 use Rattle.script_data.specs.Data.{ScriptData, IsSound}
 use Rattle.cause_laws.proofs.AlwaysExplained.{tells_at_first}
+use Rattle.command_semantics.specs.Master.{last_master}
 use Rattle.command_semantics.specs.Next.{Clocks}
 use Rattle.command_semantics.specs.Runs.{Played, played, opening_played, step_of, clocks_of, clock_after}
 use Rattle.command_semantics.proofs.Ending.{opening_reached}
@@ -48,7 +49,7 @@ added [] items = refl
 added (x ∷ xs) items = added xs items
 
 -- ---- one event at its time
-pub timed_is : (clocks : Clocks) (e : Event) → Timed clocks (rise_of e) (timed_at clocks.base clocks.leads e)
+pub timed_is : (clocks : Clocks) (e : Event) → Timed clocks (rise_of e) (timed_at clocks.base clocks.leads clocks.master e)
 timed_is clocks (event.Tick by) = refl
 timed_is clocks (event.Take node) = refl
 timed_is clocks (event.Renew node) = refl
@@ -59,16 +60,16 @@ tick_is : (e : Event) → unwrap_or (rise_by e) 0 ≡ rise_of e
 tick_is (event.Tick by) = refl
 tick_is _ = refl
 
-pub reads : (clocks : Clocks) (e : Event) → ReadsClocks clocks (rise_by e) (timed_at clocks.base clocks.leads e)
+pub reads : (clocks : Clocks) (e : Event) → ReadsClocks clocks (rise_by e) (timed_at clocks.base clocks.leads clocks.master e)
 reads clocks (event.Tick by) = refl
 reads clocks (event.Take node) = (refl, refl)
 reads clocks (event.Renew node) = (refl, refl)
 reads clocks (event.Accept node session) = (refl, refl)
 reads clocks _ = refl
 
-clock_rises : (base : ℕ) (leads : List ℕ) (e : Event) → clock_after base (timed_at base leads e) ≡ base + rise_of e
-clock_rises base leads (event.Tick by) = refl
-clock_rises base leads _ = omega arith
+clock_rises : (base : ℕ) (leads : List ℕ) (master : ℕ) (e : Event) → clock_after base (timed_at base leads master e) ≡ base + rise_of e
+clock_rises base leads master (event.Tick by) = refl
+clock_rises base leads master _ = omega arith
 
 -- ---- entries
 played_push : (script : ScriptData) (es : List Entry) (e : Entry) (p : Played) → entries_played script (es ++ e ∷ []) p ≡ played_with script (entries_played script es p) e.event
@@ -120,17 +121,18 @@ next_fits script done left rest e whole clock ahead split h =
     let few : (merged_played script done).clock + rise_of e.event ≤ 28587302322176 = first_fits _ e rest (subst (λ (es : List Entry). (merged_played script done).clock + risen_by es ≤ 28587302322176) split h.room) in
     omega (arith, few, h.stands.time)
 
-steady_there : (script : ScriptData) (p : Played) (e : Event) (whole : ClusterModel) (clock : ℕ) (leads : List ℕ) → whole.state ≡ p.state → clock ≡ p.clock → leads ≡ script.leads → p.state.setup ≡ script.setup → IsSteadyAt script.setup.skew p.state.seen (reading_of (timed_in script p e)) → IsSteadyAt whole.state.setup.skew whole.state.seen (reading_of (timed_at clock leads e))
-steady_there script p e whole clock leads state time same setup steady =
+steady_there : (script : ScriptData) (p : Played) (e : Event) (whole : ClusterModel) (clock : ℕ) (leads : List ℕ) → whole.state ≡ p.state → whole.history ≡ p.items → clock ≡ p.clock → leads ≡ script.leads → p.state.setup ≡ script.setup → IsSteadyAt script.setup.skew p.state.seen (reading_of (timed_in script p e)) → IsSteadyAt whole.state.setup.skew whole.state.seen (reading_of (timed_at clock leads (last_master whole.history) e))
+steady_there script p e whole clock leads state history time same setup steady =
     let of_state : IsSteadyAt p.state.setup.skew p.state.seen (reading_of (timed_in script p e)) = subst (λ (s : SetupNumbers). IsSteadyAt s.skew p.state.seen (reading_of (timed_in script p e))) (sym setup) steady in
     let here : IsSteadyAt whole.state.setup.skew whole.state.seen (reading_of (timed_in script p e)) = subst (λ (w : State). IsSteadyAt w.setup.skew w.seen (reading_of (timed_in script p e))) (sym state) of_state in
-    let at_clock : IsSteadyAt whole.state.setup.skew whole.state.seen (reading_of (timed_at clock script.leads e)) = subst (λ (n : ℕ). IsSteadyAt whole.state.setup.skew whole.state.seen (reading_of (timed_at n script.leads e))) (sym time) here in
-    subst (λ (ls : List ℕ). IsSteadyAt whole.state.setup.skew whole.state.seen (reading_of (timed_at clock ls e))) (sym same) at_clock
+    let of_master : IsSteadyAt whole.state.setup.skew whole.state.seen (reading_of (timed_at p.clock script.leads (last_master whole.history) e)) = subst (λ (h : List Item). IsSteadyAt whole.state.setup.skew whole.state.seen (reading_of (timed_at p.clock script.leads (last_master h) e))) (sym history) here in
+    let at_clock : IsSteadyAt whole.state.setup.skew whole.state.seen (reading_of (timed_at clock script.leads (last_master whole.history) e)) = subst (λ (n : ℕ). IsSteadyAt whole.state.setup.skew whole.state.seen (reading_of (timed_at n script.leads (last_master whole.history) e))) (sym time) of_master in
+    subst (λ (ls : List ℕ). IsSteadyAt whole.state.setup.skew whole.state.seen (reading_of (timed_at clock ls (last_master whole.history) e))) (sym same) at_clock
 
-pub next_steady : (script : ScriptData) (done left rest : List Entry) (e : Entry) (whole : ClusterModel) (clock : ℕ) (leads : List ℕ) (ahead : Store → ℕ → Fate) → left ≡ e ∷ rest → IsOnTime script → leads ≡ script.leads → StandsAfter script done left whole clock ahead → IsSteadyAt whole.state.setup.skew whole.state.seen (reading_of (timed_at clock leads e.event))
+pub next_steady : (script : ScriptData) (done left rest : List Entry) (e : Entry) (whole : ClusterModel) (clock : ℕ) (leads : List ℕ) (ahead : Store → ℕ → Fate) → left ≡ e ∷ rest → IsOnTime script → leads ≡ script.leads → StandsAfter script done left whole clock ahead → IsSteadyAt whole.state.setup.skew whole.state.seen (reading_of (timed_at clock leads (last_master whole.history) e.event))
 next_steady script done left rest e whole clock leads ahead split on_time same h =
     let few : (merged_played script done).clock + rise_of e.event ≤ 28587302322176 = first_fits _ e rest (subst (λ (es : List Entry). (merged_played script done).clock + risen_by es ≤ 28587302322176) split h.room) in
-    steady_there script (merged_played script done) e.event whole clock leads h.stands.state h.stands.time same h.told.reached.setup (timed_next script (merged_played script done) e.event on_time h.told few).steady
+    steady_there script (merged_played script done) e.event whole clock leads h.stands.state h.stands.history h.stands.time same h.told.reached.setup (timed_next script (merged_played script done) e.event on_time h.told few).steady
 
 kept_push : (script : ScriptData) (done : List Entry) (e : Entry) → (merged_played script done).items ≡ kept_items done → IsReplayed script (merged_played script done) e → (played_with script (merged_played script done) e.event).items ≡ kept_items (done ++ e ∷ [])
 kept_push script done e kept here =
@@ -146,7 +148,7 @@ stands_more law script done left rest e old new clock later ahead now split on_t
     let push : merged_played script (done ++ e ∷ []) ≡ next = played_push script done e (opening_played script) in
     let room : p.clock + risen_by (e ∷ rest) ≤ 28587302322176 = subst (λ (es : List Entry). p.clock + risen_by es ≤ 28587302322176) split h.room in
     let few : p.clock + rise_of e.event ≤ 28587302322176 = first_fits p.clock e rest room in
-    let up : next.clock ≡ p.clock + rise_of e.event = clock_rises p.clock script.leads e.event in
+    let up : next.clock ≡ p.clock + rise_of e.event = clock_rises p.clock script.leads (last_master p.items) e.event in
     let told : IsTold script next = law script (rise_by e.event) p (timed_in script p e.event) on_time.leads (omega (arith, few, tick_is e.event, on_time.skew)) h.told (reads (clocks_of script p) e.event) in
     record {
       stands = subst (λ (q : Played). StandsAt script q new later now) (sym push) at;
@@ -175,8 +177,10 @@ stops_at script merged i e (Torn tick kept replayed) within is before h = record
 stops_at script merged i e NoMemory within is before h = tt
 
 -- ---- one turn
-pub event_is : (script : ScriptData) (p : Played) (e : Event) (clock : ℕ) (leads : List ℕ) (made : machine.Event) → made ≡ timed_at clock leads e → clock ≡ p.clock → script.leads ≡ leads → made ≡ timed_in script p e
-event_is script p e clock leads made is time same = is ∙ ap (λ (n : ℕ). timed_at n leads e) time ∙ ap (λ (ls : List ℕ). timed_at p.clock ls e) (sym same)
+pub event_is : (script : ScriptData) (p : Played) (e : Event) (clock : ℕ) (leads : List ℕ) (master : ℕ) (history : List Item) (made : machine.Event) → made ≡ timed_at clock leads master e → clock ≡ p.clock → master ≡ last_master history → history ≡ p.items → script.leads ≡ leads → made ≡ timed_in script p e
+event_is script p e clock leads master history made is time leader told same =
+    is ∙ ap (λ (n : ℕ). timed_at n leads master e) time ∙ ap (λ (n : ℕ). timed_at p.clock leads n e) (leader ∙ ap last_master told)
+    ∙ ap (λ (ls : List ℕ). timed_at p.clock ls (last_master p.items) e) (sym same)
 
 -- the items behind those that stood there before are those that the step appends
 pub items_since : (script : ScriptData) (p : Played) (e : Event) (made : machine.Event) (before now behind : List Item) → made ≡ timed_in script p e → before ≡ p.items → now ≡ (played script p made).items → behind ≡ drop (length before) now → behind ≡ replayed_items script p e

@@ -7,7 +7,7 @@ use Rattle.split_parts.specs.declared.event.Event.TheVariants as event
 use Rattle.split_parts.specs.Agrees.{HasParts}
 use Rattle.split_parts.specs.Lookups.{session_at}
 use Rattle.split_stores.specs.Logs.{Logged, CanRise}
-use Rattle.split_parts.specs.Parts.{Parts}
+use Rattle.split_parts.specs.Parts.{Parts, node_asked}
 
 -- a session that is lent as this one is it
 abbrev pub IsSession : Parts → ℕ → Type 0
@@ -23,8 +23,8 @@ IsInPlace l (event.Take node) = IsNode l node
 IsInPlace l (event.Renew node) = IsNode l node
 IsInPlace l (event.Extend node) = IsNode l node
 IsInPlace l (event.Crash node) = ((session : ℕ) → session < 16 → IsSession l session) × IsNode l node
-IsInPlace l (event.AskBegin session node) = IsSession l session × IsNode l node
-IsInPlace l (event.AskCommit session node) = IsSession l session × IsNode l node
+IsInPlace l (event.AskBegin session to) = IsSession l session × IsNode l (node_asked l to)
+IsInPlace l (event.AskCommit session to) = IsSession l session × IsNode l (node_asked l to)
 IsInPlace l (event.Accept node session) = IsSession l session × IsNode l node
 IsInPlace l (event.Decide node session) = IsSession l session × IsNode l node
 IsInPlace l (event.Put node session) = IsNode l node

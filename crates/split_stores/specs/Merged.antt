@@ -4,6 +4,7 @@ use Rattle.history_book.specs.declared.item.Item.{Item}
 use Rattle.history_book.specs.Members.{AtEach}
 use Rattle.machine.specs.declared.event.Event as machine
 use Rattle.script_data.specs.Data.{ScriptData}
+use Rattle.command_semantics.specs.Master.{last_master}
 use Rattle.command_semantics.specs.Runs.{Played, played, opening_played, step_of}
 use Rattle.cluster_core.specs.ClusterModel.{ClusterModel}
 use Rattle.split_parts.specs.declared.event.Event.{Event}
@@ -15,9 +16,9 @@ use Rattle.split_stores.specs.Logs.{Logged}
 use Rattle.split_stores.specs.Merging.{logs_of, InTickOrder}
 
 -- ---- one entry
--- at the base clock of what was played so far
+-- at the base clock of what was played so far, where the master is the node that took the record last
 abbrev pub timed_in : ScriptData → Played → Event → machine.Event
-timed_in script p e = timed_at p.clock script.leads e
+timed_in script p e = timed_at p.clock script.leads (last_master p.items) e
 
 -- the items that the step of an event appends, under the planned fate of its store call
 abbrev pub replayed_items : ScriptData → Played → Event → List Item

@@ -4,9 +4,10 @@ ghost use Rattle.split_parts.specs.Agrees.{HasParts};
 ghost use Rattle.split_stores.specs.Locks.{IsInPlace, IsNode, IsReady, IsSession};
 ghost use Rattle.split_stores.specs.Logs.{Adds};
 ghost use Rattle.split_stores.specs.Makes.{Inside, MadeOfParts, made_of, Performs};
-ghost use Rattle.split_parts.specs.Parts.{seen};
+ghost use Rattle.split_parts.specs.Parts.{node_asked, seen};
 
 use crate::{ActorSeat, Made, PartGate, Split};
+use script_data::Target;
 use split_parts::{Acted, Event, Lent, act, agrees};
 use stamp_base::{NoMemory, NodeNo, SessionNo};
 use std::alloc::Global;
@@ -86,8 +87,8 @@ fn is_in_place(lent: &Lent<'_>, event: &Event) -> bool
         Event::Put { node, .. } => is_node(lent, node),
         Event::SweepOpen { node, .. } => is_node(lent, node),
         Event::Crash { node } => are_sessions(lent) && is_node(lent, node),
-        Event::AskBegin { session, node } => is_session(lent, session) && is_node(lent, node),
-        Event::AskCommit { session, node } => is_session(lent, session) && is_node(lent, node),
+        Event::AskBegin { session, target } => is_at(lent, session, target),
+        Event::AskCommit { session, target } => is_at(lent, session, target),
         Event::Accept { node, session } => is_session(lent, session) && is_node(lent, node),
         Event::Decide { node, session } => is_session(lent, session) && is_node(lent, node),
         Event::Answer { node, session } => is_session(lent, session) && is_node(lent, node),
@@ -116,6 +117,13 @@ fn is_session(lent: &Lent<'_>, session: SessionNo) -> bool
         Some(part) => part.number() == session,
         None => true,
     }
+}
+
+/// So it is with the session and the node of an ask.
+fn is_at(lent: &Lent<'_>, session: SessionNo, target: Target) -> bool
+    ensures { IsTrue result ↔ (IsSession (seen lent.now) session × IsNode (seen lent.now) (node_asked (seen lent.now) target)) }
+{
+    is_session(lent, session) && is_node(lent, lent.node_asked(target))
 }
 
 fn are_sessions(lent: &Lent<'_>) -> bool

@@ -1,7 +1,8 @@
-// The parts that an event has to do with, locked. Locks are taken in the order sessions by their numbers, janitor, clock, node,
-// cells, table, master record, names.
+// The parts that an event has to do with, locked. Locks are taken in the order sessions by their numbers, janitor, clock,
+// master record, node, cells, table, names.
 ghost use Rattle.std.specs.Prelude.{◌≡◌, ◌≤◌, IsSome, length};
 ghost use Rattle.split_parts.specs.declared.event.Event.TheVariants as event;
+ghost use Rattle.split_parts.specs.Agrees.{HasRecordFor};
 ghost use Rattle.split_parts.specs.Lending.{LendsBelow, LendsSession};
 ghost use Rattle.split_stores.specs.Locks.{IsReady, Suffices};
 ghost use Rattle.split_stores.specs.Logs.{CanRise};
@@ -10,6 +11,7 @@ ghost use Rattle.tick_word.specs.Rule.{seat_limit};
 
 use crate::inside::Turn;
 use crate::{ActorSeat, Event, Lent, Made, PartGate, Split};
+use script_data::Target;
 use session_events::{next_store, sweep_store};
 use stamp_base::{NodeNo, SessionNo, Store};
 use std::alloc::Global;
@@ -64,12 +66,8 @@ impl Split {
             Event::Renew { node } => self.at_clock_and_record(turn, seat, node),
             Event::Extend { node } => self.at_record(turn, seat, node),
             Event::Crash { node } => self.at_all_sessions(turn, seat, node),
-            Event::AskBegin { session, node } => self.at_session_and_node(
-                turn, seat, session, node,
-            ),
-            Event::AskCommit { session, node } => {
-                self.at_session_and_node(turn, seat, session, node)
-            }
+            Event::AskBegin { session, target } => self.at_target(turn, seat, session, target),
+            Event::AskCommit { session, target } => self.at_target(turn, seat, session, target),
             Event::Accept { node, session } => self.at_session_and_clock(turn, seat, session, node),
             Event::Decide { node, session } => self.at_session_and_node(turn, seat, session, node),
             Event::Put { node, .. } => self.at_node_and_table(turn, seat, node),
@@ -116,8 +114,8 @@ impl Split {
         ensures { MadeOfParts self.now.plan turn.now.event result seat.old seat.new }
     {
         let mut clock = self.clock.lock(turn.rt);
-        let mut post = self.nodes[node.index()].lock(turn.rt);
         let mut master = self.master.lock(turn.rt);
+        let mut post = self.nodes[node.index()].lock(turn.rt);
         let mut lent = Lent::none(&self.plan)
             .with_clock(&mut clock)
             .with_node(&mut post)
@@ -135,8 +133,8 @@ impl Split {
         requires parts { Suffices (λ l. IsSome l.node × IsSome l.master) turn.now.event }
         ensures { MadeOfParts self.now.plan turn.now.event result seat.old seat.new }
     {
-        let mut post = self.nodes[node.index()].lock(turn.rt);
         let mut master = self.master.lock(turn.rt);
+        let mut post = self.nodes[node.index()].lock(turn.rt);
         let mut lent = Lent::none(&self.plan)
             .with_node(&mut post)
             .with_master(&mut master);
@@ -224,6 +222,46 @@ impl Split {
         let mut post = self.nodes[node.index()].lock(turn.rt);
         let mut lent = Lent::none(&self.plan)
             .with_session(session.index(), &mut client)
+            .with_node(&mut post);
+        turn.inside(self, seat, &mut lent)
+    }
+
+    /// The parts of an ask. Who asks the master locks the record first, which tells the node.
+    fn at_target<R: Wait, G: PartGate>(
+        &self,
+        turn: &Turn<'_, R, G>,
+        seat: &mut ActorSeat,
+        session: SessionNo,
+        target: Target,
+    ) -> Made
+        requires ready { IsReady self.now.id turn.now.event seat.old }
+        requires parts { Suffices (λ l. LendsSession l session × IsSome l.node × HasRecordFor l target) turn.now.event }
+        ensures { MadeOfParts self.now.plan turn.now.event result seat.old seat.new }
+    {
+        match target {
+            Target::Node(node) => self.at_session_and_node(turn, seat, session, node),
+            Target::Master => self.at_session_and_holder(turn, seat, session),
+        }
+    }
+
+    #[tactic(auto, using(split_parts::proofs::LentSessions::has_set))]
+    fn at_session_and_holder<R: Wait, G: PartGate>(
+        &self,
+        turn: &Turn<'_, R, G>,
+        seat: &mut ActorSeat,
+        session: SessionNo,
+    ) -> Made
+        requires ready { IsReady self.now.id turn.now.event seat.old }
+        requires parts { Suffices (λ l. LendsSession l session × IsSome l.node × IsSome l.master) turn.now.event }
+        ensures { MadeOfParts self.now.plan turn.now.event result seat.old seat.new }
+    {
+        let mut client = self.sessions[session.index()].lock(turn.rt);
+        let mut master = self.master.lock(turn.rt);
+        let node = master.holder();
+        let mut post = self.nodes[node.index()].lock(turn.rt);
+        let mut lent = Lent::none(&self.plan)
+            .with_session(session.index(), &mut client)
+            .with_master(&mut master)
             .with_node(&mut post);
         turn.inside(self, seat, &mut lent)
     }

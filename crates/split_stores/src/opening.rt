@@ -30,8 +30,8 @@ pub(crate) fn cut(
     Ok(seats)
 }
 
-/// All sessions, which are free.
-pub(crate) fn free_sessions(alloc: Global) -> Result<Vec<Mutex<SessionPart>>, NoMemory>
+/// All sessions, which are free, and remember so many decisions.
+pub(crate) fn free_sessions(alloc: Global, cache: u64) -> Result<Vec<Mutex<SessionPart>>, NoMemory>
     ensures { IfOk result (λ sessions. vec_len sessions ≡ 16) }
 {
     let mut sessions = Vec::new(alloc);
@@ -39,7 +39,7 @@ pub(crate) fn free_sessions(alloc: Global) -> Result<Vec<Mutex<SessionPart>>, No
         let Some(session) = SessionNo::new(number as u64) else {
             unreachable!();
         };
-        sessions.push(Mutex::new(SessionPart::new(alloc, session)))?;
+        sessions.push(Mutex::new(SessionPart::new(alloc, session, cache)?))?;
     }
     Ok(sessions)
 }

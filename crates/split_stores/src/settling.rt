@@ -3,6 +3,7 @@ ghost use Rattle.std.specs.Prelude.{◌≡◌, ◌≤◌, ◌+◌, ◌*◌, ◌^
 ghost use Rattle.stamp_base.specs.Setups.{numbers_of};
 ghost use Rattle.machine.specs.Machine.{IsSteadyAt, reading_of};
 ghost use Rattle.script_data.specs.Data.{ScriptData};
+ghost use Rattle.command_semantics.specs.Master.{last_master};
 ghost use Rattle.command_semantics.specs.Runs.{Played, played};
 ghost use Rattle.planned_cluster.specs.Standing.{OpensFor, StandsAt};
 ghost use Rattle.split_stores.specs.Logs.{risen_by, rise_of};
@@ -20,7 +21,7 @@ use machine::Event as TimedEvent;
 use planned_cluster::PlannedCluster;
 use port_io::{PlannedWeather, Weather};
 use split_parts::{Plan, timed};
-use stamp_base::NoMemory;
+use stamp_base::{NoMemory, NodeNo};
 use std::alloc::Global;
 use tick_word::TickWord;
 
@@ -109,7 +110,7 @@ fn replay_all(play: &mut PlannedCluster, plan: &Plan, merged: &[Entry]) -> Resul
 fn replay_one(play: &mut PlannedCluster, leads: &[u64], entry: &Entry) -> Result<(), SettleStop>
     requires rise { play.old.clock + rise_of entry.now.event ≤ 2 ^ 60 }
     requires leads { All (λ lead. lead ≤ 2 ^ 60) leads.now }
-    requires steady { IsSteadyAt play.old.cluster.state.setup.skew play.old.cluster.state.seen (reading_of (timed_at play.old.clock leads.now entry.now.event)) }
+    requires steady { IsSteadyAt play.old.cluster.state.setup.skew play.old.cluster.state.seen (reading_of (timed_at play.old.clock leads.now (last_master play.old.cluster.history) entry.now.event)) }
     ensures { (script : ScriptData) (p : Played) → script.leads ≡ leads.now →
         StandsAt script p play.old.cluster play.old.clock (⟦<PlannedWeather as Weather>⟧.ahead play.old.weather) →
         MatchResult result
@@ -117,7 +118,10 @@ fn replay_one(play: &mut PlannedCluster, leads: &[u64], entry: &Entry) -> Result
         (TurnStops script p entry.now) }
 {
     let before = play.cluster.history().len();
-    make_again(play, &timed(play.clock, leads, &entry.event))?;
+    make_again(
+        play,
+        &timed(play.clock, leads, master_at(play), &entry.event),
+    )?;
     match difference(entry.kept.as_slice(), since(play.cluster.history(), before)) {
         None => Ok(()),
         Some((kept, replayed)) => Err(SettleStop::Torn {
@@ -126,6 +130,13 @@ fn replay_one(play: &mut PlannedCluster, leads: &[u64], entry: &Entry) -> Result
             replayed,
         }),
     }
+}
+
+/// The node that took the master record last.
+fn master_at(play: &PlannedCluster) -> NodeNo
+    ensures { result ≡ last_master play.now.cluster.history }
+{
+    play.cluster.master()
 }
 
 /// Makes the event. A refusal and a fault are told in the history.

@@ -1,5 +1,5 @@
 // The parts of the system, each behind a lock of its own.
-ghost use Rattle.std.specs.Prelude.{◌≡◌, ◌≤◌, All, IfOk, false, length};
+ghost use Rattle.std.specs.Prelude.{◌≡◌, ◌≤◌, All, IfOk, length};
 ghost use Rattle.split_stores.specs.Logs.{IsNew};
 ghost use Rattle.split_parts.specs.Plans.{planned_by};
 
@@ -26,10 +26,10 @@ pub struct Split {
     pub(crate) sessions: Vec<Mutex<SessionPart>>,
     pub(crate) janitor: Mutex<JanitorPart>,
     pub(crate) clock: Mutex<ClockPart>,
+    pub(crate) master: Mutex<MasterPart>,
     pub(crate) nodes: Vec<Mutex<NodePart>>,
     pub(crate) cells: Mutex<CellsPart>,
     pub(crate) table: Mutex<TablePart>,
-    pub(crate) master: Mutex<MasterPart>,
     pub(crate) names: Mutex<NamesPart>,
     pub(crate) word: TickWord,
     pub(crate) actors: usize,
@@ -56,9 +56,6 @@ impl Split {
         actors: usize,
     ) -> Result<(Split, Vec<ActorSeat>), NoMemory>
         requires actors { (1 ≤ actors) × (actors ≤ 26) }
-        requires cache { script.now.setup.cache ≡ 0 }
-        requires direct { script.now.setup.direct ≡ false }
-        requires strict { script.now.setup.strict ≡ false }
         ensures plan { IfOk result (λ made. made.0.plan ≡ planned_by script.now) }
         ensures seats { IfOk result (λ made. All (IsNew made.0.id) made.1.items) }
         ensures all { IfOk result (λ made. (length made.1.items ≡ actors) × (made.0.seats ≡ actors)) }
@@ -78,22 +75,19 @@ fn parts_of(
     actors: usize,
 ) -> Result<Split, NoMemory>
     requires actors { (actors ≡ word.seats) × (actors ≤ 26) }
-    requires cache { script.now.setup.cache ≡ 0 }
-    requires direct { script.now.setup.direct ≡ false }
-    requires strict { script.now.setup.strict ≡ false }
     ensures plan { IfOk result (λ split. split.plan ≡ planned_by script.now) }
     ensures word { IfOk result (λ split. (split.id ≡ word.id) × (split.seats ≡ word.seats)) }
 {
     let setup = script.setup;
     let free = Master::free(setup.lease, setup.skew, setup.range);
     Ok(Split {
-        sessions: free_sessions(alloc)?,
+        sessions: free_sessions(alloc, setup.cache)?,
         janitor: Mutex::new(JanitorPart::new(alloc)),
         clock: Mutex::new(ClockPart::new(alloc)),
+        master: Mutex::new(MasterPart::new(alloc, free)),
         nodes: vacant_nodes(alloc)?,
         cells: Mutex::new(CellsPart::new(alloc, Cells::new(alloc))),
         table: Mutex::new(TablePart::new(alloc, Table::new(alloc))),
-        master: Mutex::new(MasterPart::new(alloc, free)),
         names: Mutex::new(NamesPart::new(alloc)),
         word,
         actors,

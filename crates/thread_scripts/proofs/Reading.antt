@@ -34,10 +34,10 @@ unless_fits : (cause : Option ScriptCause) (next : SoFar) → Fits next → IfOk
 unless_fits None next fits = fits
 unless_fits (Some cause) next fits = tt
 
-setup_fits : (so_far : SoFar) (form : SetupForm) (words : LineWords) → Fits so_far → IfOk (setup_line Run so_far form words) Fits
+setup_fits : (so_far : SoFar) (form : SetupForm) (words : LineWords) → Fits so_far → IfOk (setup_line so_far form words) Fits
 unfolding setup_line
 setup_fits so_far form words fits =
-    always (setting_of Run so_far.script.setup form words) _ Fits (λ setting. unless_fits (objection so_far.settings so_far.script setting) (after_setting so_far setting) fits)
+    always (setting_of so_far.script.setup form words) _ Fits (λ setting. unless_fits (objection so_far.settings so_far.script setting) (after_setting so_far setting) fits)
 
 actor_fits : (so_far : SoFar) (number : ℕ) (actor : Actor) (words : LineWords) → Fits so_far → IfOk (actor_line Run so_far number actor words) Fits
 unfolding actor_line

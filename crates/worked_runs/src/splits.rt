@@ -119,8 +119,88 @@ s0 write k0 v
 s0 commit b
 ";
 
+/// A session places its commit by itself: in one line, and by two.
+const DIRECT: &str = "\
+commits direct
+a take
+a post p
+s0 await p
+s0 begin a
+s0 write k0 v
+s0 commit a
+s0 begin a
+s0 write k1 w
+s0 submit a
+s0 collect
+";
+
+/// A shadow is not set, and a session remembers what became of the version when it reads it once more.
+const REMEMBERED: &str = "\
+cache 2
+fault cells 2 unchanged
+a take
+a post p
+s0 await p
+s0 begin a
+s0 write k0 v
+s0 commit a
+s0 post q
+s1 await q
+s1 begin a
+s1 read k0
+s1 read k0
+";
+
+/// Two sessions write what the other has read, and one of them is refused.
+const STRICT: &str = "\
+reads strict
+a take
+a post p
+s0 await p
+s0 begin a
+s0 read k0
+s0 write k1 v
+s0 post q
+s1 await q
+s1 begin a
+s1 read k1
+s1 write k0 v
+s1 commit a
+s1 post r
+s0 await r
+s0 commit a
+";
+
+/// The first node is asked before any has led, then the node that leads, and then the node that took over.
+const LED: &str = "\
+s0 begin master
+s0 post o
+a await o
+a take
+a post p
+s0 await p
+s0 begin master
+s0 write k0 v
+s0 commit master
+s0 post q
+a await q
+a crash
+a post r
+clock await r
+clock tick 20
+clock post t
+b await t
+b take
+b post u
+s0 await u
+s0 begin master
+s0 write k0 w
+s0 submit master
+s0 collect
+";
+
 /// In each of them names leave one order of the lines.
-const IN_ONE_ORDER: [&str; 7] = [
+const IN_ONE_ORDER: [&str; 11] = [
     ABORTED,
     PUT_FAULTED,
     HEALED,
@@ -128,6 +208,10 @@ const IN_ONE_ORDER: [&str; 7] = [
     SMALL_RANGE,
     SWEPT,
     SECOND_NODE,
+    DIRECT,
+    REMEMBERED,
+    STRICT,
+    LED,
 ];
 
 /// Whether the script comes to one history over split stores and in file order.
@@ -159,12 +243,5 @@ fn each_form_of_line_is_carried_out_over_split_stores(rt: HostRuntime) -> Result
     for script in IN_ONE_ORDER {
         assert!(rt; is_one(&rt, rt.alloc(), script)?);
     }
-    Ok(())
-}
-
-#[test]
-fn direct_commits_are_left_to_a_replay(rt: HostRuntime) -> Result<(), Fail> {
-    let (script, report) = (b"commits direct\n", b"script line 1: replay only\n");
-    assert!(rt; answers(&rt, rt.alloc(), RUN_SPLIT, script, report, 3)?);
     Ok(())
 }

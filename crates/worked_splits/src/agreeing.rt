@@ -8,6 +8,7 @@ use crate::reading::read;
 use cell_store::Cells;
 use master_record::Master;
 use port_io::CalmWeather;
+use script_data::Target;
 use split_stores::{
     CellsPart, ClockPart, Event, Lent, MasterPart, NodePart, Plan, SessionPart, act, agrees,
 };
@@ -36,9 +37,10 @@ fn begins(alloc: Global, lent: &mut Lent<'_>) -> bool
     ensures { Stands 0 0 (seen lent.new) }
 {
     let node = NodeNo::FIRST;
+    let target = Target::Node(node);
     let session = SessionNo::FIRST;
     does(alloc, lent, &Event::Take { node })
-        && does(alloc, lent, &Event::AskBegin { session, node })
+        && does(alloc, lent, &Event::AskBegin { session, target })
         && does(alloc, lent, &Event::Accept { node, session })
         && does(alloc, lent, &Event::Decide { node, session })
         && does(alloc, lent, &Event::Answer { node, session })
@@ -53,7 +55,9 @@ fn write_agrees(alloc: Global, value: Value, cells: Cells) -> Option<bool> {
         return None;
     };
     let record = Master::free(plan.setup.lease, plan.setup.skew, plan.setup.range);
-    let mut session = SessionPart::new(alloc, SessionNo::FIRST);
+    let Ok(mut session) = SessionPart::new(alloc, SessionNo::FIRST, 0) else {
+        return None;
+    };
     let mut clock = ClockPart::new(alloc);
     let mut node = NodePart::new(alloc, NodeNo::FIRST);
     let mut cells = CellsPart::new(alloc, cells);

@@ -1,30 +1,20 @@
 // Logs of which something is missing.
-ghost use Rattle.std.specs.Prelude.{◌≡◌, ◌≤◌, false, All, IfOk, IsTrue};
+ghost use Rattle.std.specs.Prelude.{◌≡◌, ◌≤◌, All, IfOk};
 
 use crate::making::{read_behind, risen_twice};
 use cluster_core::Cluster;
 use history_book::Item;
 use session_script::{Mode, Script, read_script};
 use split_stores::{ActorSeat, SettleStop, Split};
-use stamp_base::{NoMemory, Setup};
+use stamp_base::NoMemory;
 use std::alloc::Global;
 use std::sync::Wait;
 use std::test::Fail;
 use worked_texts::READ_BEHIND;
 
-/// Whether the setup turns on nothing that split stores have not.
-fn is_plain(setup: &Setup) -> bool
-    ensures { IsTrue result → (setup.now.cache ≡ 0) × (setup.now.direct ≡ false) × (setup.now.strict ≡ false) }
-{
-    setup.cache == 0 && !setup.direct && !setup.strict
-}
-
 /// The parts at their beginning, and a seat of theirs for each actor.
 fn open(alloc: Global, script: &Script, actors: usize) -> Result<(Split, Vec<ActorSeat>), NoMemory>
     requires actors { (1 ≤ actors) × (actors ≤ 26) }
-    requires cache { script.now.setup.cache ≡ 0 }
-    requires direct { script.now.setup.direct ≡ false }
-    requires strict { script.now.setup.strict ≡ false }
     ensures { IfOk result (λ made. All (λ s. s.word ≡ made.0.id) made.1.items) }
 {
     Split::open(alloc, script, actors)
@@ -71,9 +61,6 @@ fn is_missing_one(settled: &Result<Cluster, SettleStop>) -> bool {
 
 /// Whether logs are torn where one was struck.
 fn tears<R: Wait>(rt: &R, alloc: Global, script: &Script) -> Result<bool, NoMemory> {
-    if !is_plain(&script.setup) {
-        return Ok(false);
-    }
     let (split, seats) = open(alloc, script, 1)?;
     let struck = one_struck(rt, alloc, &split, seats)?;
     let settled = split.settle(alloc, struck);
@@ -111,9 +98,6 @@ fn without_last(split: &Split, seats: Vec<ActorSeat>) -> Vec<ActorSeat>
 
 /// Whether logs are not settled where one is kept back.
 fn misses(alloc: Global, script: &Script) -> Result<bool, NoMemory> {
-    if !is_plain(&script.setup) {
-        return Ok(false);
-    }
     let (split, seats) = open(alloc, script, 2)?;
     let others = without_last(&split, seats);
     let settled = split.settle(alloc, others);
@@ -130,9 +114,6 @@ fn risen_of_one<R: Wait>(rt: &R, alloc: Global, split: &Split, seats: Vec<ActorS
 }
 
 fn risen<R: Wait>(rt: &R, alloc: Global, script: &Script) -> Result<Option<u64>, NoMemory> {
-    if !is_plain(&script.setup) {
-        return Ok(None);
-    }
     let (split, seats) = open(alloc, script, 1)?;
     Ok(risen_of_one(rt, alloc, &split, seats))
 }

@@ -3,6 +3,7 @@ ghost use Rattle.std.specs.Prelude.{◌≡◌, ◌≤◌};
 ghost use Rattle.split_stores.specs.Logs.{CanRise};
 
 use history_book::{Actor, Note};
+use script_data::Target;
 use split_stores::{ActorSeat, Event, Made, OpenPartGate, Split};
 use stamp_base::{KeyNo, Name, NodeNo, SessionNo, Value};
 use std::alloc::Global;
@@ -89,7 +90,8 @@ fn begins<R: Wait>(
     ensures { seat.new.word ≡ split.now.id }
 {
     let node = NodeNo::FIRST;
-    makes(rt, alloc, split, seat, Event::AskBegin { session, node })
+    let target = Target::Node(node);
+    makes(rt, alloc, split, seat, Event::AskBegin { session, target })
         && makes(rt, alloc, split, seat, Event::Accept { node, session })
         && makes(rt, alloc, split, seat, Event::Decide { node, session })
         && makes(rt, alloc, split, seat, Event::Answer { node, session })
@@ -108,6 +110,7 @@ fn commits<R: Wait>(
     ensures { seat.new.word ≡ split.now.id }
 {
     let (node, key) = (NodeNo::FIRST, KeyNo::FIRST);
+    let target = Target::Node(node);
     makes(
         rt,
         alloc,
@@ -118,7 +121,7 @@ fn commits<R: Wait>(
             key,
             value,
         },
-    ) && makes(rt, alloc, split, seat, Event::AskCommit { session, node })
+    ) && makes(rt, alloc, split, seat, Event::AskCommit { session, target })
         && makes(rt, alloc, split, seat, Event::Accept { node, session })
         && makes(rt, alloc, split, seat, Event::Decide { node, session })
         && makes(rt, alloc, split, seat, Event::Put { node, session })

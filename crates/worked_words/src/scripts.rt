@@ -106,7 +106,7 @@ static BAD_IN_A_RUN: [(&str, u64, &str); 3] = [
 ];
 
 /// A script, and how many lines it has that are not empty.
-static COUNTED: [(&str, usize); 14] = [
+static COUNTED: [(&str, usize); 15] = [
     ("", 0),
     ("\n\n \n", 0),
     ("# one\n  # two \x01\n\t\n#", 0),
@@ -118,6 +118,7 @@ static COUNTED: [(&str, usize); 14] = [
     ("lease 5\nb take\ns0 begin b", 2),
     ("commits direct\na take", 1),
     ("reads strict\na take", 1),
+    ("cache 3\na accept s0\ns0 submit master", 2),
     (
         "s0 write k0 aaaaaaaaaaaaaaaaaaaaaaaaaaaaaaaaaaaaaaaaaaaaaaaaaaaaaaaaaaaaaaaa",
         1,
@@ -129,15 +130,6 @@ static COUNTED: [(&str, usize); 14] = [
     ),
 ];
 
-/// The same over split stores.
-static BAD_OVER_SPLIT_STORES: [(&str, u64, &str); 5] = [
-    ("commits direct", 1, "replay only"),
-    ("lease 5\nreads loose", 2, "replay only"),
-    ("cache 1000000", 1, "replay only"),
-    ("cache 1 2", 1, "wrong number of words"),
-    ("a accept s0\ns0 submit master", 2, "replay only"),
-];
-
 // Behind functions, a proof that goes over the rows does not look into their texts.
 
 fn bad() -> &'static [(&'static str, u64, &'static str)] {
@@ -146,10 +138,6 @@ fn bad() -> &'static [(&'static str, u64, &'static str)] {
 
 fn bad_in_a_run() -> &'static [(&'static str, u64, &'static str)] {
     &BAD_IN_A_RUN
-}
-
-fn bad_over_split_stores() -> &'static [(&'static str, u64, &'static str)] {
-    &BAD_OVER_SPLIT_STORES
 }
 
 fn counted() -> &'static [(&'static str, usize)] {
@@ -189,14 +177,16 @@ fn names_the_first_bad_line(rt: HostRuntime) -> Result<(), Fail> {
     refuses(&rt, Mode::Replay, bad())?;
     refuses(&rt, Mode::Run, bad())?;
     refuses(&rt, Mode::Run, bad_in_a_run())?;
-    refuses(&rt, Mode::Split, bad_over_split_stores())
+    refuses(&rt, Mode::Split, bad())
 }
 
 #[test]
 fn counts_the_lines_of_a_script(rt: HostRuntime) -> Result<(), Fail> {
     for (script, count) in counted() {
-        if outcome(&rt, script.as_bytes(), Mode::Replay)? != Ok(*count) {
-            return Err(Fail::from(*script));
+        for mode in [Mode::Replay, Mode::Split] {
+            if outcome(&rt, script.as_bytes(), mode)? != Ok(*count) {
+                return Err(Fail::from(*script));
+            }
         }
     }
     Ok(())

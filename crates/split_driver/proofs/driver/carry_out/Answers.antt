@@ -19,9 +19,6 @@ play_all-requires-clause-jobs g c κs within = all_new c.in_ok-split.split.id c.
 pub play_all-requires-clause-ticks : goal.play_all-requires-clause-ticks
 play_all-requires-clause-ticks g c κs within = c.requires.may_split.ticks
 
-pub play_all-requires-clause-masters : goal.play_all-requires-clause-masters
-play_all-requires-clause-masters g c κs within = c.requires.may_split.masters
-
 pub finish-requires-clause-plan : goal.finish-requires-clause-plan
 finish-requires-clause-plan g c = c.in_ok-split.ensures.plan
 

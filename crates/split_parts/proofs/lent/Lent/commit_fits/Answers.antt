@@ -2,9 +2,9 @@ use Rattle.std.proofs.Common.{◌≡◌, sym, arith}
 use Rattle.std.specs.Prelude.{IsTrue}
 use Rattle.system_parts.specs.declared.session.State.TheVariants.{Open}
 use Rattle.machine.specs.Calls.{HoldsNone}
-use Rattle.split_parts.specs.Parts.{seen}
+use Rattle.split_parts.specs.Parts.{node_asked, seen}
 use Rattle.split_parts.proofs.FoundParts.{of_turned}
 use Rattle.split_parts.proofs.lent.Lent.commit_fits.Goals as goal
 
 pub returns : goal.returns
-returns c = of_turned (seen c.args.self.now) c.args.node c.args.session c.in-Some-post.post.now c.in-Some.client.now (IsTrue c.holds_none_in.result) (λ d p. d.entry.state ≡ Open → HoldsNone p c.args.session) (grind arith) c.requires.1 (sym c.in-Some.ensures) (sym c.in-Some-post.ensures) c.holds_none_in.ensures
+returns c = of_turned (seen c.args.self.now) (node_asked (seen c.args.self.now) c.args.target) c.args.session c.in-Some-post.post.now c.in-Some.client.now (IsTrue c.holds_none_in.result) (λ d p. d.entry.state ≡ Open → HoldsNone p c.args.session) (grind arith) c.requires.1 (sym c.in-Some.ensures) (sym c.in-Some-post.ensures) c.holds_none_in.ensures
