@@ -1,1 +1,5 @@
+mod WriteLemmas
 mod ListLemmas
+mod SeesLemmas
+mod WrongLemmas
+mod WorkedLists

@@ -1,17 +1,23 @@
--- Ranks that tell what a list of a key's writers does.
-use Rattle.std.specs.Prelude.{◌≡◌, ℕ, ◌<◌, ◌⊎◌, List, Some, length, slice_get}
-use Rattle.trace_rules.specs.Trace.{Trace, Writer}
-use Rattle.version_ranks.specs.declared.rank.Rank.{Rank}
+-- What it means that a list was read right: it has the values of the writes that its reader sees, in their order.
+use Rattle.std.specs.Prelude.{◌≡◌, ◌≢◌, ℕ, ◌<◌, ◌⊎◌, List, Some, slice_get}
+use Rattle.trace_rules.specs.declared.trace.Operation.TheVariants.{Write}
+use Rattle.trace_rules.specs.Trace.{Trace, Done}
+use Rattle.trace_rules.specs.Stamping.{Stamping}
 
--- the transaction's version of the key has this number
-pub record IsRanked (ranks : List Rank) (k version t : ℕ) : Type 0 where
-  pub place : ℕ
-  pub stands : slice_get ranks place ≡ Some (record { key = k; version = version; txn = t })
+-- at this place the transaction writes the value at the key
+abbrev pub WriteAt : Trace → ℕ → ℕ → ℕ → ℕ → Type 0
+WriteAt trace q w k v = slice_get trace.operations q ≡ Some (Write w k v)
 
--- the writers have numbers that rise, and every other writer of the key has a greater one
-pub record TellsList (ranks : List Rank) (trace : Trace) (k : ℕ) (writers : List ℕ) : Type 0 where
-  pub number : ℕ → ℕ
-  pub rises : (place next : ℕ) → place < next → number place < number next
-  pub wrote : (place t : ℕ) → slice_get writers place ≡ Some t → (value : ℕ) × Writer trace t k value
-  pub members : (place t : ℕ) → slice_get writers place ≡ Some t → IsRanked ranks k (number place) t
-  pub others : (t value : ℕ) → Writer trace t k value → ((place : ℕ) × (slice_get writers place ≡ Some t)) ⊎ ((version : ℕ) × ((place : ℕ) → place < length writers → number place < version) × IsRanked ranks k version t)
+-- the writer was committed below the reader's start; or the write is the reader's own, before its read
+abbrev pub IsSeen : Stamping → Trace → ℕ → ℕ → ℕ → ℕ → Type 0
+IsSeen st trace place t q w = (Done trace w × (st.commit w < st.start t)) ⊎ ((w ≡ t) × (q < place))
+
+-- of two writes the first comes first: one transaction's by their places, and others by the commits
+abbrev pub ComesFirst : Stamping → ℕ → ℕ → ℕ → ℕ → Type 0
+ComesFirst st q w r u = ((w ≡ u) × (q < r)) ⊎ ((w ≢ u) × (st.commit w < st.commit u))
+
+-- the list that t read of k at this place
+pub record SeesValues (st : Stamping) (trace : Trace) (place t k : ℕ) (values : List ℕ) : Type 0 where
+  pub each : (i v : ℕ) → slice_get values i ≡ Some v → (q : ℕ) × (w : ℕ) × WriteAt trace q w k v × IsSeen st trace place t q w
+  pub all : (q w v : ℕ) → WriteAt trace q w k v → IsSeen st trace place t q w → (i : ℕ) × (slice_get values i ≡ Some v)
+  pub rises : (i j v x q w r u : ℕ) → i < j → slice_get values i ≡ Some v → slice_get values j ≡ Some x → WriteAt trace q w k v → WriteAt trace r u k x → ComesFirst st q w r u

@@ -3,4 +3,4 @@
 
 mod laws;
 
-pub use laws::lists_tell_orders;
+pub use laws::{appends_are_listed_in_turn, lists_tell_orders, wrong_lists_refuse};

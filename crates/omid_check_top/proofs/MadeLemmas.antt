@@ -6,7 +6,8 @@ use Rattle.trace_rules.specs.declared.wanted.Times.{Times}
 use Rattle.trace_rules.specs.declared.wanted.Wanted.{Wanted}
 use Rattle.trace_rules.specs.Stamping.{Asked, Stampable}
 use Rattle.trace_rules.specs.Trace.{Trace}
-use Rattle.trace_rules.specs.Wants.{asked_of}
+use Rattle.version_ranks.specs.declared.rank.Rank.{Rank}
+use Rattle.version_ranks.specs.Ranks.{asked_with}
 use Rattle.trace_judge.specs.Verdicts.{AreStamps, IsTried, NoStamps}
 use Rattle.asked_orders.specs.Keeps.{stamping_of}
 use Rattle.committed_reads.specs.Committed.{CommittedReads}
@@ -20,7 +21,7 @@ use Rattle.trace_reading.specs.Trace.{trace_of}
 use Rattle.trace_index.specs.declared.attempts.Attempt.{Attempt}
 use Rattle.trace_index.specs.declared.fault.Unclear.{Unclear}
 use Rattle.trace_index.specs.Attempts.{attempts_of}
-use Rattle.trace_index.specs.Index.{IsIndexOf, operations_in}
+use Rattle.trace_index.specs.Index.{IsIndexOf, numbers_of}
 use Rattle.trace_report.specs.Verdict.{holds_text, refused_text, unclear_text}
 use Rattle.omid_check_top.specs.declared.words.Question.{Question}
 use Rattle.omid_check_top.specs.Verdicts.{IsCommitted, IsCommittedShown, IsFound, IsIndexed, IsIsolated, IsJudged, IsOfRecording, IsOpen, IsRight, IsShown, IsUnclear, IsWrongRead, Subject, committed_text, not_committed_text, open_text, subject_of, wrong_committed_text, wrong_text}
@@ -29,16 +30,16 @@ use Rattle.omid_check_top.specs.Verdicts.{IsCommitted, IsCommittedShown, IsFound
 pub stampable : (level : Level) (asked : Asked) (trace : Trace) (numbers : List ℕ) → AreStamps level asked trace numbers → Stampable level asked trace
 stampable level asked trace numbers stamps = record { stamps = stamping_of level (length trace.transactions) numbers; isolated = stamps.isolated; keeps = stamps.keeps }
 
-pub is_holding : (level : Level) (wanted : Wanted) (s : Subject) (numbers : List ℕ) (code : ℕ) (text : List ℕ) → AreStamps level (asked_of wanted level s.times s.trace) s.trace numbers → code ≡ 0 → text ≡ holds_text level wanted (length s.trace.transactions) → IsIsolated level wanted s code text
-is_holding level wanted s numbers code text stamps zero told = inl (record { holds = stampable level (asked_of wanted level s.times s.trace) s.trace numbers stamps; status = zero; told = told })
+pub is_holding : (level : Level) (wanted : Wanted) (s : Subject) (numbers : List ℕ) (code : ℕ) (text : List ℕ) → AreStamps level (asked_with wanted level s.times s.ranks s.trace) s.trace numbers → code ≡ 0 → text ≡ holds_text level wanted (length s.trace.transactions) → IsIsolated level wanted s code text
+is_holding level wanted s numbers code text stamps zero told = inl (record { holds = stampable level (asked_with wanted level s.times s.ranks s.trace) s.trace numbers stamps; status = zero; told = told })
 
 pub shows : (level : Level) (wanted : Wanted) (s : Subject) (steps : List Step) (text : List ℕ) → text ≡ refused_text level wanted (anomaly_name (name_of steps)) ++ cycle_text s.names s.attempts steps → IsShown level wanted s text
 shows level wanted s steps text told = record { steps = steps; told = told }
 
-pub is_shown : (level : Level) (wanted : Wanted) (s : Subject) (code : ℕ) (text : List ℕ) → NoStamps level (asked_of wanted level s.times s.trace) s.trace → code ≡ 7 → IsShown level wanted s text → IsIsolated level wanted s code text
+pub is_shown : (level : Level) (wanted : Wanted) (s : Subject) (code : ℕ) (text : List ℕ) → NoStamps level (asked_with wanted level s.times s.ranks s.trace) s.trace → code ≡ 7 → IsShown level wanted s text → IsIsolated level wanted s code text
 is_shown level wanted s code text none seven told = inr (inl (record { refused = none; status = seven; told = told }))
 
-pub is_wrong : (level : Level) (wanted : Wanted) (s : Subject) (place code : ℕ) (text : List ℕ) → NoStamps level (asked_of wanted level s.times s.trace) s.trace → code ≡ 7 → text ≡ wrong_text level wanted s place → IsIsolated level wanted s code text
+pub is_wrong : (level : Level) (wanted : Wanted) (s : Subject) (place code : ℕ) (text : List ℕ) → NoStamps level (asked_with wanted level s.times s.ranks s.trace) s.trace → code ≡ 7 → text ≡ wrong_text level wanted s place → IsIsolated level wanted s code text
 is_wrong level wanted s place code text none seven told = inr (inr (inl (record { place = place; refused = none; status = seven; told = told })))
 
 pub is_open : (level : Level) (wanted : Wanted) (s : Subject) (key : Option ℕ) (code : ℕ) (text : List ℕ) → IfSome key (λ k. IsTried s.trace k) → code ≡ 8 → text ≡ open_text s.names key → IsIsolated level wanted s code text
@@ -58,15 +59,15 @@ pub is_wrong_committed : (s : Subject) (place code : ℕ) (text : List ℕ) → 
 is_wrong_committed s place code text none seven told = inr (inr (record { place = place; refused = none; status = seven; told = told }))
 
 -- ---- of what was recorded
-pub of_index : (question : Question) (recorded : Recorded) (attempts : List Attempt) (trace : Trace) (times : List Times) (code : ℕ) (text : List ℕ)
-    → IsIndexOf recorded attempts trace times → IsFound question (subject_of recorded attempts trace times) code text → IsOfRecording question recorded code text
-of_index question recorded attempts trace times code text is found = inl (record { attempts = attempts; trace = trace; times = times; is = is; found = found })
+pub of_index : (question : Question) (recorded : Recorded) (attempts : List Attempt) (trace : Trace) (times : List Times) (ranks : List Rank) (code : ℕ) (text : List ℕ)
+    → IsIndexOf recorded attempts trace times ranks → IsFound question (subject_of recorded attempts trace times ranks) code text → IsOfRecording question recorded code text
+of_index question recorded attempts trace times ranks code text is found = inl (record { attempts = attempts; trace = trace; times = times; ranks = ranks; is = is; found = found })
 
-pub of_blame : (question : Question) (recorded : Recorded) (txn key value : ℕ) (what : Unclear) (code : ℕ) (text : List ℕ)
-    → operations_in recorded ≡ Err (record { txn = txn; key = key; value = value; what = what }) → code ≡ 3 → text ≡ unclear_text recorded.names (attempts_of recorded.events) txn key value what
+pub of_blame : (question : Question) (recorded : Recorded) (txn member key value : ℕ) (what : Unclear) (code : ℕ) (text : List ℕ)
+    → numbers_of recorded ≡ Err (record { txn = txn; member = member; key = key; value = value; what = what }) → code ≡ 3 → text ≡ unclear_text recorded.names (attempts_of recorded.events) txn member key value what
     → IsOfRecording question recorded code text
-of_blame question recorded txn key value what code text is three told =
-    inr (record { blame = record { txn = txn; key = key; value = value; what = what }; unclear = is; status = three; told = told })
+of_blame question recorded txn member key value what code text is three told =
+    inr (record { blame = record { txn = txn; member = member; key = key; value = value; what = what }; unclear = is; status = three; told = told })
 
 -- ---- of bytes
 pub of_bytes : (question : Question) (bytes : List ℕ) (recorded : Recorded) (code : ℕ) (text : List ℕ) → trace_of bytes ≡ Ok recorded → IsOfRecording question recorded code text → IsRight question bytes code text

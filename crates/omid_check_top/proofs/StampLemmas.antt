@@ -1,6 +1,8 @@
 -- The history that is shown in place of a verdict.
-use Rattle.std.proofs.Common.{◌≡◌, ℕ, ◌<◌, ◌⊎◌, ◌==◌, ◌&&◌, nat_lt, Bool, true, false, List, Option, None, Some, inl, inr, refl, sym, subst, ap, ◌∙◌, length, slice_get, arith}
+use Rattle.std.proofs.Common.{◌≡◌, ℕ, suc, ◌<◌, ◌⊎◌, ◌==◌, ◌&&◌, ◌||◌, nat_lt, Bool, true, false, List, [], ◌∷◌, Option, None, Some, inl, inr, refl, sym, subst, ap, ◌∙◌, length, slice_get, arith}
 use Rattle.std.proofs.lemmas.Option.{same_Some}
+use Rattle.std.specs.List.{list_any}
+use Rattle.std.proofs.lemmas.Bool.{eqb-true}
 use Rattle.std.specs.Prelude.{IfSome}
 use Rattle.history_book.specs.declared.item.Item.{Item}
 use Rattle.history_text.specs.Text.{printed}
@@ -14,6 +16,9 @@ use Rattle.trace_rules.specs.Serial.{owner}
 use Rattle.trace_rules.specs.Stamping.{Asked, IsolatedBy, Keeps, Point, Start, Commit, Stamping, stamp_of}
 use Rattle.trace_rules.specs.Trace.{Trace, Done, committed_in}
 use Rattle.trace_rules.specs.Wants.{asked_of, in_time, moments_of, of_done, of_one_process}
+use Rattle.version_ranks.specs.declared.rank.Rank.{Rank}
+use Rattle.version_ranks.specs.Ranks.{asked_with, by_rank, is_lower}
+use Rattle.trace_index.specs.Numbers.{AreDone}
 use Rattle.trace_items.specs.Items.{KeysDiffer, InOrder, Telling, history_of}
 use Rattle.trace_items.proofs.Isolates.{isolated, serial}
 use Rattle.trace_items.proofs.Along.{place_of, taken}
@@ -50,6 +55,34 @@ asked_done RealTime level times trace x y e =
     let first = both (of_done trace x) (of_done trace y) (both (of_done trace x && of_done trace y) (in_time (moments_of level times) x y) e).0 in
     (done_of trace x first.0, done_of trace y first.1)
 
+either_of : (a b : Bool) → a || b ≡ true → (a ≡ true) ⊎ (b ≡ true)
+either_of true b e = inl refl
+either_of false b e = inr e
+
+found_by : (p : Rank → Bool) (xs : List Rank) → list_any p xs ≡ true → (i : ℕ) × (x : Rank) × (slice_get xs i ≡ Some x) × (p x ≡ true)
+found_by p [] e = absurd (cc)
+found_by p (x ∷ xs) e = elim (either_of (p x) (list_any p xs) e) [
+  | inl here ↦ (0, x, refl, here)
+  | inr behind ↦ let r = found_by p xs behind in (suc r.0, r.1, r.2, r.3)
+]
+
+-- so is one of ranks of committed transactions
+ranks_done : (trace : Trace) (ranks : List Rank) (x y : Point) → AreDone trace.transactions ranks → by_rank ranks x y ≡ true → Done trace (owner x) × Done trace (owner y)
+ranks_done trace ranks (Start t) y all e = absurd (cc)
+ranks_done trace ranks (Commit t) (Commit u) all e = absurd (cc)
+ranks_done trace ranks (Commit t) (Start u) all e =
+    let one = found_by (λ a. (a.txn == t) && list_any (λ b. (b.txn == u) && is_lower a b) ranks) ranks e in
+    let parts = both (one.1.txn == t) (list_any (λ b. (b.txn == u) && is_lower one.1 b) ranks) one.3 in
+    let two = found_by (λ b. (b.txn == u) && is_lower one.1 b) ranks parts.1 in
+    let more = both (two.1.txn == u) (is_lower one.1 two.1) two.3 in
+    (subst (λ (n : ℕ). Done trace n) (eqb-true one.1.txn t parts.0) (all one.0 one.1 one.2), subst (λ (n : ℕ). Done trace n) (eqb-true two.1.txn u more.0) (all two.0 two.1 two.2))
+
+told_done : (wanted : Wanted) (level : Level) (times : List Times) (ranks : List Rank) (trace : Trace) (x y : Point) → AreDone trace.transactions ranks → asked_with wanted level times ranks trace x y ≡ true → Done trace (owner x) × Done trace (owner y)
+told_done wanted level times ranks trace x y all e = elim (either_of (by_rank ranks x y) (asked_of wanted level times trace x y) e) [
+  | inl told ↦ ranks_done trace ranks x y all told
+  | inr asked ↦ asked_done wanted level times trace x y asked
+]
+
 -- stamps in whose order the same points stand lie in one order
 same_way : (st other : Stamping) (trace : Trace) (points : List Point) → InOrder st trace points → InOrder other trace points → (x y : Point) → Done trace (owner x) → Done trace (owner y) → stamp_of st x < stamp_of st y → stamp_of other x < stamp_of other y
 same_way st other trace points order also x y dx dy less =
@@ -74,8 +107,8 @@ serial_at : (level : Level) (st : Stamping) (tell : Telling) (trace : Trace) (po
 serial_at Snapshot st tell trace points keys order is = tt
 serial_at Serializable st tell trace points keys order is = serial st tell trace points keys order is
 
-pub has_stamps : (level : Level) (wanted : Wanted) (s : Subject) (numbers : List ℕ) (code : ℕ) (text : List ℕ) → AreStamps level (asked_of wanted level s.times s.trace) s.trace numbers → IsPrinted level s.trace numbers s.names text → code ≡ 0 → AreStamped level wanted s code text
-has_stamps level wanted s numbers code text stamps is zero =
+pub has_stamps : (level : Level) (wanted : Wanted) (s : Subject) (numbers : List ℕ) (code : ℕ) (text : List ℕ) → AreDone s.trace.transactions s.ranks → AreStamps level (asked_with wanted level s.times s.ranks s.trace) s.trace numbers → IsPrinted level s.trace numbers s.names text → code ≡ 0 → AreStamped level wanted s code text
+has_stamps level wanted s numbers code text all stamps is zero =
     let h = is.is in
     let st = stamping_of level (length s.trace.transactions) numbers in
     let order = ranks_order st h.ranks s.trace h.points h.order h.ranked in
@@ -85,7 +118,7 @@ has_stamps level wanted s numbers code text stamps is zero =
       points = h.points;
       tell = h.tell;
       stamped = isolates;
-      keeps = λ x y asked. let done = asked_done wanted level s.times s.trace x y asked in same_way st h.ranks s.trace h.points h.order order x y done.0 done.1 (stamps.keeps x y asked);
+      keeps = λ x y asked. let done = told_done wanted level s.times s.ranks s.trace x y all asked in same_way st h.ranks s.trace h.points h.order order x y done.0 done.1 (stamps.keeps x y asked);
       order = order;
       counted = h.ranked;
       keys = h.keys;
@@ -96,7 +129,7 @@ has_stamps level wanted s numbers code text stamps is zero =
       told = subst (λ (l : List Item). text ≡ printed l) h.told is.told;
     })
 
-pub is_unfit : (level : Level) (wanted : Wanted) (s : Subject) (numbers : List ℕ) (limit : Limit) (code : ℕ) (text : List ℕ) → AreStamps level (asked_of wanted level s.times s.trace) s.trace numbers → code ≡ 9 → text ≡ limit_text limit → AreStamped level wanted s code text
+pub is_unfit : (level : Level) (wanted : Wanted) (s : Subject) (numbers : List ℕ) (limit : Limit) (code : ℕ) (text : List ℕ) → AreStamps level (asked_with wanted level s.times s.ranks s.trace) s.trace numbers → code ≡ 9 → text ≡ limit_text limit → AreStamped level wanted s code text
 is_unfit level wanted s numbers limit code text stamps nine told = inr (inl (record {
   holds = record { stamps = stamping_of level (length s.trace.transactions) numbers; isolated = stamps.isolated; keeps = stamps.keeps };
   limit = limit;
@@ -106,10 +139,10 @@ is_unfit level wanted s numbers limit code text stamps nine told = inr (inl (rec
 
 -- ---- no stamps
 module _ (level : Level) (wanted : Wanted) (s : Subject) (code : ℕ) (text : List ℕ) where
-  pub not_stamped : NoStamps level (asked_of wanted level s.times s.trace) s.trace → code ≡ 7 → IsShown level wanted s text → AreStamped level wanted s code text
+  pub not_stamped : NoStamps level (asked_with wanted level s.times s.ranks s.trace) s.trace → code ≡ 7 → IsShown level wanted s text → AreStamped level wanted s code text
   not_stamped none seven told = inr (inr (inl (record { refused = none; status = seven; told = told })))
 
-  pub wrong_not_stamped : (place : ℕ) → NoStamps level (asked_of wanted level s.times s.trace) s.trace → code ≡ 7 → text ≡ wrong_text level wanted s place → AreStamped level wanted s code text
+  pub wrong_not_stamped : (place : ℕ) → NoStamps level (asked_with wanted level s.times s.ranks s.trace) s.trace → code ≡ 7 → text ≡ wrong_text level wanted s place → AreStamped level wanted s code text
   wrong_not_stamped place none seven told = inr (inr (inr (inl (record { place = place; refused = none; status = seven; told = told }))))
 
   pub open_not_stamped : (key : Option ℕ) → IfSome key (λ k. IsTried s.trace k) → code ≡ 8 → text ≡ open_text s.names key → AreStamped level wanted s code text

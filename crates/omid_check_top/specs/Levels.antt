@@ -7,7 +7,8 @@ use Rattle.trace_rules.specs.declared.wanted.Wanted.{Wanted}
 use Rattle.trace_rules.specs.declared.wanted.Wanted.TheVariants.{Nothing, Sessions, RealTime}
 use Rattle.trace_rules.specs.Trace.{Trace}
 use Rattle.trace_rules.specs.Stamping.{Stampable}
-use Rattle.trace_rules.specs.Wants.{asked_of}
+use Rattle.version_ranks.specs.declared.rank.Rank.{Rank}
+use Rattle.version_ranks.specs.Ranks.{asked_with}
 use Rattle.committed_reads.specs.Committed.{CommittedReads}
 use Rattle.omid_check_top.specs.declared.levels.Grade.{Grade}
 use Rattle.omid_check_top.specs.declared.levels.Grade.TheVariants.{AtLevel, OfReads}
@@ -40,20 +41,20 @@ abbrev pub line_of : Grade → ℕ → List ℕ
 line_of grade code = grade_words grade ++ status_words code
 
 -- the status says whether the trace is so
-abbrev pub IsStatus : Grade → Trace → List Times → ℕ → Type 0
-IsStatus (AtLevel level wanted) trace times code = ((code ≡ 0) × Stampable level (asked_of wanted level times trace) trace) ⊎ ((code ≡ 7) × (Stampable level (asked_of wanted level times trace) trace → ⊥)) ⊎ (code ≡ 8)
-IsStatus OfReads trace times code = ((code ≡ 0) × CommittedReads trace) ⊎ ((code ≡ 7) × (CommittedReads trace → ⊥))
+abbrev pub IsStatus : Grade → Trace → List Times → List Rank → ℕ → Type 0
+IsStatus (AtLevel level wanted) trace times ranks code = ((code ≡ 0) × Stampable level (asked_with wanted level times ranks trace) trace) ⊎ ((code ≡ 7) × (Stampable level (asked_with wanted level times ranks trace) trace → ⊥)) ⊎ (code ≡ 8)
+IsStatus OfReads trace times ranks code = ((code ≡ 0) × CommittedReads trace) ⊎ ((code ≡ 7) × (CommittedReads trace → ⊥))
 
 -- the lines of these levels: of those that hold, and of the others
-pub data AreSaid (trace : Trace) (times : List Times) : List Grade → List ℕ → List ℕ → Type 0 where
-  NoneSaid : AreSaid trace times [] [] []
-  Holding : {grades : List Grade} {holding others : List ℕ} (grade : Grade) → IsStatus grade trace times 0 → AreSaid trace times grades holding others → AreSaid trace times (grades ++ grade ∷ []) (holding ++ line_of grade 0) others
-  Other : {grades : List Grade} {holding others : List ℕ} (grade : Grade) (code : ℕ) → code ≢ 0 → IsStatus grade trace times code → AreSaid trace times grades holding others → AreSaid trace times (grades ++ grade ∷ []) holding (others ++ line_of grade code)
+pub data AreSaid (trace : Trace) (times : List Times) (ranks : List Rank) : List Grade → List ℕ → List ℕ → Type 0 where
+  NoneSaid : AreSaid trace times ranks [] [] []
+  Holding : {grades : List Grade} {holding others : List ℕ} (grade : Grade) → IsStatus grade trace times ranks 0 → AreSaid trace times ranks grades holding others → AreSaid trace times ranks (grades ++ grade ∷ []) (holding ++ line_of grade 0) others
+  Other : {grades : List Grade} {holding others : List ℕ} (grade : Grade) (code : ℕ) → code ≢ 0 → IsStatus grade trace times ranks code → AreSaid trace times ranks grades holding others → AreSaid trace times ranks (grades ++ grade ∷ []) holding (others ++ line_of grade code)
 
 -- the status is that of committed reads
-pub record AreLevels (trace : Trace) (times : List Times) (code : ℕ) (text : List ℕ) : Type 0 where
+pub record AreLevels (trace : Trace) (times : List Times) (ranks : List Rank) (code : ℕ) (text : List ℕ) : Type 0 where
   pub holding : List ℕ
   pub others : List ℕ
-  pub said : AreSaid trace times ranked holding others
+  pub said : AreSaid trace times ranks ranked holding others
   pub told : text ≡ holding ++ others
-  pub status : IsStatus OfReads trace times code
+  pub status : IsStatus OfReads trace times ranks code

@@ -12,7 +12,8 @@ use Rattle.trace_rules.specs.declared.wanted.Times.{Times}
 use Rattle.trace_rules.specs.declared.wanted.Wanted.{Wanted}
 use Rattle.trace_rules.specs.Trace.{Trace}
 use Rattle.trace_rules.specs.Stamping.{IsolatedBy, Keeps, Point, Stampable, Stamping}
-use Rattle.trace_rules.specs.Wants.{asked_of}
+use Rattle.version_ranks.specs.declared.rank.Rank.{Rank}
+use Rattle.version_ranks.specs.Ranks.{asked_with}
 use Rattle.trace_judge.specs.Verdicts.{IsTried}
 use Rattle.committed_reads.specs.Committed.{CommittedReads}
 use Rattle.trace_reading.specs.declared.want.Want.{Want}
@@ -21,7 +22,7 @@ use Rattle.trace_reading.specs.Recording.{Recorded}
 use Rattle.trace_reading.specs.Trace as reading
 use Rattle.trace_index.specs.declared.attempts.Attempt.{Attempt}
 use Rattle.trace_index.specs.Attempts.{attempts_of}
-use Rattle.trace_index.specs.Index.{IsIndexOf, operations_in}
+use Rattle.trace_index.specs.Index.{IsIndexOf, numbers_of}
 use Rattle.trace_index.specs.Versions.{Blame}
 use Rattle.trace_report.specs.declared.step.Step.{Step}
 use Rattle.trace_report.specs.Names.{anomaly_name, name_of}
@@ -40,19 +41,21 @@ use Rattle.omid_check_top.specs.declared.words.Question.TheVariants as question
 use Rattle.omid_check_top.specs.declared.limit.TheConstants.{TRACE_LIMIT}
 
 -- ---- a verdict with its status and text
--- what is judged: the names of what was recorded, its transactions as they were recorded, the trace that they make, and their moments
+-- what is judged: the names of what was recorded, its transactions as they were recorded, the trace that they make,
+-- their moments, and the order of versions that is told
 pub record Subject : Type 0 where
   pub names : List (List ℕ)
   pub attempts : List Attempt
   pub trace : Trace
   pub times : List Times
+  pub ranks : List Rank
 
-abbrev pub subject_of : Recorded → List Attempt → Trace → List Times → Subject
-subject_of recorded attempts trace times = record { names = recorded.names; attempts = attempts; trace = trace; times = times }
+abbrev pub subject_of : Recorded → List Attempt → Trace → List Times → List Rank → Subject
+subject_of recorded attempts trace times ranks = record { names = recorded.names; attempts = attempts; trace = trace; times = times; ranks = ranks }
 
 -- stamps, or places in one order, can be given
 abbrev pub AsAsked : Level → Wanted → Subject → Type 0
-AsAsked level wanted s = Stampable level (asked_of wanted level s.times s.trace) s.trace
+AsAsked level wanted s = Stampable level (asked_with wanted level s.times s.ranks s.trace) s.trace
 
 pub record IsHolding (level : Level) (wanted : Wanted) (s : Subject) (code : ℕ) (text : List ℕ) : Type 0 where
   pub holds : AsAsked level wanted s
@@ -158,7 +161,7 @@ pub record HasStamps (level : Level) (wanted : Wanted) (s : Subject) (code : ℕ
   pub points : List Point
   pub tell : Telling
   pub stamped : IsolatedBy level st s.trace
-  pub keeps : Keeps (asked_of wanted level s.times s.trace) st
+  pub keeps : Keeps (asked_with wanted level s.times s.ranks s.trace) st
   pub order : InOrder st s.trace points
   pub counted : Ranked st points
   pub keys : KeysDiffer tell
@@ -189,7 +192,7 @@ AreStamped level wanted s code text = HasStamps level wanted s code text ⊎ IsU
 abbrev pub IsFound : Question → Subject → ℕ → List ℕ → Type 0
 IsFound (question.Isolated level wanted) s code text = IsIsolated level wanted s code text
 IsFound question.Committed s code text = IsCommitted s code text
-IsFound question.Levels s code text = AreLevels s.trace s.times code text
+IsFound question.Levels s code text = AreLevels s.trace s.times s.ranks code text
 IsFound (question.Stamps level wanted) s code text = AreStamped level wanted s code text
 
 -- the statuses of a verdict, and those of all that is said of a trace
@@ -204,15 +207,16 @@ pub record IsIndexed (question : Question) (recorded : Recorded) (code : ℕ) (t
   pub attempts : List Attempt
   pub trace : Trace
   pub times : List Times
-  pub is : IsIndexOf recorded attempts trace times
-  pub found : IsFound question (subject_of recorded attempts trace times) code text
+  pub ranks : List Rank
+  pub is : IsIndexOf recorded attempts trace times ranks
+  pub found : IsFound question (subject_of recorded attempts trace times ranks) code text
 
 -- the first operation of which it is not clear who wrote what
 pub record IsUnclear (recorded : Recorded) (code : ℕ) (text : List ℕ) : Type 0 where
   pub blame : Blame
-  pub unclear : operations_in recorded ≡ Err blame
+  pub unclear : numbers_of recorded ≡ Err blame
   pub status : code ≡ 3
-  pub told : text ≡ unclear_text recorded.names (attempts_of recorded.events) blame.txn blame.key blame.value blame.what
+  pub told : text ≡ unclear_text recorded.names (attempts_of recorded.events) blame.txn blame.member blame.key blame.value blame.what
 
 abbrev pub IsOfRecording : Question → Recorded → ℕ → List ℕ → Type 0
 IsOfRecording question recorded code text = IsIndexed question recorded code text ⊎ IsUnclear recorded code text

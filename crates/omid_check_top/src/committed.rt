@@ -18,7 +18,7 @@ use trace_rules::{Level, Wanted};
 /// Whether each read is of a committed transaction's last write, and none goes round.
 #[tactic(auto, using(crate::proofs::MadeLemmas::is_committed, crate::proofs::MadeLemmas::is_wrong_committed, crate::proofs::MadeLemmas::is_committed_shown))]
 pub fn committed(alloc: Global, recording: &Recording, indexed: &Indexed) -> Result<Made, NoMemory>
-    ensures found { IfOk result (λ made. IsCommitted (subject_of recording.now indexed.now.attempts.items indexed.now.trace indexed.now.times.items) made.code made.text.items) }
+    ensures found { IfOk result (λ made. IsCommitted (subject_of recording.now indexed.now.attempts.items indexed.now.trace indexed.now.times.items indexed.now.ranks.items) made.code made.text.items) }
     ensures codes { IfOk result (λ made. IsVerdict made.code) }
 {
     match judge_committed(
@@ -62,7 +62,7 @@ fn wrong_read(
     place: usize,
 ) -> Result<Made, NoMemory>
     ensures code { IfOk result (λ made. made.code ≡ 7) }
-    ensures told { IfOk result (λ made. made.text.items ≡ wrong_committed_text (subject_of recording.now indexed.now.attempts.items indexed.now.trace indexed.now.times.items) place) }
+    ensures told { IfOk result (λ made. made.text.items ≡ wrong_committed_text (subject_of recording.now indexed.now.attempts.items indexed.now.trace indexed.now.times.items indexed.now.ranks.items) place) }
 {
     let mut text = Vec::new(alloc);
     push_not_committed(&mut text, wrong_at(&indexed.trace, place).name())?;
@@ -83,7 +83,7 @@ fn refused(
     cycle: &[Edge],
 ) -> Result<Made, NoMemory>
     ensures code { IfOk result (λ made. made.code ≡ 7) }
-    ensures told { IfOk result (λ made. IsCommittedShown (subject_of recording.now indexed.now.attempts.items indexed.now.trace indexed.now.times.items) made.text.items) }
+    ensures told { IfOk result (λ made. IsCommittedShown (subject_of recording.now indexed.now.attempts.items indexed.now.trace indexed.now.times.items indexed.now.ranks.items) made.text.items) }
 {
     let steps = steps_of(
         alloc,

@@ -1,5 +1,6 @@
 // What is said of a trace whose writers are known.
 ghost use Rattle.std.specs.Prelude.{◌≡◌, IfOk, length, option_map};
+ghost use Rattle.trace_index.specs.Numbers.{AreDone};
 ghost use Rattle.trace_report.specs.Verdict.{holds_text};
 ghost use Rattle.omid_check_top.specs.Verdicts.{IsFound, IsIsolated, IsShown, IsVerdict, open_text, reader_of, subject_of, wrong_text};
 
@@ -14,7 +15,7 @@ use rising_numbers::Edge;
 use stamp_base::NoMemory;
 use std::alloc::Global;
 use trace_index::Indexed;
-use trace_judge::{Verdict, judge_wanted};
+use trace_judge::{Verdict, judge_told};
 use trace_reading::{Recording, push_words};
 use trace_report::{
     name_of, push_cycle, push_holds, push_refused, push_undecided, push_wrong_read, wrong_at,
@@ -28,7 +29,8 @@ pub fn judged(
     recording: &Recording,
     indexed: &Indexed,
 ) -> Result<Made, NoMemory>
-    ensures found { IfOk result (λ made. IsFound question (subject_of recording.now indexed.now.attempts.items indexed.now.trace indexed.now.times.items) made.code made.text.items) }
+    requires { AreDone indexed.now.trace.transactions indexed.now.ranks.items }
+    ensures found { IfOk result (λ made. IsFound question (subject_of recording.now indexed.now.attempts.items indexed.now.trace indexed.now.times.items indexed.now.ranks.items) made.code made.text.items) }
     ensures codes { IfOk result (λ made. IsVerdict made.code) }
 {
     match question {
@@ -48,15 +50,16 @@ fn isolated(
     recording: &Recording,
     indexed: &Indexed,
 ) -> Result<Made, NoMemory>
-    ensures found { IfOk result (λ made. IsIsolated level wanted (subject_of recording.now indexed.now.attempts.items indexed.now.trace indexed.now.times.items) made.code made.text.items) }
+    ensures found { IfOk result (λ made. IsIsolated level wanted (subject_of recording.now indexed.now.attempts.items indexed.now.trace indexed.now.times.items indexed.now.ranks.items) made.code made.text.items) }
     ensures codes { IfOk result (λ made. IsVerdict made.code) }
 {
-    match judge_wanted(
+    match judge_told(
         alloc,
         level,
         wanted,
         &indexed.trace.transactions,
         &indexed.times,
+        &indexed.ranks,
         &indexed.trace.operations,
     )? {
         Verdict::Holds(_) => holds(alloc, level, wanted, indexed.trace.transactions.len()),
@@ -89,7 +92,7 @@ pub fn wrong_read(
     place: usize,
 ) -> Result<Made, NoMemory>
     ensures code { IfOk result (λ made. made.code ≡ 7) }
-    ensures told { IfOk result (λ made. made.text.items ≡ wrong_text level wanted (subject_of recording.now indexed.now.attempts.items indexed.now.trace indexed.now.times.items) place) }
+    ensures told { IfOk result (λ made. made.text.items ≡ wrong_text level wanted (subject_of recording.now indexed.now.attempts.items indexed.now.trace indexed.now.times.items indexed.now.ranks.items) place) }
 {
     let mut text = Vec::new(alloc);
     push_refused(
@@ -126,7 +129,7 @@ pub fn refused(
     cycle: &[Edge],
 ) -> Result<Made, NoMemory>
     ensures code { IfOk result (λ made. made.code ≡ 7) }
-    ensures told { IfOk result (λ made. IsShown level wanted (subject_of recording.now indexed.now.attempts.items indexed.now.trace indexed.now.times.items) made.text.items) }
+    ensures told { IfOk result (λ made. IsShown level wanted (subject_of recording.now indexed.now.attempts.items indexed.now.trace indexed.now.times.items indexed.now.ranks.items) made.text.items) }
 {
     let steps = steps_of(alloc, level, wanted, &indexed.trace, cycle)?;
     let mut text = Vec::new(alloc);

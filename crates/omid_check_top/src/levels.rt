@@ -2,6 +2,7 @@
 ghost use Rattle.std.specs.Prelude.{◌≡◌, ◌++◌, ◌∷◌, [], IfOk, List, OnOk};
 ghost use Rattle.trace_rules.specs.declared.wanted.Times.{Times};
 ghost use Rattle.trace_rules.specs.Trace.{Trace};
+ghost use Rattle.version_ranks.specs.declared.rank.Rank.{Rank};
 ghost use Rattle.omid_check_top.specs.declared.levels.Grade.{Grade as GradeOf};
 ghost use Rattle.omid_check_top.specs.declared.levels.Grade.TheVariants.{AtLevel, OfReads};
 ghost use Rattle.omid_check_top.specs.Levels.{AreLevels, AreSaid, IsStatus, grade_words, level_word, line_of, status_words, wanted_word, with_orders};
@@ -13,7 +14,7 @@ use committed_reads::judge_committed;
 use stamp_base::NoMemory;
 use std::alloc::Global;
 use trace_index::Indexed;
-use trace_judge::judge_wanted;
+use trace_judge::judge_told;
 use trace_reading::push_words;
 use trace_rules::{Level, Wanted};
 
@@ -29,7 +30,7 @@ pub enum Grade {
 /// A line for each level, first those that hold, the strongest first; the status is that of committed reads.
 #[tactic(auto, using(crate::proofs::LevelLemmas::reads_end))]
 pub fn levels(alloc: Global, indexed: &Indexed) -> Result<Made, NoMemory>
-    ensures found { IfOk result (λ made. AreLevels indexed.now.trace indexed.now.times.items made.code made.text.items) }
+    ensures found { IfOk result (λ made. AreLevels indexed.now.trace indexed.now.times.items indexed.now.ranks.items made.code made.text.items) }
     ensures codes { IfOk result (λ made. IsVerdict made.code) }
 {
     let mut holding = Vec::new(alloc);
@@ -59,8 +60,8 @@ fn add_orders(
     others: &mut Vec<u8>,
     level: Level,
 ) -> Result<(), NoMemory>
-    ensures { OnOk result ((grades : List GradeOf) → AreSaid indexed.now.trace indexed.now.times.items grades holding.old.items others.old.items →
-        AreSaid indexed.now.trace indexed.now.times.items (grades ++ with_orders level) holding.new.items others.new.items) }
+    ensures { OnOk result ((grades : List GradeOf) → AreSaid indexed.now.trace indexed.now.times.items indexed.now.ranks.items grades holding.old.items others.old.items →
+        AreSaid indexed.now.trace indexed.now.times.items indexed.now.ranks.items (grades ++ with_orders level) holding.new.items others.new.items) }
 {
     add_level(alloc, indexed, holding, others, level, Wanted::RealTime)?;
     add_level(alloc, indexed, holding, others, level, Wanted::Sessions)?;
@@ -75,8 +76,8 @@ fn add_level(
     level: Level,
     wanted: Wanted,
 ) -> Result<(), NoMemory>
-    ensures { OnOk result ((grades : List GradeOf) → AreSaid indexed.now.trace indexed.now.times.items grades holding.old.items others.old.items →
-        AreSaid indexed.now.trace indexed.now.times.items (grades ++ AtLevel level wanted ∷ []) holding.new.items others.new.items) }
+    ensures { OnOk result ((grades : List GradeOf) → AreSaid indexed.now.trace indexed.now.times.items indexed.now.ranks.items grades holding.old.items others.old.items →
+        AreSaid indexed.now.trace indexed.now.times.items indexed.now.ranks.items (grades ++ AtLevel level wanted ∷ []) holding.new.items others.new.items) }
 {
     let code = level_status(alloc, indexed, level, wanted)?;
     add_line(holding, others, Grade::AtLevel(level, wanted), code)
@@ -89,14 +90,15 @@ fn level_status(
     level: Level,
     wanted: Wanted,
 ) -> Result<u8, NoMemory>
-    ensures { IfOk result (λ code. IsStatus (AtLevel level wanted) indexed.now.trace indexed.now.times.items code) }
+    ensures { IfOk result (λ code. IsStatus (AtLevel level wanted) indexed.now.trace indexed.now.times.items indexed.now.ranks.items code) }
 {
-    match judge_wanted(
+    match judge_told(
         alloc,
         level,
         wanted,
         &indexed.trace.transactions,
         &indexed.times,
+        &indexed.ranks,
         &indexed.trace.operations,
     )? {
         trace_judge::Verdict::Holds(_) => Ok(status::DONE),
@@ -109,7 +111,7 @@ fn level_status(
 
 #[tactic(auto, using(crate::proofs::LevelLemmas::reads_hold, crate::proofs::LevelLemmas::reads_fail))]
 fn reads_status(alloc: Global, indexed: &Indexed) -> Result<u8, NoMemory>
-    ensures { IfOk result (λ code. IsStatus OfReads indexed.now.trace indexed.now.times.items code) }
+    ensures { IfOk result (λ code. IsStatus OfReads indexed.now.trace indexed.now.times.items indexed.now.ranks.items code) }
 {
     match judge_committed(
         alloc,
@@ -130,8 +132,8 @@ fn add_line(
     grade: Grade,
     code: u8,
 ) -> Result<(), NoMemory>
-    ensures { OnOk result ((trace : Trace) (times : List Times) (grades : List GradeOf) → IsStatus grade trace times code → AreSaid trace times grades holding.old.items others.old.items →
-        AreSaid trace times (grades ++ grade ∷ []) holding.new.items others.new.items) }
+    ensures { OnOk result ((trace : Trace) (times : List Times) (ranks : List Rank) (grades : List GradeOf) → IsStatus grade trace times ranks code → AreSaid trace times ranks grades holding.old.items others.old.items →
+        AreSaid trace times ranks (grades ++ grade ∷ []) holding.new.items others.new.items) }
 {
     if code == status::DONE {
         push_line(holding, grade, code)

@@ -1,6 +1,8 @@
 //! The top call of `omid_check`: words and a trace in, a verdict out, and a status.
 #![tactic(auto)]
 
+#[cfg(test)]
+mod anomaly_tests;
 mod check;
 mod committed;
 mod judged;
@@ -16,6 +18,8 @@ mod status;
 mod steps;
 #[cfg(test)]
 mod tests;
+#[cfg(test)]
+mod told_tests;
 #[cfg(test)]
 mod traces;
 #[cfg(test)]

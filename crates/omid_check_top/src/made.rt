@@ -70,11 +70,12 @@ fn of_recording(alloc: Global, question: Question, recording: &Recording) -> Res
         Err(
             Fault::At {
                 txn,
+                member,
                 key,
                 value,
                 what,
             },
-        ) => unclear(alloc, recording, txn, key, value, what),
+        ) => unclear(alloc, recording, txn, member, key, value, what),
         Err(Fault::NoMemory) => Err(NoMemory),
     }
 }
@@ -84,16 +85,19 @@ fn unclear(
     alloc: Global,
     recording: &Recording,
     txn: usize,
+    member: u64,
     key: u64,
     value: u64,
     what: Unclear,
 ) -> Result<Made, NoMemory>
     ensures code { IfOk result (λ made. made.code ≡ 3) }
-    ensures told { IfOk result (λ made. made.text.items ≡ unclear_text recording.now.names (attempts_of recording.now.events) txn key value what) }
+    ensures told { IfOk result (λ made. made.text.items ≡ unclear_text recording.now.names (attempts_of recording.now.events) txn member key value what) }
 {
     let attempts = attempts_of(alloc, recording.events())?;
     let mut text = Vec::new(alloc);
-    push_unclear(&mut text, recording, &attempts, txn, key, value, what)?;
+    push_unclear(
+        &mut text, recording, &attempts, txn, member, key, value, what,
+    )?;
     Ok(Made {
         text,
         code: status::BAD_INPUT,

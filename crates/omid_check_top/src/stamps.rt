@@ -1,6 +1,7 @@
 // The history of a trace with stamps, in place of a verdict.
 ghost use Rattle.std.specs.Prelude.{◌≡◌, IfOk};
-ghost use Rattle.trace_rules.specs.Wants.{asked_of};
+ghost use Rattle.version_ranks.specs.Ranks.{asked_with};
+ghost use Rattle.trace_index.specs.Numbers.{AreDone};
 ghost use Rattle.trace_judge.specs.Verdicts.{AreStamps};
 ghost use Rattle.omid_check_top.specs.Verdicts.{AreStamped, IsPrinted, IsVerdict, limit_text, subject_of};
 
@@ -11,7 +12,7 @@ use stamp_base::NoMemory;
 use stamped_history::{Limit, NoHistory, history_of, text_of};
 use std::alloc::Global;
 use trace_index::Indexed;
-use trace_judge::{Verdict, judge_wanted};
+use trace_judge::{Verdict, judge_told};
 use trace_reading::{Recording, push_words};
 use trace_rules::{Level, Wanted};
 
@@ -25,15 +26,17 @@ pub fn stamps(
     recording: &Recording,
     indexed: &Indexed,
 ) -> Result<Made, NoMemory>
-    ensures found { IfOk result (λ made. AreStamped level wanted (subject_of recording.now indexed.now.attempts.items indexed.now.trace indexed.now.times.items) made.code made.text.items) }
+    requires { AreDone indexed.now.trace.transactions indexed.now.ranks.items }
+    ensures found { IfOk result (λ made. AreStamped level wanted (subject_of recording.now indexed.now.attempts.items indexed.now.trace indexed.now.times.items indexed.now.ranks.items) made.code made.text.items) }
     ensures codes { IfOk result (λ made. IsVerdict made.code) }
 {
-    match judge_wanted(
+    match judge_told(
         alloc,
         level,
         wanted,
         &indexed.trace.transactions,
         &indexed.times,
+        &indexed.ranks,
         &indexed.trace.operations,
     )? {
         Verdict::Holds(numbers) => shown(alloc, level, wanted, recording, indexed, &numbers),
@@ -53,8 +56,9 @@ fn shown(
     indexed: &Indexed,
     numbers: &[usize],
 ) -> Result<Made, NoMemory>
-    requires { AreStamps level (asked_of wanted level indexed.now.times.items indexed.now.trace) indexed.now.trace numbers.now }
-    ensures found { IfOk result (λ made. AreStamped level wanted (subject_of recording.now indexed.now.attempts.items indexed.now.trace indexed.now.times.items) made.code made.text.items) }
+    requires done { AreDone indexed.now.trace.transactions indexed.now.ranks.items }
+    requires stamps { AreStamps level (asked_with wanted level indexed.now.times.items indexed.now.ranks.items indexed.now.trace) indexed.now.trace numbers.now }
+    ensures found { IfOk result (λ made. AreStamped level wanted (subject_of recording.now indexed.now.attempts.items indexed.now.trace indexed.now.times.items indexed.now.ranks.items) made.code made.text.items) }
     ensures codes { IfOk result (λ made. IsVerdict made.code) }
 {
     match history_text(alloc, level, recording, indexed, numbers) {

@@ -1,4 +1,5 @@
 mod FlagLemmas
+mod KeptLemmas
 mod ChoiceLemmas
 mod LeftLemmas
 mod RoundLemmas

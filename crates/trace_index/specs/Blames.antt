@@ -6,7 +6,7 @@ use Rattle.trace_index.specs.Versions.{Blame}
 
 -- the step blames this operation; of a step that memory was refused for nothing is said
 abbrev pub Blames : {A : Type 0} → Result A Blame → Fault → Type 0
-Blames step (fault.At txn key value what) = step ≡ Err (record { txn = txn; key = key; value = value; what = what })
+Blames step (fault.At txn member key value what) = step ≡ Err (record { txn = txn; member = member; key = key; value = value; what = what })
 Blames step fault.NoMemory = Unit {0}
 
 -- the step made this

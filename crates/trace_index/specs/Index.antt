@@ -5,10 +5,13 @@ use Rattle.trace_rules.specs.declared.trace.Transaction.{Transaction}
 use Rattle.trace_rules.specs.declared.wanted.Times.{Times}
 use Rattle.trace_rules.specs.Trace.{Trace}
 use Rattle.trace_reading.specs.Recording.{Recorded}
+use Rattle.version_ranks.specs.declared.rank.Rank.{Rank}
 use Rattle.trace_index.specs.declared.attempts.Attempt.{Attempt}
+use Rattle.trace_index.specs.declared.said.Said.{Said}
 use Rattle.trace_index.specs.Attempts.{attempts_of}
 use Rattle.trace_index.specs.Said.{said_from}
-use Rattle.trace_index.specs.Versions.{Blame, operations_of}
+use Rattle.trace_index.specs.Versions.{Blame, Writers, ◌>>=◌, operations_from, writers_from}
+use Rattle.trace_index.specs.Numbers.{AreRanks, Numbered, numbers_from}
 use Rattle.trace_index.specs.Open.{counts_at, flags_of}
 
 -- the transactions from this place on, each by whether it counts as committed
@@ -16,13 +19,37 @@ abbrev pub transactions_from : List Bool → ℕ → List Attempt → List Trans
 transactions_from flags txn [] = []
 transactions_from flags txn (attempt ∷ attempts) = record { process = attempt.process; committed = counts_at flags txn } ∷ transactions_from flags (txn + 1) attempts
 
--- the trace, with the transactions as they were recorded and the moments that are known of them
-pub record IsIndexOf (recorded : Recorded) (found : List Attempt) (trace : Trace) (moments : List Times) : Type 0 where
+-- who wrote each value, and the trace's operations
+pub record Steps : Type 0 where
+  pub writers : Writers
+  pub operations : List Operation
+
+abbrev pub steps_behind : Writers → List Said → Result Steps Blame
+steps_behind writers ss = operations_from writers [] ss >>= λ operations. Ok (record { writers = writers; operations = operations })
+
+abbrev pub steps_of : List Said → Result Steps Blame
+steps_of ss = writers_from [] ss >>= λ writers. steps_behind writers ss
+
+-- the operations that count
+abbrev pub said_in : Recorded → List Said
+said_in recorded = said_from recorded.operations 0 (attempts_of recorded.events)
+
+-- the versions that are told by number, where these count as committed
+abbrev pub numbers_in : Recorded → Steps → Result Numbered Blame
+numbers_in recorded steps = numbers_from steps.writers (flags_of (attempts_of recorded.events) steps.operations) [] (said_in recorded)
+
+-- the trace, with the transactions as they were recorded, the moments that are known of them, and the order of versions that is told
+pub record IsIndexOf (recorded : Recorded) (found : List Attempt) (trace : Trace) (moments : List Times) (ranks : List Rank) : Type 0 where
   pub attempts : found ≡ attempts_of recorded.events
-  pub operations : operations_of (said_from recorded.operations 0 found) ≡ Ok trace.operations
+  pub steps : Steps
+  pub numbered : Numbered
+  pub made : steps_of (said_in recorded) ≡ Ok steps
+  pub told : numbers_in recorded steps ≡ Ok numbered
+  pub operations : trace.operations ≡ steps.operations
   pub transactions : trace.transactions ≡ transactions_from (flags_of found trace.operations) 0 found
   pub times : moments ≡ map (λ attempt. attempt.times) found
+  pub ordered : AreRanks trace.transactions numbered ranks
 
--- its operations, or what is unclear of them first
-abbrev pub operations_in : Recorded → Result (List Operation) Blame
-operations_in recorded = operations_of (said_from recorded.operations 0 (attempts_of recorded.events))
+-- its versions by number, or what is unclear of the recording first
+abbrev pub numbers_of : Recorded → Result Numbered Blame
+numbers_of recorded = steps_of (said_in recorded) >>= numbers_in recorded

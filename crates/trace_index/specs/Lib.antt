@@ -4,4 +4,5 @@ pub mod Said
 pub mod Versions
 pub mod Blames
 pub mod Open
+pub mod Numbers
 pub mod Index

@@ -1,5 +1,5 @@
 -- The operations that count, transaction by transaction.
-use Rattle.std.specs.Prelude.{ℕ, ◌+◌, Bool, true, false, ◌&&◌, is_some, if◌then◌else◌, List, [], ◌∷◌, ◌++◌, Option, filter, length, map, nat_le, slice_range}
+use Rattle.std.specs.Prelude.{ℕ, ◌+◌, Bool, true, false, ◌&&◌, is_some, if◌then◌else◌, List, [], ◌∷◌, ◌++◌, Option, length, nat_le, slice_range}
 use Rattle.trace_reading.specs.declared.operation.Operation.{Operation}
 use Rattle.trace_reading.specs.declared.operation.Operation.TheVariants as operation
 use Rattle.trace_index.specs.declared.attempts.Attempt.{Attempt}
@@ -15,7 +15,7 @@ read_counts fate.Aborted answer = false
 read_counts fate.Open answer = is_some answer
 
 abbrev pub counts : Fate → Operation → Bool
-counts f (operation.Read key answer) = read_counts f answer
+counts f (operation.Read key answer version) = read_counts f answer
 counts f (operation.ReadList key first end) = true
 counts f (operation.Write key value version) = true
 counts f (operation.Append key value) = true
@@ -24,11 +24,17 @@ counts f (operation.Append key value) = true
 abbrev pub range_of : ℕ → ℕ → List Operation → List Operation
 range_of first end operations = if nat_le first end && nat_le end (length operations) then slice_range operations first end else []
 
-abbrev pub said_by : ℕ → Operation → Said
-said_by txn operation = record { txn = txn; operation = operation }
+-- the operation at this place of its transaction, where it counts
+abbrev pub said_by : Fate → ℕ → ℕ → Operation → List Said
+said_by f txn member operation = if counts f operation then record { txn = txn; member = member; operation = operation } ∷ [] else []
+
+-- those from this place of the transaction on
+abbrev pub said_each : Fate → ℕ → ℕ → List Operation → List Said
+said_each f txn member [] = []
+said_each f txn member (x ∷ xs) = said_by f txn member x ++ said_each f txn (member + 1) xs
 
 abbrev pub said_of : List Operation → ℕ → Attempt → List Said
-said_of operations txn attempt = map (said_by txn) (filter (counts attempt.fate) (range_of attempt.first attempt.end operations))
+said_of operations txn attempt = said_each attempt.fate txn 0 (range_of attempt.first attempt.end operations)
 
 -- of the transactions from this place on
 abbrev pub said_from : List Operation → ℕ → List Attempt → List Said

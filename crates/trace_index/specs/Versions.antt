@@ -11,9 +11,10 @@ use Rattle.trace_index.specs.declared.fault.Unclear.{Unclear}
 use Rattle.trace_index.specs.declared.fault.Unclear.TheVariants as unclear
 use Rattle.trace_index.specs.declared.said.Said.{Said}
 
--- an operation of a transaction at a key, with a value, and what is unclear of it
+-- an operation of a transaction by its place there, its key and a value, and what is unclear of it
 pub record Blame : Type 0 where
   pub txn : ℕ
+  pub member : ℕ
   pub key : ℕ
   pub value : ℕ
   pub what : Unclear
@@ -33,46 +34,43 @@ Writers = List ((ℕ × ℕ) × ℕ)
 abbrev pub writer_of : Writers → ℕ → ℕ → Option ℕ
 writer_of writers key value = lookup (pair_eq (key, value)) writers
 
-abbrev pub unless_written : Writers → ℕ → ℕ → ℕ → Option ℕ → Result Writers Blame
-unless_written writers txn key value None = Ok (insert_entry pair_eq writers (key, value) txn)
-unless_written writers txn key value (Some other) = Err (record { txn = txn; key = key; value = value; what = unclear.WrittenTwice })
+abbrev pub unless_written : Writers → ℕ → ℕ → ℕ → ℕ → Option ℕ → Result Writers Blame
+unless_written writers txn member key value None = Ok (insert_entry pair_eq writers (key, value) txn)
+unless_written writers txn member key value (Some other) = Err (record { txn = txn; member = member; key = key; value = value; what = unclear.WrittenTwice })
 
-abbrev pub written : Writers → ℕ → ℕ → ℕ → Result Writers Blame
-written writers txn key value = unless_written writers txn key value (writer_of writers key value)
+abbrev pub written : Writers → ℕ → ℕ → ℕ → ℕ → Result Writers Blame
+written writers txn member key value = unless_written writers txn member key value (writer_of writers key value)
 
-abbrev pub writer_step : Writers → ℕ → recorded.Operation → Result Writers Blame
-writer_step writers txn (said.Read key answer) = Ok writers
-writer_step writers txn (said.ReadList key first end) = Err (record { txn = txn; key = key; value = 0; what = unclear.Lists })
-writer_step writers txn (said.Write key value version) = written writers txn key value
-writer_step writers txn (said.Append key value) = Err (record { txn = txn; key = key; value = value; what = unclear.Lists })
+abbrev pub writer_step : Writers → ℕ → ℕ → recorded.Operation → Result Writers Blame
+writer_step writers txn member (said.Read key answer version) = Ok writers
+writer_step writers txn member (said.ReadList key first end) = Err (record { txn = txn; member = member; key = key; value = 0; what = unclear.Lists })
+writer_step writers txn member (said.Write key value version) = written writers txn member key value
+writer_step writers txn member (said.Append key value) = Err (record { txn = txn; member = member; key = key; value = value; what = unclear.Lists })
 
 -- no value is written twice at a key
 abbrev pub writers_from : Writers → List Said → Result Writers Blame
 writers_from writers [] = Ok writers
-writers_from writers (s ∷ ss) = writer_step writers s.txn s.operation >>= λ after. writers_from after ss
+writers_from writers (s ∷ ss) = writer_step writers s.txn s.member s.operation >>= λ after. writers_from after ss
 
-abbrev pub version_by : ℕ → ℕ → ℕ → Option ℕ → Result (Option Version) Blame
-version_by txn key value None = Err (record { txn = txn; key = key; value = value; what = unclear.WrittenByNobody })
-version_by txn key value (Some from) = Ok (Some (record { from = from; value = value }))
+abbrev pub version_by : ℕ → ℕ → ℕ → ℕ → Option ℕ → Result (Option Version) Blame
+version_by txn member key value None = Err (record { txn = txn; member = member; key = key; value = value; what = unclear.WrittenByNobody })
+version_by txn member key value (Some from) = Ok (Some (record { from = from; value = value }))
 
 -- the version that a read found, by its writer
-abbrev pub version_of : Writers → ℕ → ℕ → Option ℕ → Result (Option Version) Blame
-version_of writers txn key None = Ok None
-version_of writers txn key (Some value) = version_by txn key value (writer_of writers key value)
+abbrev pub version_of : Writers → ℕ → ℕ → ℕ → Option ℕ → Result (Option Version) Blame
+version_of writers txn member key None = Ok None
+version_of writers txn member key (Some value) = version_by txn member key value (writer_of writers key value)
 
-abbrev pub read_step : Writers → ℕ → ℕ → Option ℕ → Result Operation Blame
-read_step writers txn key answer = version_of writers txn key answer >>= λ found. Ok (operation.Read txn key found)
+abbrev pub read_step : Writers → ℕ → ℕ → ℕ → Option ℕ → Result Operation Blame
+read_step writers txn member key answer = version_of writers txn member key answer >>= λ found. Ok (operation.Read txn key found)
 
-abbrev pub operation_step : Writers → ℕ → recorded.Operation → Result Operation Blame
-operation_step writers txn (said.Read key answer) = read_step writers txn key answer
-operation_step writers txn (said.ReadList key first end) = Err (record { txn = txn; key = key; value = 0; what = unclear.Lists })
-operation_step writers txn (said.Write key value version) = Ok (operation.Write txn key value)
-operation_step writers txn (said.Append key value) = Err (record { txn = txn; key = key; value = value; what = unclear.Lists })
+abbrev pub operation_step : Writers → ℕ → ℕ → recorded.Operation → Result Operation Blame
+operation_step writers txn member (said.Read key answer version) = read_step writers txn member key answer
+operation_step writers txn member (said.ReadList key first end) = Err (record { txn = txn; member = member; key = key; value = 0; what = unclear.Lists })
+operation_step writers txn member (said.Write key value version) = Ok (operation.Write txn key value)
+operation_step writers txn member (said.Append key value) = Err (record { txn = txn; member = member; key = key; value = value; what = unclear.Lists })
 
 -- the operations, behind these
 abbrev pub operations_from : Writers → List Operation → List Said → Result (List Operation) Blame
 operations_from writers done [] = Ok done
-operations_from writers done (s ∷ ss) = operation_step writers s.txn s.operation >>= λ made. operations_from writers (done ++ made ∷ []) ss
-
-abbrev pub operations_of : List Said → Result (List Operation) Blame
-operations_of ss = writers_from [] ss >>= λ writers. operations_from writers [] ss
+operations_from writers done (s ∷ ss) = operation_step writers s.txn s.member s.operation >>= λ made. operations_from writers (done ++ made ∷ []) ss

@@ -2,13 +2,15 @@
 use stamp_base::NoMemory;
 use std::alloc::{AllocError, AllocFailed};
 
-/// What does not let writers be known by their values.
+/// What does not let writers be known by their values, or by their versions.
 #[derive(Clone, Copy, Debug, PartialEq, Eq)]
 pub enum Unclear {
     /// This value was written at the key before.
     WrittenTwice,
     /// Nobody wrote this value at the key.
     WrittenByNobody,
+    /// This version of the key is told of another writer too: its number stands in the value's place.
+    VersionTwice,
     /// A list was read or appended to, which is not judged.
     Lists,
 }
@@ -16,9 +18,10 @@ pub enum Unclear {
 /// Why what was recorded is no trace.
 #[derive(Clone, Copy, Debug, PartialEq, Eq)]
 pub enum Fault {
-    /// An operation of the transaction at this place, with its key and value by their numbers.
+    /// An operation of the transaction at this place, by its own place there, with its key and value by their numbers.
     At {
         txn: usize,
+        member: u64,
         key: u64,
         value: u64,
         what: Unclear,

@@ -1,5 +1,5 @@
-//! From what was recorded to the trace that is judged: its transactions, who wrote what was read, and which open outcomes count, and
-//! why just those.
+//! From what was recorded to the trace that is judged: its transactions, who wrote what was read, which order of versions is told, and
+//! which open outcomes count, and why just those.
 #![tactic(auto)]
 
 mod attempts;
@@ -7,6 +7,7 @@ mod fault;
 mod flags;
 mod indexing;
 mod latest;
+mod numbers;
 mod outcomes;
 mod said;
 mod versions;

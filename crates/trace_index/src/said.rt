@@ -1,16 +1,17 @@
 // The operations that count, transaction by transaction.
-ghost use Rattle.std.specs.Prelude.{◌≡◌, ◌∷◌, ◌++◌, [], filter, map, IfOk, OnOk};
-ghost use Rattle.trace_index.specs.Said.{counts, range_of, read_counts, said_by, said_from, said_of};
+ghost use Rattle.std.specs.Prelude.{◌≡◌, ◌++◌, IfOk, OnOk};
+ghost use Rattle.trace_index.specs.Said.{counts, range_of, read_counts, said_by, said_each, said_from, said_of};
 
 use crate::attempts::{Attempt, Fate};
 use stamp_base::NoMemory;
 use std::alloc::Global;
 use trace_reading::Operation;
 
-/// An operation of the transaction at this place.
+/// An operation of the transaction at this place, by its own place among the transaction's.
 #[derive(Clone, Copy, Debug, PartialEq, Eq)]
 pub struct Said {
     pub txn: usize,
+    pub member: u64,
     pub operation: Operation,
 }
 
@@ -37,8 +38,9 @@ fn add_said(
 ) -> Result<(), NoMemory>
     ensures { OnOk result (said.new.items ≡ said.old.items ++ said_of operations.now txn attempt.now) }
 {
-    for operation in range_of(operations, attempt.first, attempt.end) {
-        add_where_it_counts(said, attempt.fate, txn, operation)?;
+    let own = range_of(operations, attempt.first, attempt.end);
+    for member in 0..own.len() {
+        add_where_it_counts(said, attempt.fate, txn, member as u64, own[member])?;
     }
     Ok(())
 }
@@ -47,14 +49,16 @@ fn add_where_it_counts(
     said: &mut Vec<Said>,
     fate: Fate,
     txn: usize,
-    operation: &Operation,
+    member: u64,
+    operation: Operation,
 ) -> Result<(), NoMemory>
-    ensures { OnOk result (said.new.items ≡ said.old.items ++ map (said_by txn) (filter (counts fate) (operation.now ∷ []))) }
+    ensures { OnOk result (said.new.items ≡ said.old.items ++ said_by fate txn member operation) }
 {
-    if counts(fate, operation) {
+    if counts(fate, &operation) {
         said.extend_from_slice(&[Said {
             txn,
-            operation: *operation,
+            member,
+            operation,
         }])?;
     }
     Ok(())

@@ -37,23 +37,32 @@ fn add_all(operations: &mut Vec<Operation>, writers: &Writers, said: &[Said]) ->
 
 /// The operation, with the version that it found where it is a read.
 fn operation_of(writers: &Writers, said: &Said) -> Result<Operation, Fault>
-    ensures { Makes (operation_step writers.now said.now.txn said.now.operation) result }
+    ensures { Makes (operation_step writers.now said.now.txn said.now.member said.now.operation) result }
 {
     let txn = said.txn;
+    let member = said.member;
     match said.operation {
-        trace_reading::Operation::Read { key, answer } => read_of(writers, txn, key, answer),
+        trace_reading::Operation::Read { key, answer, .. } => read_of(
+            writers, txn, member, key, answer,
+        ),
         trace_reading::Operation::Write { key, value, .. } => {
             Ok(Operation::Write { txn, key, value })
         }
-        trace_reading::Operation::ReadList { key, .. } => Err(lists(txn, key, 0)),
-        trace_reading::Operation::Append { key, value } => Err(lists(txn, key, value)),
+        trace_reading::Operation::ReadList { key, .. } => Err(lists(txn, member, key, 0)),
+        trace_reading::Operation::Append { key, value } => Err(lists(txn, member, key, value)),
     }
 }
 
-fn read_of(writers: &Writers, txn: usize, key: u64, answer: Option<u64>) -> Result<Operation, Fault>
-    ensures { Makes (read_step writers.now txn key answer) result }
+fn read_of(
+    writers: &Writers,
+    txn: usize,
+    member: u64,
+    key: u64,
+    answer: Option<u64>,
+) -> Result<Operation, Fault>
+    ensures { Makes (read_step writers.now txn member key answer) result }
 {
-    let answer = version_of(writers, txn, key, answer)?;
+    let answer = version_of(writers, txn, member, key, answer)?;
     Ok(Operation::Read { txn, key, answer })
 }
 
@@ -61,29 +70,32 @@ fn read_of(writers: &Writers, txn: usize, key: u64, answer: Option<u64>) -> Resu
 fn version_of(
     writers: &Writers,
     txn: usize,
+    member: u64,
     key: u64,
     answer: Option<u64>,
 ) -> Result<Option<Version>, Fault>
-    ensures { Makes (version_of writers.now txn key answer) result }
+    ensures { Makes (version_of writers.now txn member key answer) result }
 {
     match answer {
         None => Ok(None),
-        Some(value) => version_by(writers.of(key, value), txn, key, value),
+        Some(value) => version_by(writers.of(key, value), txn, member, key, value),
     }
 }
 
 fn version_by(
     from: Option<usize>,
     txn: usize,
+    member: u64,
     key: u64,
     value: u64,
 ) -> Result<Option<Version>, Fault>
-    ensures { Makes (version_by txn key value from) result }
+    ensures { Makes (version_by txn member key value from) result }
 {
     match from {
         Some(from) => Ok(Some(Version { from, value })),
         None => Err(Fault::At {
             txn,
+            member,
             key,
             value,
             what: Unclear::WrittenByNobody,

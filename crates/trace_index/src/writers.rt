@@ -45,22 +45,23 @@ impl Writers {
 
     /// Notes what the operation writes.
     fn note(&mut self, said: &Said) -> Result<(), Fault>
-        ensures { Leaves (writer_step self.old said.now.txn said.now.operation) self.new result }
+        ensures { Leaves (writer_step self.old said.now.txn said.now.member said.now.operation) self.new result }
     {
         match said.operation {
             Operation::Read { .. } => Ok(()),
-            Operation::Write { key, value, .. } => self.add(said.txn, key, value),
-            Operation::ReadList { key, .. } => Err(lists(said.txn, key, 0)),
-            Operation::Append { key, value } => Err(lists(said.txn, key, value)),
+            Operation::Write { key, value, .. } => self.add(said.txn, said.member, key, value),
+            Operation::ReadList { key, .. } => Err(lists(said.txn, said.member, key, 0)),
+            Operation::Append { key, value } => Err(lists(said.txn, said.member, key, value)),
         }
     }
 
-    fn add(&mut self, txn: usize, key: u64, value: u64) -> Result<(), Fault>
-        ensures { Leaves (written self.old txn key value) self.new result }
+    fn add(&mut self, txn: usize, member: u64, key: u64, value: u64) -> Result<(), Fault>
+        ensures { Leaves (written self.old txn member key value) self.new result }
     {
         match self.of(key, value) {
             Some(_) => Err(Fault::At {
                 txn,
+                member,
                 key,
                 value,
                 what: Unclear::WrittenTwice,
@@ -70,7 +71,7 @@ impl Writers {
     }
 
     fn insert(&mut self, txn: usize, key: u64, value: u64) -> Result<(), Fault>
-        ensures { Leaves (unless_written self.old txn key value None) self.new result }
+        ensures { Leaves (unless_written self.old txn 0 key value None) self.new result }
     {
         self.by.insert((key, value), txn)?;
         Ok(())
@@ -78,11 +79,12 @@ impl Writers {
 }
 
 /// That a list is not judged.
-pub fn lists(txn: usize, key: u64, value: u64) -> Fault
-    ensures { result ≡ Fault.At txn key value Unclear.Lists }
+pub fn lists(txn: usize, member: u64, key: u64, value: u64) -> Fault
+    ensures { result ≡ Fault.At txn member key value Unclear.Lists }
 {
     Fault::At {
         txn,
+        member,
         key,
         value,
         what: Unclear::Lists,

@@ -38,20 +38,21 @@ form_in place d = given (want.Function place) (option_and_then form_of (option_a
 abbrev pub listed_step : ℕ → Recorded → ℕ → Data → Result Recorded Want
 listed_step place r member d = named r (want.Listed place member) (Some d) >>= λ found. Ok (with_listed found.0 found.1)
 
-abbrev pub one_answer : Recorded → ℕ → ℕ → Data → Result (Operation × Recorded) Want
-one_answer r place key d = named r (want.Answer place) (Some d) >>= λ found. Ok (operations.Read key (Some found.0), found.1)
+abbrev pub one_answer : Recorded → ℕ → ℕ → Data → Option Data → Result (Operation × Recorded) Want
+one_answer r place key d version =
+    named r (want.Answer place) (Some d) >>= λ found. whole_or_none (want.Version place) version >>= λ told. Ok (operations.Read key (Some found.0) told, found.1)
 
 abbrev pub list_of : Recorded → ℕ → ℕ → Items → Result (Operation × Recorded) Want
 list_of r place key ds = each_from (listed_step place) r 0 (in_order ds) >>= λ after. Ok (operations.ReadList key (length r.listed) (length after.listed), after)
 
-abbrev pub answer_in : Recorded → ℕ → ℕ → Data → Option Items → Result (Operation × Recorded) Want
-answer_in r place key d None = one_answer r place key d
-answer_in r place key d (Some ds) = list_of r place key ds
+abbrev pub answer_in : Recorded → ℕ → ℕ → Data → Option Data → Option Items → Result (Operation × Recorded) Want
+answer_in r place key d version None = one_answer r place key d version
+answer_in r place key d version (Some ds) = list_of r place key ds
 
--- a read of the key: its third member is null or left out, an array of names, or a name
-abbrev pub answer_of : Recorded → ℕ → ℕ → Option Data → Result (Operation × Recorded) Want
-answer_of r place key None = Ok (operations.Read key None, r)
-answer_of r place key (Some d) = if is_some (as_null d) then Ok (operations.Read key None, r) else answer_in r place key d (as_array d)
+-- a read of the key: its third member is null or left out, an array of names, or a name, and a fourth one the version of that
+abbrev pub answer_of : Recorded → ℕ → ℕ → Option Data → Option Data → Result (Operation × Recorded) Want
+answer_of r place key None version = Ok (operations.Read key None None, r)
+answer_of r place key (Some d) version = if is_some (as_null d) then Ok (operations.Read key None None, r) else answer_in r place key d version (as_array d)
 
 -- a write of the key: its third member is a name, and a fourth one its version
 abbrev pub write_of : Recorded → ℕ → ℕ → Option Data → Option Data → Result (Operation × Recorded) Want
@@ -62,7 +63,7 @@ abbrev pub append_of : Recorded → ℕ → ℕ → Option Data → Result (Oper
 append_of r place key d = named r (want.Written place) d >>= λ found. Ok (operations.Append key found.0, found.1)
 
 abbrev pub operation_of : Form → Recorded → ℕ → ℕ → Data → Result (Operation × Recorded) Want
-operation_of form.Read r place key d = answer_of r place key (at 2 d)
+operation_of form.Read r place key d = answer_of r place key (at 2 d) (at 3 d)
 operation_of form.Write r place key d = write_of r place key (at 2 d) (at 3 d)
 operation_of form.Append r place key d = append_of r place key (at 2 d)
 

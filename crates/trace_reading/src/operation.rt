@@ -1,5 +1,5 @@
 // An operation of a transaction, read from its array.
-ghost use Rattle.std.specs.Prelude.{◌≡◌, Some, map, option_map};
+ghost use Rattle.std.specs.Prelude.{◌≡◌, Some, None, map, option_map};
 ghost use Rattle.serde_json.specs.View.{view, items_view};
 ghost use Rattle.trace_reading.specs.Words.{form_of};
 ghost use Rattle.std.specs.Str.{bytes_eq};
@@ -14,10 +14,12 @@ use std::alloc::Global;
 /// One operation, with its key and values by their numbers.
 #[derive(Clone, Copy, Debug, PartialEq, Eq)]
 pub enum Operation {
-    /// What the key had. None where it had nothing, or where nobody knows, as before the read and where the outcome is open.
+    /// What the key had, with its version where the store tells one. None where it had nothing, or where nobody knows, as before
+    /// the read and where the outcome is open.
     Read {
         key: u64,
         answer: Option<u64>,
+        version: Option<u64>,
     },
     /// The values that the key had, oldest first: those from place `first` to before `end` of what was listed.
     ReadList {
@@ -56,6 +58,17 @@ fn form_in(place: u64, value: Option<&Value>) -> Result<Form, Stop>
     match form_of(word.as_bytes()) {
         Some(form) => Ok(form),
         None => Err(Stop::Wants(Want::Function { operation: place })),
+    }
+}
+
+/// A read that found nothing.
+fn nothing_read(key: u64) -> Operation
+    ensures { result ≡ Operation.Read key None None }
+{
+    Operation::Read {
+        key,
+        answer: None,
+        version: None,
     }
 }
 
@@ -110,7 +123,7 @@ impl Recording {
         ensures { Takes (operation_of form self.old place key (view value.now)) self.new result }
     {
         match form {
-            Form::Read => self.answer_of(alloc, place, key, value.get(2)),
+            Form::Read => self.answer_of(alloc, place, key, value.get(2), value.get(3)),
             Form::Write => self.write_of(alloc, place, key, value.get(2), value.get(3)),
             Form::Append => self.append_of(alloc, place, key, value.get(2)),
         }
@@ -123,12 +136,13 @@ impl Recording {
         place: u64,
         key: u64,
         answer: Option<&Value>,
+        version: Option<&Value>,
     ) -> Result<Operation, Stop>
-        ensures { Takes (answer_of self.old place key (option_map (λ v. view v.now) answer.entry)) self.new result }
+        ensures { Takes (answer_of self.old place key (option_map (λ v. view v.now) answer.entry) (option_map (λ v. view v.now) version.entry)) self.new result }
     {
         match answer {
-            None => Ok(Operation::Read { key, answer: None }),
-            Some(value) => self.answer_in(alloc, place, key, value),
+            None => Ok(nothing_read(key)),
+            Some(value) => self.answer_in(alloc, place, key, value, version),
         }
     }
 
@@ -138,15 +152,16 @@ impl Recording {
         place: u64,
         key: u64,
         value: &Value,
+        version: Option<&Value>,
     ) -> Result<Operation, Stop>
-        ensures { Takes (answer_of self.old place key (Some (view value.now))) self.new result }
+        ensures { Takes (answer_of self.old place key (Some (view value.now)) (option_map (λ v. view v.now) version.entry)) self.new result }
     {
         if value.is_null() {
-            return Ok(Operation::Read { key, answer: None });
+            return Ok(nothing_read(key));
         }
         match value.as_array() {
             Some(listed) => self.list_of(alloc, place, key, listed),
-            None => self.one_answer(alloc, place, key, value),
+            None => self.one_answer(alloc, place, key, value, version),
         }
     }
 
@@ -156,13 +171,16 @@ impl Recording {
         place: u64,
         key: u64,
         value: &Value,
+        version: Option<&Value>,
     ) -> Result<Operation, Stop>
-        ensures { Takes (one_answer self.old place key (view value.now)) self.new result }
+        ensures { Takes (one_answer self.old place key (view value.now) (option_map (λ v. view v.now) version.entry)) self.new result }
     {
         let found = self.named(alloc, Want::Answer { operation: place }, Some(value))?;
+        let version = whole_or_none(Want::Version { operation: place }, version)?;
         Ok(Operation::Read {
             key,
             answer: Some(found),
+            version,
         })
     }
 

@@ -31,7 +31,7 @@ pub enum Want {
     Listed { operation: u64, member: u64 },
     /// The third member of this write is not a name.
     Written { operation: u64 },
-    /// The fourth member of this write is not a whole number.
+    /// The fourth member of this operation is not a whole number.
     Version { operation: u64 },
 }
 

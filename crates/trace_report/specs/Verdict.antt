@@ -6,7 +6,7 @@ use Rattle.trace_rules.specs.declared.wanted.Wanted.{Wanted}
 use Rattle.trace_rules.specs.declared.wanted.Wanted.TheVariants.{Nothing, Sessions, RealTime}
 use Rattle.trace_index.specs.declared.attempts.Attempt.{Attempt}
 use Rattle.trace_index.specs.declared.fault.Unclear.{Unclear}
-use Rattle.trace_index.specs.declared.fault.Unclear.TheVariants.{WrittenTwice, WrittenByNobody, Lists}
+use Rattle.trace_index.specs.declared.fault.Unclear.TheVariants.{WrittenTwice, WrittenByNobody, VersionTwice, Lists}
 use Rattle.trace_report.specs.Parts.{line_at, name_at}
 
 abbrev pub level_text : Level → List ℕ
@@ -35,9 +35,21 @@ undecided_text names key = codes "not decided: writers of " ++ name_at names key
 abbrev pub why_text : Unclear → List ℕ
 why_text WrittenTwice = codes " is written twice at "
 why_text WrittenByNobody = codes " is read and written by nobody at "
+why_text VersionTwice = codes " is told of two writers at "
 why_text Lists = codes ": no list is judged: "
 
+-- a version by its number, and a value by its name
+abbrev pub what_text : List (List ℕ) → ℕ → Unclear → List ℕ
+what_text names value WrittenTwice = name_at names value
+what_text names value WrittenByNobody = name_at names value
+what_text names value VersionTwice = codes "version " ++ decimal value
+what_text names value Lists = name_at names value
+
+-- the operation, by its line and member
+unfoldable pub where_text : List Attempt → ℕ → ℕ → List ℕ
+where_text attempts txn member = codes "trace line " ++ decimal (line_at attempts txn) ++ codes ": value[" ++ decimal member ++ codes "]: "
+
 -- an operation of which it is not clear who wrote what
-abbrev pub unclear_text : List (List ℕ) → List Attempt → ℕ → ℕ → ℕ → Unclear → List ℕ
-unclear_text names attempts txn key value what =
-    codes "trace line " ++ decimal (line_at attempts txn) ++ codes ": " ++ name_at names value ++ why_text what ++ name_at names key ++ codes "\n"
+abbrev pub unclear_text : List (List ℕ) → List Attempt → ℕ → ℕ → ℕ → ℕ → Unclear → List ℕ
+unclear_text names attempts txn member key value what =
+    where_text attempts txn member ++ what_text names value what ++ why_text what ++ name_at names key ++ codes "\n"

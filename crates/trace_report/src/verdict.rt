@@ -1,6 +1,6 @@
 // What is told of a trace.
 ghost use Rattle.std.specs.Prelude.{◌≡◌, ◌++◌, OnOk};
-ghost use Rattle.trace_report.specs.Verdict.{holds_text, level_text, refused_text, unclear_text, undecided_text, wanted_text, why_text, wrong_read_text};
+ghost use Rattle.trace_report.specs.Verdict.{holds_text, level_text, refused_text, unclear_text, undecided_text, wanted_text, what_text, where_text, why_text, wrong_read_text};
 
 use crate::parts::{push_line, push_name};
 use stamp_base::NoMemory;
@@ -73,16 +73,15 @@ pub fn push_unclear(
     recording: &Recording,
     attempts: &[Attempt],
     txn: usize,
+    member: u64,
     key: u64,
     value: u64,
     what: Unclear,
 ) -> Result<(), NoMemory>
-    ensures { OnOk result (text.new.items ≡ text.old.items ++ unclear_text recording.now.names attempts.now txn key value what) }
+    ensures { OnOk result (text.new.items ≡ text.old.items ++ unclear_text recording.now.names attempts.now txn member key value what) }
 {
-    push_words(text, "trace line ")?;
-    push_line(text, attempts, txn)?;
-    push_words(text, ": ")?;
-    push_name(text, recording, value)?;
+    push_where(text, attempts, txn, member)?;
+    push_what(text, recording, value, what)?;
     push_words(text, why_text(what))?;
     push_name(text, recording, key)?;
     push_words(text, "\n")
@@ -113,6 +112,44 @@ fn why_text(what: Unclear) -> &'static str
     match what {
         Unclear::WrittenTwice => " is written twice at ",
         Unclear::WrittenByNobody => " is read and written by nobody at ",
+        Unclear::VersionTwice => " is told of two writers at ",
         Unclear::Lists => ": no list is judged: ",
+    }
+}
+
+/// Adds the line and member of an operation.
+#[tactic(auto, unfolding(crate::specs::Verdict::where_text))]
+fn push_where(
+    text: &mut Vec<u8>,
+    attempts: &[Attempt],
+    txn: usize,
+    member: u64,
+) -> Result<(), NoMemory>
+    ensures { OnOk result (text.new.items ≡ text.old.items ++ where_text attempts.now txn member) }
+{
+    push_words(text, "trace line ")?;
+    push_line(text, attempts, txn)?;
+    push_words(text, ": value[")?;
+    push_number(text, member)?;
+    push_words(text, "]: ")
+}
+
+/// Adds a version by its number, or a value by its name.
+fn push_what(
+    text: &mut Vec<u8>,
+    recording: &Recording,
+    value: u64,
+    what: Unclear,
+) -> Result<(), NoMemory>
+    ensures { OnOk result (text.new.items ≡ text.old.items ++ what_text recording.now.names value what) }
+{
+    match what {
+        Unclear::VersionTwice => {
+            push_words(text, "version ")?;
+            push_number(text, value)
+        }
+        Unclear::WrittenTwice | Unclear::WrittenByNobody | Unclear::Lists => {
+            push_name(text, recording, value)
+        }
     }
 }
