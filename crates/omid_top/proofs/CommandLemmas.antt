@@ -147,7 +147,7 @@ reported_codes code (inl verdict) = inl verdict
 reported_codes code (inr five) = inr (inl five)
 
 -- what is told of a run over split stores that came to its end has one of the run's statuses
-pub split_codes : (code : ℕ) → (code ≡ 0) ⊎ (code ≡ 5) ⊎ (code ≡ 6) → (code ≡ 0) ⊎ (code ≡ 5) ⊎ (code ≡ 6) ⊎ (code ≡ 8) ⊎ (code ≡ 9)
-split_codes code (inl done) = inl done
-split_codes code (inr (inl failed)) = inr (inl failed)
-split_codes code (inr (inr lacking)) = inr (inr (inl lacking))
+pub settled_codes : (code : ℕ) → (code ≡ 0) ⊎ (code ≡ 5) ⊎ (code ≡ 6) → (code ≡ 0) ⊎ (code ≡ 5) ⊎ (code ≡ 6) ⊎ (code ≡ 8) ⊎ (code ≡ 9)
+settled_codes code (inl done) = inl done
+settled_codes code (inr (inl failed)) = inr (inl failed)
+settled_codes code (inr (inr lacking)) = inr (inr (inl lacking))
