@@ -8,6 +8,7 @@ use std::alloc::Global;
 /// The queues, and the passes of all who use them.
 #[derive(Drop)]
 pub struct Crew {
+    /// The queues of all nodes.
     pub queues: Queues,
     /// Node by node, those of the stages.
     pub stages: Vec<StagePass>,

@@ -10,6 +10,7 @@ use script_data::{Line, Verb};
 /// The lines of an actor that are not done, among those of others.
 #[derive(Drop)]
 pub struct LinesLeft<'a> {
+    /// The actor.
     pub actor: Actor,
     lines: &'a MarkedLines<'a>,
     // They stand from this place on.

@@ -6,7 +6,9 @@ use trace_rules::{Level, Times, Transaction, Wanted};
 /// A committed transaction of a process.
 #[derive(Clone, Copy)]
 pub struct Turn {
+    /// The process's number.
     pub process: u64,
+    /// The transaction's place.
     pub txn: usize,
 }
 

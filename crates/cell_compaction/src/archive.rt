@@ -14,7 +14,9 @@ use std::marker::Model;
 /// The reader's start is below the water: what it would see may be gone.
 #[derive(Clone, Copy, Debug, PartialEq, Eq)]
 pub struct TooOld {
+    /// The reader's start.
     pub start: Stamp,
+    /// The water, the oldest start that may still read.
     pub water: Stamp,
 }
 

@@ -12,6 +12,7 @@ use system_parts::{Recorded, Verdict};
 pub struct Head {
     /// How many pairs are kept.
     pub len: usize,
+    /// The greatest commit that the bucket has forgotten, 0 where it has forgotten none.
     pub water: u64,
 }
 

@@ -13,6 +13,7 @@ use std::alloc::Global;
 pub struct Chosen {
     /// Its number in the history, counted from 1.
     pub number: u64,
+    /// The item.
     pub item: Item,
     /// The bar that it opens, to a place of the history, counted from 0.
     pub bar: Option<Bar>,
@@ -145,6 +146,7 @@ fn is_start(start: Stamp, starts: &[Stamp]) -> bool
     false
 }
 
+/// Whether the number is one of these.
 #[tactic(auto, unfolding(crate::specs::Chosen::is_among))]
 pub fn is_among(number: u64, numbers: &[u64]) -> bool
     ensures { result ≡ is_among number numbers.now }

@@ -16,6 +16,7 @@ use std::alloc::Global;
 pub struct EarlierBar {
     /// The item before the picture's first that opens it.
     pub opener: Item,
+    /// Its row, counted from the top.
     pub row: usize,
     /// Where it ends in the picture, and how.
     pub bar: Bar,

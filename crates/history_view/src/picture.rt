@@ -19,6 +19,7 @@ pub struct Frame {
     pub wide: bool,
     /// The numbers of the first and the last item that it is of, counted from 1.
     pub first: u64,
+    /// The number of the last item that it is of, counted from 1.
     pub last: u64,
     /// How many items the history has.
     pub total: u64,

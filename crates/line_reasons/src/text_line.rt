@@ -125,6 +125,7 @@ pub fn first_word(bytes: &[u8]) -> &[u8]
     &bytes[..word_len(bytes)]
 }
 
+/// How many bytes stand before the first blank: all of them where there is none.
 #[tactic(auto, unfolding(history_reading::specs::ReadWords::word_len))]
 pub fn word_len(bytes: &[u8]) -> usize
     ensures len { result ≡ word_len bytes.now }

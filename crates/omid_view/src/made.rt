@@ -19,7 +19,9 @@ use std::alloc::Global;
 /// A text, and the status that goes with it.
 #[derive(Drop)]
 pub struct Made {
+    /// The text.
     pub text: Text,
+    /// The status of the call.
     pub code: u8,
 }
 

@@ -35,6 +35,8 @@ impl LastValues {
         }
     }
 
+    /// Notes an operation behind those passed so far: a write sets the transaction's last value at the key. AllocError where memory
+    /// is refused.
     pub fn pass(&mut self, operation: &Operation) -> Result<(), AllocError>
         ensures { OnOk result ((part : List Operation) → HasLast part self.old.values → HasLast (part ++ operation.now ∷ []) self.new.values) }
     {

@@ -37,6 +37,7 @@ impl Cleared {
         }
     }
 
+    /// Whether a read of the key by the transaction with this start is known to stand.
     pub fn has(&self, start: Stamp, key: KeyNo) -> bool
         ensures { result ≡ true → HasPair self.now.pairs start key }
     {

@@ -62,9 +62,13 @@ impl Loose {
 /// Where a stage of a node works, and what its three stages do alike.
 #[derive(Drop)]
 pub struct Desk<'a, B: Steps, G: Gate> {
+    /// The node.
     pub node: NodeNo,
+    /// The board that is asked for each step.
     pub board: &'a B,
+    /// The queues of all nodes.
     pub queues: &'a Queues,
+    /// The gate that is passed before each step.
     pub gate: &'a G,
 }
 

@@ -15,6 +15,7 @@ pub struct Passed {
 }
 
 impl Passed {
+    /// Passes the gate for one step of the stage.
     pub fn at<R: Wait, G: Gate>(rt: &R, gate: &G, node: NodeNo, stage: Stage) -> Passed
         ensures { (result.node ≡ node) × (result.stage ≡ stage) }
     {

@@ -3,8 +3,10 @@ use crate::account::{RequestAccount, Ticket};
 use crossbeam_queue::protocol::{Join, Lesson, Outcome, Protocol, Split};
 use crossbeam_queue::{Pass, RuledArrayQueue};
 
+/// A queue of tickets that keeps the rule.
 pub type Ruled = RuledArrayQueue<Ticket, RequestAccount, InTurn>;
 
+/// A pass of such a queue, with its account.
 pub type RuledPass = Pass<Ticket, RequestAccount>;
 
 /// What was taken of each sender is what that sender put first.

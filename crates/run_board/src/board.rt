@@ -46,7 +46,7 @@ pub struct Board<L: Ledger> {
 
 impl<L: Ledger> Board<L> {
     /// A board, and one share for each actor with lines, in the order clock, janitor, nodes, sessions. The blank has as many parts
-    /// as that, or one where no actor has a line.
+    /// as that, or one where no actor has a line. NoMemory where memory is refused.
     pub fn open(
         alloc: Global,
         script: Script,

@@ -4,8 +4,10 @@ use crossbeam_queue::protocol::{Join, Lesson, Outcome, Protocol, Split};
 use crossbeam_queue::{Pass, RuledArrayQueue};
 use persist_batches::Numbered;
 
+/// A queue of numbered batches that keeps the rule.
 pub type Ruled = RuledArrayQueue<Numbered, SettledAccount, Balanced>;
 
+/// A pass of such a queue, with its account.
 pub type RuledPass = Pass<Numbered, SettledAccount>;
 
 /// What was put is what was taken and what the ring holds.

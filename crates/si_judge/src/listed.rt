@@ -26,7 +26,7 @@ impl Listed {
         }
     }
 
-    /// Passes the item.
+    /// Passes the item. NoMemory where memory is refused.
     pub fn pass(&mut self, item: &Item) -> Result<(), NoMemory>
         ensures { OnOk result ((part : List Item) → HasListed part self.old.txns →
             HasListed (part ++ item.now ∷ []) self.new.txns) }

@@ -8,8 +8,11 @@ use stamp_base::{KeyNo, Stamp};
 /// The key's writes that started above `from` and up to `upto` are marked.
 #[derive(Clone, Copy)]
 pub struct Reach {
+    /// The key.
     pub key: KeyNo,
+    /// Above this start.
     pub from: Stamp,
+    /// Up to this start.
     pub upto: Stamp,
 }
 

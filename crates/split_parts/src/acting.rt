@@ -22,7 +22,9 @@ use std::alloc::Global;
 /// What an event appended, and how it stopped, where it was refused or its store call failed.
 #[derive(Drop)]
 pub struct Acted {
+    /// The items that it appended, in order.
     pub items: Vec<Item>,
+    /// How it stopped; None where it was made in full.
     pub stopped: Option<Stopped>,
 }
 
@@ -46,7 +48,7 @@ pub fn act(alloc: Global, lent: &mut Lent<'_>, event: &Event) -> Result<Acted, N
     act_timed(alloc, lent, setup, &timed)
 }
 
-/// The same of the machine's event, where the lent record leases by the setup.
+/// Makes the machine's event of the lent parts, where a lent record leases by the setup.
 fn act_timed(
     alloc: Global,
     lent: &mut Lent<'_>,

@@ -12,7 +12,9 @@ use std::alloc::Global;
 /// events are made, so no lock guards it.
 #[derive(Drop)]
 pub struct Plan {
+    /// The setup.
     pub setup: Setup,
+    /// The lead of each node's clock, in ticks, from node `a` on.
     pub leads: Vec<u64>,
     /// The store, the number of the call on it from 1 on, and its fate.
     pub faults: Vec<(Store, u64, Fate)>,

@@ -67,6 +67,7 @@ impl SeenSweep {
         }
     }
 
+    /// Whether a sweep was open.
     pub fn is_open(&self) -> bool
         ensures { result ≡ self.now.is_open }
     {

@@ -49,7 +49,7 @@ impl Model for Split {
 }
 
 impl Split {
-    /// The parts at their beginning, what the script sets, and a seat for each actor.
+    /// The parts at their beginning, what the script sets, and a seat for each actor. NoMemory where memory is refused.
     pub fn open(
         alloc: Global,
         script: &Script,

@@ -8,6 +8,7 @@ use std::alloc::Global;
 /// A pool whose batches have room for an entry.
 #[derive(Drop)]
 pub struct Buffers {
+    /// The pool.
     pub pool: Pool,
     pub ghost have_room: { 0 < pool.room },
 }

@@ -80,6 +80,7 @@ fn spread(number: usize, count: usize, place: usize) -> Option<usize>
     number.checked_mul(count)?.checked_add(place)
 }
 
+/// The number at the place; 0 past the end.
 pub fn number_at(numbers: &[usize], place: usize) -> usize
     ensures { result ≡ slice_index numbers.now place }
 {

@@ -18,8 +18,11 @@ use trace_rules::{Operation, Times, Trace, Transaction};
 /// A trace with the transactions as they were recorded, and the moments that are known of them, by place.
 #[derive(Drop)]
 pub struct Indexed {
+    /// The transactions as they were recorded.
     pub attempts: Vec<Attempt>,
+    /// The trace.
     pub trace: Trace,
+    /// The moments that are known of each transaction.
     pub times: Vec<Times>,
 }
 

@@ -10,7 +10,9 @@ use trace_reading::Operation;
 /// An operation of the transaction at this place.
 #[derive(Clone, Copy, Debug, PartialEq, Eq)]
 pub struct Said {
+    /// The transaction's place.
     pub txn: usize,
+    /// The operation.
     pub operation: Operation,
 }
 
