@@ -22,8 +22,8 @@ struct Awaiter {
     place: AtomicUsize,
 }
 
-/// Where each actor with lines tells for which name it is going to wait. A name is posted by one line, so what an actor has told of a
-/// line that it has passed wakes it no more.
+/// Where each actor with lines tells for which name it is going to wait. A name is posted by one line, so what an actor has told of
+/// a line that it has passed wakes it no more.
 #[derive(Drop)]
 pub struct Awaiters {
     all: Vec<Awaiter>,

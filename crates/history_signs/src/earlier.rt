@@ -22,8 +22,8 @@ pub struct EarlierBar {
     pub bar: Bar,
 }
 
-/// The bars that items before a place open and that end there or behind it, in order, where their lanes are among these. The picture
-/// shows the chosen items, none of which stands before the place.
+/// The bars that items before a place open and that end there or behind it, in order, where their lanes are among these. The
+/// picture shows the chosen items, none of which stands before the place.
 #[tactic(auto, unfolding(crate::specs::Earlier::earlier_below))]
 pub fn earlier_bars(
     alloc: Global,

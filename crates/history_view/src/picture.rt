@@ -25,8 +25,8 @@ pub struct Frame {
     pub total: u64,
 }
 
-/// The picture of the signs in these lanes, as one document of SVG, below its caption. Those items of the frame that have no sign are
-/// counted as left out. The earlier bars go on from items before the first sign.
+/// The picture of the signs in these lanes, as one document of SVG, below its caption. Those items of the frame that have no sign
+/// are counted as left out. The earlier bars go on from items before the first sign.
 pub fn print_picture(
     alloc: Global,
     frame: &Frame,

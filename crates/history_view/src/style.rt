@@ -1,6 +1,7 @@
 // The style of a picture.
 
-/// Colours by day and, where the reader has set so, by night; how bars are told apart by hatching and dashes; and the heads of arrows.
+/// Colours by day and, where the reader has set so, by night; how bars are told apart by hatching and dashes; and the heads of
+/// arrows.
 pub const STYLE: &str =
     "<style>.page{fill:#fff}text{fill:#1f2328}.n{font-size:9px;fill:#4d555e}.again{font-size:9px;fill:#4d555e}
 .caption{font-size:13px;font-weight:bold;text-anchor:start}.lane{text-anchor:start;font-weight:bold}.lane.n{font-weight:normal}

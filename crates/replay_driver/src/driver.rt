@@ -33,8 +33,8 @@ pub fn replay(alloc: Global, script: &Script) -> Result<Cluster, NoMemory>
     replay_told(alloc, script, &Silent)
 }
 
-/// The cluster once all the script's lines were carried out, as `replay` gives it. Behind each line, `progress` is told how many were
-/// carried out. NoMemory where memory is refused.
+/// The cluster once all the script's lines were carried out, as `replay` gives it. Behind each line, `progress` is told how many
+/// were carried out. NoMemory where memory is refused.
 pub fn replay_told<P: Progress>(
     alloc: Global,
     script: &Script,

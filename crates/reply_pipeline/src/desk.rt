@@ -134,8 +134,8 @@ impl<B: Steps, G: Gate> Desk<'_, B, G> {
         self.board.let_yield(self.gate.yields());
     }
 
-    /// For a stage that found the queue of the next one full: asks for room, and where it has asked since it last waited, waits until
-    /// it is woken. Ends the stage where the queues are closed.
+    /// For a stage that found the queue of the next one full: asks for room, and where it has asked since it last waited, waits
+    /// until it is woken. Ends the stage where the queues are closed.
     pub fn wait_for_room<R: Wait>(
         &self,
         rt: &R,
@@ -174,8 +174,8 @@ impl<B: Steps, G: Gate> Desk<'_, B, G> {
         unreachable!()
     }
 
-    /// For a request stage that found the pool out: asks for a batch, and where it has asked since it last waited, waits until it is
-    /// woken. Ends the stage where the queues are closed.
+    /// For a request stage that found the pool out: asks for a batch, and where it has asked since it last waited, waits until it
+    /// is woken. Ends the stage where the queues are closed.
     pub fn wait_for_empty<R: Wait>(&self, rt: &R, asked: bool) -> Result<(), Ending> {
         if asked {
             return self.wait(rt, Stage::Request, 0);
@@ -185,8 +185,8 @@ impl<B: Steps, G: Gate> Desk<'_, B, G> {
         Ok(())
     }
 
-    /// For a persist worker that found no batch: tells that it is going to wait, and where it has told so already, waits until it is
-    /// woken. Ends the stage where the queues are closed.
+    /// For a persist worker that found no batch: tells that it is going to wait, and where it has told so already, waits until it
+    /// is woken. Ends the stage where the queues are closed.
     pub fn wait_for_batch<R: Wait>(&self, rt: &R, worker: u64) -> Result<(), Ending> {
         if self.queues.rest_for_batch(self.node, worker) {
             return self.wait(rt, Stage::Persist, worker);
@@ -221,8 +221,8 @@ pub fn entry_of(ticket: &Ticket, start: Stamp, commit: Option<Stamp>) -> Entry
     }
 }
 
-// Whether the stage is through with a request after this step. Otherwise it is held, an earlier commit is not settled, or memory was
-// refused.
+// Whether the stage is through with a request after this step. Otherwise it is held, an earlier commit is not settled, or memory
+// was refused.
 fn is_over(step: &StageStep) -> bool
     ensures { result ≡ is_over step.now }
 {

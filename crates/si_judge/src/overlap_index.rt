@@ -112,7 +112,8 @@ fn mark_all_overlaps(written: &BTreeMap<(KeyNo, Stamp), Commit>, marks: &mut Mar
     }
 }
 
-/// Marks the commit of a write, and those of the key's later writes that started up to it. Those that the reach has are marked already.
+/// Marks the commit of a write, and those of the key's later writes that started up to it. Those that the reach has are marked
+/// already.
 fn mark_overlaps(
     written: &BTreeMap<(KeyNo, Stamp), Commit>,
     key: KeyNo,

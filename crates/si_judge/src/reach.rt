@@ -28,8 +28,8 @@ impl Reach {
         }
     }
 
-    /// A reach in which the start stands: this one, or else one that begins there. Writes are looked at in the order of their starts, so
-    /// a key's next start stands behind those before it.
+    /// A reach in which the start stands: this one, or else one that begins there. Writes are looked at in the order of their
+    /// starts, so a key's next start stands behind those before it.
     pub fn at(self, key: KeyNo, start: Stamp) -> Reach
         ensures there { (result.key ≡ key) × (result.from ≤ start) × (start ≤ result.upto) }
         ensures reached { (written : Written) (marks : Marks) → HasReached written self marks → HasReached written result marks }

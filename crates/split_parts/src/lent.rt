@@ -10,8 +10,8 @@ use crate::plan::Plan;
 use cluster_core::ClusterState;
 use stamp_base::SessionNo;
 
-/// What the script sets, and the parts that are lent to an event: sixteen sessions by their numbers, the janitor, the clock, a node,
-/// the three stores, and the posted names. More may be lent than the event has to do with.
+/// What the script sets, and the parts that are lent to an event: sixteen sessions by their numbers, the janitor, the clock, a
+/// node, the three stores, and the posted names. More may be lent than the event has to do with.
 #[derive(Drop)]
 pub struct Lent<'a> {
     /// What the script sets.

@@ -19,8 +19,8 @@ use std::marker::Model;
 use std::sync::Mutex;
 use tick_word::TickWord;
 
-/// The parts of the system, each behind a lock of its own, what the script sets, and the word that gives ticks. A part is locked before
-/// those that stand below it here.
+/// The parts of the system, each behind a lock of its own, what the script sets, and the word that gives ticks. A part is locked
+/// before those that stand below it here.
 #[derive(Drop)]
 pub struct Split {
     pub(crate) sessions: Vec<Mutex<SessionPart>>,

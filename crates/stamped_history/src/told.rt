@@ -11,7 +11,8 @@ use crate::seats::seats_of;
 use std::alloc::Global;
 use trace_rules::{Level, Trace};
 
-/// The nodes of a trace of so many transactions in the order of their stamps, each node's rank, each transaction's session, and the keys.
+/// The nodes of a trace of so many transactions in the order of their stamps, each node's rank, each transaction's session, and the
+/// keys.
 #[derive(Drop)]
 pub struct Told {
     /// How many transactions the trace has.

@@ -1,5 +1,5 @@
-//! From what was recorded to the trace that is judged: its transactions, who wrote what was read, and which open outcomes count, and
-//! why just those.
+//! From what was recorded to the trace that is judged: its transactions, who wrote what was read, and which open outcomes count,
+//! and why just those.
 #![tactic(auto)]
 
 mod attempts;
