@@ -15,13 +15,13 @@ use std::alloc::Global;
 pub enum Finding {
     /// Isolated, and serial where that was asked too.
     Sound,
-    /// The first rule of isolation that is broken, and the two items that break it.
+    /// The first rule of isolation that is broken, and the numbers of two items that break it, counted from 1.
     Broken {
         rule: Rule,
         first: usize,
         second: usize,
     },
-    /// Isolated and not serial: a read, and a placed commit that crosses it.
+    /// Isolated and not serial: the numbers of a read and of a placed commit that crosses it, counted from 1.
     Crossed {
         read: usize,
         placed: usize,

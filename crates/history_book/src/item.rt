@@ -126,7 +126,8 @@ pub enum Item {
         actor: Actor,
         note: Note,
     },
-    /// The node took the master record at a reading of its clock.
+    /// The node took the master record at a reading of its clock: a new term, whose oracle draws the stamps above `epoch` up to
+    /// `ceiling`, under a lease that ends at `until`.
     Take {
         node: NodeNo,
         reading: u64,
@@ -135,7 +136,7 @@ pub enum Item {
         until: u64,
         ceiling: u64,
     },
-    /// The node's lease lasts to `until`.
+    /// The node's lease lasts to `until`, renewed at a reading of its clock.
     Renew {
         node: NodeNo,
         reading: u64,

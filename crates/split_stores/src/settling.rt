@@ -27,7 +27,7 @@ use tick_word::TickWord;
 /// Why logs were not settled.
 #[derive(Clone, Copy, Debug, PartialEq, Eq)]
 pub enum SettleStop {
-    /// Not all seats were handed in.
+    /// Another number of seats was handed in (`given`) than was made.
     Missing {
         made: usize,
         given: usize,
