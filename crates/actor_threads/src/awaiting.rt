@@ -30,7 +30,7 @@ pub struct Awaiters {
 }
 
 impl Awaiters {
-    /// Nobody waits for a name.
+    /// Nobody waits for a name. NoMemory where memory is refused.
     pub fn open<L: Ledger>(alloc: Global, shares: &[ActorShare<L>]) -> Result<Awaiters, NoMemory> {
         let mut all = Vec::with_capacity(alloc, shares.len())?;
         for mine in shares {

@@ -23,7 +23,7 @@ pub struct Plan {
     pub moments: Vec<u64>,
 }
 
-/// The plan of an order that is asked for. It takes a time in proportion to n log n.
+/// The plan of an order that is asked for. It takes a time in proportion to n log n. AllocError where memory is refused.
 pub fn plan_of(
     alloc: Global,
     wanted: Wanted,

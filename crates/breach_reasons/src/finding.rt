@@ -28,7 +28,8 @@ pub enum Finding {
     },
 }
 
-/// Judges whether the items of a finished history are isolated and, where it is strict, serial too.
+/// Judges whether the items of a finished history are isolated and, where it is strict, serial too. As with the judges, the answer
+/// is never NoMemory.
 pub fn find(alloc: Global, items: &[Item], strict: bool) -> Result<Finding, NoMemory>
     ensures { IfOk result (λ found. IsFound strict items.now found) }
 {
@@ -59,7 +60,7 @@ fn find_crossing(alloc: Global, items: &[Item], strict: bool) -> Result<Finding,
     }
 }
 
-/// Adds in a line, with no line feed, what was found.
+/// Adds in a line, with no line feed, what was found. NoMemory where memory is refused.
 #[tactic(auto, unfolding(crate::specs::Findings::finding_line))]
 pub fn print_line(
     text: &mut Text,

@@ -42,8 +42,8 @@ impl Model for Archive {
 }
 
 impl Archive {
-    /// Drops the versions that no reader at the water or above it can see. It costs a look at each row, one at the table
-    /// for a bare one, and a search by halves for each key.
+    /// Drops the versions that no reader at the water or above it can see. It costs a look at each row, one at the table for a bare
+    /// one, and a search by halves for each key. NoMemory where memory is refused.
     pub fn compact(
         alloc: Global,
         cells: Cells,

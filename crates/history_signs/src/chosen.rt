@@ -19,7 +19,8 @@ pub struct Chosen {
     pub bar: Option<Bar>,
 }
 
-/// So many items from a place on, in order; where the picture is brief, all but those that tell only how a thing was done.
+/// So many items from a place on, in order; where the picture is brief, all but those that tell only how a thing was done. NoMemory
+/// where memory is refused.
 #[tactic(auto, unfolding(crate::specs::Chosen::chosen_below))]
 pub fn choose_part(
     alloc: Global,
@@ -40,7 +41,7 @@ pub fn choose_part(
     Ok(chosen)
 }
 
-/// All items of the transactions with these starts, and those of these numbers, in order.
+/// All items of the transactions with these starts, and those of these numbers, in order. NoMemory where memory is refused.
 #[tactic(auto, unfolding(crate::specs::Chosen::chosen_below))]
 pub fn choose_about(
     alloc: Global,

@@ -23,7 +23,7 @@ pub struct EarlierBar {
 }
 
 /// The bars that items before a place open and that end there or behind it, in order, where their lanes are among these. The
-/// picture shows the chosen items, none of which stands before the place.
+/// picture shows the chosen items, none of which stands before the place. NoMemory where memory is refused.
 #[tactic(auto, unfolding(crate::specs::Earlier::earlier_below))]
 pub fn earlier_bars(
     alloc: Global,

@@ -37,6 +37,7 @@ pub struct Sign {
 }
 
 /// The signs of the chosen items, one for each, in order. Lanes are numbered from the top. The items of these numbers are ringed.
+/// NoMemory where memory is refused.
 pub fn signs_of(
     alloc: Global,
     lanes: &[usize],

@@ -57,7 +57,7 @@ pub enum Key {
     Sign(Glyph),
 }
 
-/// What occurs in a picture, in the order of its legend.
+/// What occurs in a picture, in the order of its legend. NoMemory where memory is refused.
 pub fn keys_of(alloc: Global, earlier: &[EarlierBar], signs: &[Sign]) -> Result<Vec<Key>, NoMemory>
     ensures { IfOk result (λ keys. keys.items ≡ keys_for earlier.now signs.now) }
 {

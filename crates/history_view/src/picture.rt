@@ -26,7 +26,7 @@ pub struct Frame {
 }
 
 /// The picture of the signs in these lanes, as one document of SVG, below its caption. Those items of the frame that have no sign
-/// are counted as left out. The earlier bars go on from items before the first sign.
+/// are counted as left out. The earlier bars go on from items before the first sign. NoMemory where memory is refused.
 pub fn print_picture(
     alloc: Global,
     frame: &Frame,

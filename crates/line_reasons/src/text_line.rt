@@ -11,7 +11,7 @@ use history_json::row_of;
 use stamp_base::NoMemory;
 use std::alloc::Global;
 
-/// What is wrong with a line of text that is no item.
+/// What is wrong with a line of text that is no item. NoMemory where memory is refused.
 pub fn text_fault(alloc: Global, line: &[u8]) -> Result<LineFault, NoMemory>
     ensures { IfOk result (TellsText line.now) }
 {

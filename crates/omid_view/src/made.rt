@@ -25,7 +25,7 @@ pub struct Made {
     pub code: u8,
 }
 
-/// What the command makes of the items.
+/// What the command makes of the items. NoMemory where memory is refused.
 pub fn made_of(alloc: Global, command: Command, items: &[Item]) -> Result<Made, NoMemory>
     requires { IsSound command }
     ensures made { IfOk result (λ made. Makes command items.now made.code made.text) }

@@ -44,7 +44,7 @@ impl Model for Instance {
 }
 
 impl Instance {
-    /// An instance that holds no request. All its memory is taken here.
+    /// An instance that holds no request. All its memory is taken here. NoMemory where memory is refused.
     pub fn open(
         alloc: Global,
         grant: Grant,

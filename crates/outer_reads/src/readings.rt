@@ -38,7 +38,7 @@ enum Look {
     Wrong,
 }
 
-/// The reads of others, or the first wrong read of a transaction's own write.
+/// The reads of others, or the first wrong read of a transaction's own write. AllocError where memory is refused.
 pub fn readings_of(
     alloc: Global,
     transactions: &[Transaction],

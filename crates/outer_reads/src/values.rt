@@ -14,7 +14,7 @@ pub struct LastValues {
     values: HashMap<(usize, u64), u64>,
 }
 
-/// Of all operations.
+/// Of all operations. AllocError where memory is refused.
 pub fn last_values(alloc: Global, operations: &[Operation]) -> Result<LastValues, AllocError>
     ensures { IfOk result (λ last. HasLast operations.now last.values) }
 {

@@ -19,7 +19,7 @@ pub struct Writing {
     pub value: u64,
 }
 
-/// Each version of a committed transaction, once where no transaction writes a value twice.
+/// Each version of a committed transaction, once where no transaction writes a value twice. AllocError where memory is refused.
 pub fn writings_of(
     alloc: Global,
     transactions: &[Transaction],

@@ -64,7 +64,7 @@ impl StdSink {
         }
     }
 
-    /// Writes what was kept back. Ok only where this worked and no write failed before, so that all went out.
+    /// Writes what was kept back. Ok only where this worked and no write failed before, so that all went out; else Failed.
     pub fn finish(mut self) -> Result<(), Failed>
         ensures { OnOk result (⟦<StdSink as Sink>⟧.faults self ≡ 0) }
     {

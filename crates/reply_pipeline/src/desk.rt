@@ -94,7 +94,8 @@ impl<B: Steps, G: Gate> Desk<'_, B, G> {
     }
 
     /// Makes the stage's step for an entry's request, again and again while the stage is held or a commit below the request's start
-    /// is not settled. A request that is not there any more is passed over.
+    /// is not settled. A request that is not there any more is passed over. An Ending where the stage is to end: the queues are
+    /// closed, or memory was refused.
     pub fn step_in_turn<R: Wait>(
         &self,
         rt: &R,

@@ -52,7 +52,7 @@ impl Walk {
     }
 
     /// Gives a node its number, and with it all from which edges lead to it; or gives a node from which the last one of the path
-    /// has its next edge, and which is on the path too.
+    /// has its next edge, and which is on the path too. AllocError where memory is refused.
     pub fn visit(
         &mut self,
         edges: &[Edge],
@@ -75,7 +75,7 @@ impl Walk {
         }
     }
 
-    /// The edges from a node on the path to those before it, up to where the path came to it.
+    /// The edges from a node on the path to those before it, up to where the path came to it. AllocError where memory is refused.
     pub fn round(
         &self,
         alloc: Global,

@@ -32,7 +32,9 @@ use thread_scripts::actors_with_lines;
 
 /// Carries a script out over split stores, where each event passes the gate under the locks of its parts: the cluster that the logs
 /// settle into. Each line was carried out, and one that awaits a name behind the line that posts it; the history answers the
-/// script, serves it, and is as the script plans. That it ends is not promised: an actor may wait for what never comes.
+/// script, serves it, and is as the script plans. That it ends is not promised: an actor may wait for what never comes. Torn where
+/// an entry kept something else than comes of its event, Spent where an actor has drawn all its ticks, NoMemory where memory is
+/// refused.
 pub fn run_split<R: Threads + Wait + Sync, G: PartGate>(
     rt: &R,
     alloc: Global,

@@ -30,8 +30,8 @@ pub struct Acted {
 
 /// Makes the event of the parts that are lent, which agree: the items and the parts are those of the step of the filled state,
 /// which has the lent parts and is as at the opening elsewhere, under the fate that is planned for the store call, which is
-/// counted. After want of memory all parts are as before. Nothing is done where a lent record leases by other numbers than
-/// the setup.
+/// counted. After want of memory all parts are as before. Nothing is done where a lent record leases by other numbers than the
+/// setup. NoMemory where memory is refused.
 pub fn act(alloc: Global, lent: &mut Lent<'_>, event: &Event) -> Result<Acted, NoMemory>
     requires { Agrees (seen lent.old) event.now }
     ensures acted { LeasesBySetup (seen lent.old) → IfOk result (λ acted. Acts (seen lent.old) (seen lent.new) (timed_by (seen lent.old) event.now) acted) }

@@ -27,7 +27,7 @@ impl Plan {
     ghost use Rattle.std.specs.Prelude.{◌≤◌, All, IfOk};
     ghost use Rattle.split_parts.specs.Plans.{plan_data, planned_by};
 
-    /// What the script sets.
+    /// What the script sets. NoMemory where memory is refused.
     pub fn new(alloc: Global, script: &Script) -> Result<Plan, NoMemory>
         requires cache { script.now.setup.cache ≡ 0 }
         requires direct { script.now.setup.direct ≡ false }

@@ -14,7 +14,8 @@ pub struct Buffers {
 }
 
 impl Buffers {
-    /// A batch more than a node's workers can hold at once waits for them, and one is filled meanwhile.
+    /// A batch more than a node's workers can hold at once waits for them, and one is filled meanwhile. NoMemory where memory is
+    /// refused.
     pub fn open(alloc: Global, sizes: &Sizes) -> Result<Buffers, NoMemory>
         ensures count { IfOk result (λ buffers. buffers.pool.at_home ≡ replicate (sizes.now.workers + 2) true) }
         ensures room { IfOk result (λ buffers. buffers.pool.room ≡ sizes.now.batch) }

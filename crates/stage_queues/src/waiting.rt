@@ -125,7 +125,7 @@ impl Place {
     }
 }
 
-/// So many places to wait at, in a row.
+/// So many places to wait at, in a row. NoMemory where memory is refused.
 pub fn places(alloc: Global, row: Row, count: usize) -> Result<Vec<Place>, NoMemory>
     ensures count { IfOk result (λ places. vec_len places ≡ count) }
     ensures row { IfOk result (λ places. StandIn row places.items) }

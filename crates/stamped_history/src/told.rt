@@ -27,7 +27,8 @@ pub struct Told {
     pub keys: Vec<u64>,
 }
 
-/// What the history of the trace is told by, with stamps in the order of those that the numbers make.
+/// What the history of the trace is told by, with stamps in the order of those that the numbers make. Past where a limit of
+/// histories is not met; NoMemory where memory is refused.
 pub fn told_of(
     alloc: Global,
     level: Level,

@@ -36,7 +36,8 @@ pub struct Attempt {
     pub end: u64,
 }
 
-/// The transactions of the events: each event but an invocation is one, and so is an invocation that is left unanswered.
+/// The transactions of the events: each event but an invocation is one, and so is an invocation that is left unanswered. NoMemory
+/// where memory is refused.
 pub fn attempts_of(alloc: Global, events: &[Event]) -> Result<Vec<Attempt>, NoMemory>
     ensures { IfOk result (λ attempts. attempts.items ≡ attempts_of events.now) }
 {

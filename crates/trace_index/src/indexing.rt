@@ -26,7 +26,8 @@ pub struct Indexed {
     pub times: Vec<Times>,
 }
 
-/// The trace that the recording is judged by, or the first operation of which it is not clear who wrote what.
+/// The trace that the recording is judged by. At, with the first operation of which it is not clear who wrote what; NoMemory where
+/// memory is refused.
 pub fn index(alloc: Global, recording: &Recording) -> Result<Indexed, Fault>
     ensures indexed { IfOk result (λ found. IsIndexOf recording.now found.attempts.items found.trace found.times.items) }
     ensures unclear { IfErr result (Blames (operations_in recording.now)) }

@@ -16,7 +16,7 @@ pub struct Said {
     pub operation: Operation,
 }
 
-/// The operations of all transactions that count, each transaction's in its order.
+/// The operations of all transactions that count, each transaction's in its order. NoMemory where memory is refused.
 pub fn said_of_all(
     alloc: Global,
     attempts: &[Attempt],

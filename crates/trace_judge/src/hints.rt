@@ -176,7 +176,7 @@ fn places_of_readings(
     Ok(places)
 }
 
-/// For each reading the place of what was read, as in the hints.
+/// For each reading the place of what was read, as in the hints. AllocError where memory is refused.
 pub fn places_of(
     alloc: Global,
     readings: &[Reading],

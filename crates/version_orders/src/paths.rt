@@ -56,7 +56,7 @@ impl Paths {
         Ok(paths)
     }
 
-    /// Whether a path was found from one node to another, along which these numbers rise.
+    /// Whether a path was found from one node to another, along which these numbers rise. AllocError where memory is refused.
     pub fn lead(
         &mut self,
         edges: &[Edge],
