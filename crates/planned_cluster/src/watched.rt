@@ -64,7 +64,7 @@ impl WatchedCluster {
         })
     }
 
-    /// As the cluster makes it. With the cluster's errors.
+    /// As the cluster makes it, with its errors.
     pub fn make<W: Weather>(&mut self, weather: &mut W, event: &Event) -> Result<(), Stopped>
         requires { IsSteadyAt self.old.state.setup.skew self.old.state.seen (reading_of event.now) }
         ensures made { MakesStep (step_under (W.ahead weather.old) self.old.state event.now) self.old self.new result }
