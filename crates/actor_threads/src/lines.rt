@@ -18,7 +18,7 @@ pub struct LinesLeft<'a> {
 }
 
 impl<'a> LinesLeft<'a> {
-    /// Those behind the first so many of the actor's.
+    /// The actor's lines behind the first so many of them.
     pub fn after(actor: Actor, lines: &'a MarkedLines<'a>, done: u64) -> LinesLeft<'a>
         ensures actor { result.actor ≡ actor }
         ensures lines { result.lines.now ≡ lines.now }

@@ -43,7 +43,7 @@ impl Rows {
         }
     }
 
-    /// They ascend by key and version.
+    /// The rows ascend by key and version.
     pub fn are_ordered(&self)
         ensures { AreOrdered self.now }
     {

@@ -17,7 +17,7 @@ pub struct Head {
 }
 
 impl Head {
-    /// Of an empty bucket.
+    /// The head of an empty bucket.
     pub const EMPTY: Head = Head { len: 0, water: 0 };
 
     /// What a start is told of a key of this bucket, which keeps these pairs.

@@ -14,7 +14,7 @@ pub struct LastValues {
     values: HashMap<(usize, u64), u64>,
 }
 
-/// Of all operations. AllocError where memory is refused.
+/// The last values of all operations. AllocError where memory is refused.
 pub fn last_values(alloc: Global, operations: &[Operation]) -> Result<LastValues, AllocError>
     ensures { IfOk result (λ last. HasLast operations.now last.values) }
 {
@@ -26,7 +26,7 @@ pub fn last_values(alloc: Global, operations: &[Operation]) -> Result<LastValues
 }
 
 impl LastValues {
-    /// Of no operations.
+    /// The last values of no operations.
     pub fn new(alloc: Global) -> LastValues
         ensures { HasLast [] result.values }
     {

@@ -16,7 +16,7 @@ pub struct Cleared {
 }
 
 impl Cleared {
-    /// Of no items.
+    /// What no items have cleared.
     pub fn new(alloc: Global) -> Cleared
         ensures { (h : List Item) → AreCleared h [] result }
     {

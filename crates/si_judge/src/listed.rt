@@ -17,7 +17,7 @@ pub struct Listed {
 }
 
 impl Listed {
-    /// Of no items.
+    /// The transactions of no items.
     pub fn new(alloc: Global) -> Listed
         ensures { HasListed [] result.txns }
     {

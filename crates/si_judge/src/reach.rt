@@ -17,7 +17,7 @@ pub struct Reach {
 }
 
 impl Reach {
-    /// Of no writes yet, from a start on.
+    /// A reach from a start on, in which no writes are yet.
     pub fn from(key: KeyNo, start: Stamp) -> Reach
         ensures { (result.key ≡ key) × (result.from ≡ start) × (result.upto ≡ start) }
     {

@@ -17,7 +17,7 @@ pub struct LastWrites {
 }
 
 impl LastWrites {
-    /// Of no items.
+    /// The last writes of no items.
     pub fn new(alloc: Global) -> LastWrites
         ensures { HasLastWrites [] result.versions }
     {

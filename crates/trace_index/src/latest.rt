@@ -25,7 +25,7 @@ impl Model for Latest {
 impl Latest {
     ghost use Rattle.trace_index.specs.Attempts.{latest_of, with_latest};
 
-    /// Of no events.
+    /// The latest of no events.
     pub fn new(alloc: Global) -> Latest
         ensures { result ≡ [] }
     {
