@@ -14,17 +14,17 @@ use Rattle.history_reading.proofs.ReadingLemmas.{value_back}
 
 -- ---- options
 
-pub if_bind : {A B : Type 0} (m : Option A) {f : A → Option B} {P : A → Type 0} {Q : B → Type 0} → IfSome m P → ((x : A) → P x → IfSome (f x) Q) → IfSome (m >>= f) Q
-if_bind None h g = tt
-if_bind (Some x) h g = g x h
+pub if_bind : {A B : Type 0} (m : Option A) (f : A → Option B) {P : A → Type 0} (Q : B → Type 0) → IfSome m P → ((x : A) → P x → IfSome (f x) Q) → IfSome (m >>= f) Q
+if_bind None f Q h g = tt
+if_bind (Some x) f Q h g = g x h
 
-pub if_map : {A B : Type 0} (m : Option A) {f : A → B} {P : A → Type 0} {Q : B → Type 0} → IfSome m P → ((x : A) → P x → Q (f x)) → IfSome (option_map f m) Q
-if_map None h g = tt
-if_map (Some x) h g = g x h
+pub if_map : {A B : Type 0} (m : Option A) {f : A → B} {P : A → Type 0} (Q : B → Type 0) → IfSome m P → ((x : A) → P x → Q (f x)) → IfSome (option_map f m) Q
+if_map None Q h g = tt
+if_map (Some x) Q h g = g x h
 
-pub if_or : {A : Type 0} (one other : Option A) {Q : A → Type 0} → IfSome one Q → IfSome other Q → IfSome (option_or one other) Q
-if_or None other a b = b
-if_or (Some x) other a b = a
+pub if_or : {A : Type 0} (one other : Option A) (Q : A → Type 0) → IfSome one Q → IfSome other Q → IfSome (option_or one other) Q
+if_or None other Q a b = b
+if_or (Some x) other Q a b = a
 
 -- ---- texts
 
@@ -110,7 +110,7 @@ number_is (b ∷ bs) =
 pub field_is : (text bs : List ℕ) → IfSome (exact_field_at text bs) (IsFrontOf bs text)
 unfolding exact_field_at
 field_is text bs =
-    if_bind (after_text text bs) (after_is text bs) (λ rest is.
+    if_bind (after_text text bs) _ _ (after_is text bs) (λ rest is.
     IfSome_then (exact_number_at rest) (number_is rest) (λ found h. (is ∙ ap (λ more. text ++ more) h.0, h.1)))
 
 pub alone_is : (found : ℕ × List ℕ) → IfSome (alone found) (λ n. (found.0 ≡ n) × (found.1 ≡ []))
@@ -121,7 +121,7 @@ alone_is (n, b ∷ bs) = tt
 pub end_is : (text bs : List ℕ) → IfSome (exact_end_at text bs) (λ n. (bs ≡ text ++ decimal n) × IsNumber n)
 unfolding exact_end_at
 end_is text bs =
-    if_bind (exact_field_at text bs) (field_is text bs) (λ found h.
+    if_bind (exact_field_at text bs) _ _ (field_is text bs) (λ found h.
     IfSome_then (alone found) (alone_is found) (λ n last.
     let is : bs ≡ text ++ (decimal n ++ []) = h.0 ∙ rw (last.0, last.1) refl in
     let few : IsNumber n = rw (sym last.0) h.1 in
@@ -159,7 +159,7 @@ term_is n = IfSome_then (ranged 1 18446744073709551615 n) (in_range 1 1844674407
 -- a stamp that ends the bytes
 pub end_stamp_is : (text bs : List ℕ) → IfSome (exact_end_at text bs >>= stamp_of) (λ stamp. (bs ≡ text ++ decimal stamp) × IsStamp stamp)
 end_stamp_is text bs =
-    if_bind (exact_end_at text bs) (end_is text bs) (λ n a.
+    if_bind (exact_end_at text bs) _ _ (end_is text bs) (λ n a.
     IfSome_then (stamp_of n) (stamp_is n) (λ stamp c. (a.0 ∙ rw c.0 refl, c.1)))
 
 pub value_is : (bs : List ℕ) → IfSome (value_at bs) (λ value. (bs ≡ value) × IsValue value)
@@ -188,21 +188,41 @@ letter_is (b ∷ bs) =
 pub asked_is : (text bs : List ℕ) → IfSome (exact_asked_at text bs) (λ asked. bs ≡ text ++ (decimal asked.0 ++ 32 ∷ (97 + asked.1) ∷ asked.2))
 unfolding exact_asked_at
 asked_is text bs =
-    if_bind (exact_field_at text bs) (field_is text bs) (λ session a.
-    if_bind (after_text (codes " ") session.1) (after_is (codes " ") session.1) (λ rest b.
-    if_bind (letter_at rest) (letter_is rest) (λ node c.
+    if_bind (exact_field_at text bs) _ _ (field_is text bs) (λ session a.
+    if_bind (after_text (codes " ") session.1) _ _ (after_is (codes " ") session.1) (λ rest b.
+    if_bind (letter_at rest) _ _ (letter_is rest) (λ node c.
     a.0 ∙ ap (λ more. text ++ (decimal session.0 ++ more)) (b ∙ ap (λ more. 32 ∷ more) c))))
 
 pub started_is : (text bs : List ℕ) → IfSome (exact_started_at text bs) (λ begun. bs ≡ text ++ (decimal begun.0 ++ (codes " start=" ++ (decimal begun.1 ++ begun.2))))
 unfolding exact_started_at
 started_is text bs =
-    if_bind (exact_field_at text bs) (field_is text bs) (λ session a.
-    if_bind (exact_field_at (codes " start=") session.1) (field_is (codes " start=") session.1) (λ start b.
+    if_bind (exact_field_at text bs) _ _ (field_is text bs) (λ session a.
+    if_bind (exact_field_at (codes " start=") session.1) _ _ (field_is (codes " start=") session.1) (λ start b.
     a.0 ∙ ap (λ more. text ++ (decimal session.0 ++ more)) b.0))
 
 pub cell_is : (text bs : List ℕ) → IfSome (exact_cell_at text bs) (λ cell. bs ≡ text ++ (decimal cell.0 ++ (codes " " ++ (decimal cell.1 ++ cell.2))))
 unfolding exact_cell_at
 cell_is text bs =
-    if_bind (exact_field_at text bs) (field_is text bs) (λ key a.
-    if_bind (exact_field_at (codes " ") key.1) (field_is (codes " ") key.1) (λ txn b.
+    if_bind (exact_field_at text bs) _ _ (field_is text bs) (λ key a.
+    if_bind (exact_field_at (codes " ") key.1) _ _ (field_is (codes " ") key.1) (λ txn b.
     a.0 ∙ ap (λ more. text ++ (decimal key.0 ++ more)) b.0))
+
+-- ---- how texts are put together: as they are printed, and as they are read
+
+pub four : (a b c d : List ℕ) → a ++ (b ++ (c ++ d)) ≡ a ++ b ++ c ++ d
+four a b c d = simp append_assoc
+
+pub five : (a b c d e : List ℕ) → a ++ (b ++ (c ++ (d ++ e))) ≡ a ++ (b ++ c) ++ d ++ e
+five a b c d e = simp append_assoc
+
+pub seven : (a b c d e f g : List ℕ) → a ++ (b ++ (c ++ (d ++ (e ++ (f ++ g))))) ≡ a ++ (b ++ c) ++ d ++ e ++ f ++ g
+seven a b c d e f g = simp append_assoc
+
+pub nine : (a b c d e f g h i : List ℕ) → a ++ (b ++ (c ++ (d ++ (e ++ (f ++ (g ++ (h ++ i))))))) ≡ a ++ (b ++ c) ++ d ++ e ++ f ++ g ++ h ++ i
+nine a b c d e f g h i = simp append_assoc
+
+pub ten : (a b c d e f g h i j : List ℕ) → a ++ (b ++ (c ++ (d ++ (e ++ (f ++ (g ++ (h ++ (i ++ j)))))))) ≡ a ++ (b ++ c) ++ d ++ e ++ f ++ g ++ h ++ i ++ j
+ten a b c d e f g h i j = simp append_assoc
+
+pub keyed : (a b c d e f g h i j : List ℕ) → a ++ (b ++ (c ++ (d ++ (e ++ (f ++ (g ++ (h ++ (i ++ j)))))))) ≡ a ++ (b ++ c) ++ d ++ e ++ f ++ (g ++ h) ++ i ++ j
+keyed a b c d e f g h i j = simp append_assoc
