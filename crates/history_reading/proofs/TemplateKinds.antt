@@ -213,15 +213,19 @@ what_is (b ∷ bs) =
     elim (cases_Bool (b == 102)) [
       | inl e ↦ rw (e, told_same b 102 e) (fetch_is bs)
       | inr e ↦ rw e (elim (cases_Bool (b == 103)) [
-      | inl e ↦ rw (e, told_same b 103 e) (get_is bs)
-      | inr e ↦ rw e (elim (cases_Bool (b == 108)) [
-      | inl e ↦ rw (e, told_same b 108 e) (look_is bs)
-      | inr e ↦ rw e (elim (cases_Bool (b == 115)) [
-      | inl e ↦ rw (e, told_same b 115 e) (shadow_is bs)
-      | inr e ↦ rw e (elim (cases_Bool (b == 114)) [
-      | inl e ↦ rw (e, told_same b 114 e) (remove_is bs)
-      | inr e ↦ rw e tt
-    ])])])])]
+        | inl e ↦ rw (e, told_same b 103 e) (get_is bs)
+        | inr e ↦ rw e (elim (cases_Bool (b == 108)) [
+          | inl e ↦ rw (e, told_same b 108 e) (look_is bs)
+          | inr e ↦ rw e (elim (cases_Bool (b == 115)) [
+            | inl e ↦ rw (e, told_same b 115 e) (shadow_is bs)
+            | inr e ↦ rw e (elim (cases_Bool (b == 114)) [
+              | inl e ↦ rw (e, told_same b 114 e) (remove_is bs)
+              | inr e ↦ rw e tt
+            ])
+          ])
+        ])
+      ])
+    ]
 
 step_is : (bs : List ℕ) → IfSome (step_line bs) (IsLineOf 115 bs)
 unfolding step_line
@@ -248,18 +252,25 @@ template_is (b ∷ bs) =
     elim (cases_Bool (b == 97)) [
       | inl e ↦ rw (e, told_same b 97 e) (request_is bs)
       | inr e ↦ rw e (elim (cases_Bool (b == 98)) [
-      | inl e ↦ rw (e, told_same b 98 e) (begin_is bs)
-      | inr e ↦ rw e (elim (cases_Bool (b == 99)) [
-      | inl e ↦ rw (e, told_same b 99 e) (committed_is bs)
-      | inr e ↦ rw e (elim (cases_Bool (b == 100)) [
-      | inl e ↦ rw (e, told_same b 100 e) (draw_is bs)
-      | inr e ↦ rw e (elim (cases_Bool (b == 112)) [
-      | inl e ↦ rw (e, told_same b 112 e) (placed_is bs)
-      | inr e ↦ rw e (elim (cases_Bool (b == 114)) [
-      | inl e ↦ rw (e, told_same b 114 e) (read_is bs)
-      | inr e ↦ rw e (elim (cases_Bool (b == 115)) [
-      | inl e ↦ rw (e, told_same b 115 e) (step_is bs)
-      | inr e ↦ rw e (elim (cases_Bool (b == 119)) [
-      | inl e ↦ rw (e, told_same b 119 e) (write_is bs)
-      | inr e ↦ rw e tt
-    ])])])])])])])]
+        | inl e ↦ rw (e, told_same b 98 e) (begin_is bs)
+        | inr e ↦ rw e (elim (cases_Bool (b == 99)) [
+          | inl e ↦ rw (e, told_same b 99 e) (committed_is bs)
+          | inr e ↦ rw e (elim (cases_Bool (b == 100)) [
+            | inl e ↦ rw (e, told_same b 100 e) (draw_is bs)
+            | inr e ↦ rw e (elim (cases_Bool (b == 112)) [
+              | inl e ↦ rw (e, told_same b 112 e) (placed_is bs)
+              | inr e ↦ rw e (elim (cases_Bool (b == 114)) [
+                | inl e ↦ rw (e, told_same b 114 e) (read_is bs)
+                | inr e ↦ rw e (elim (cases_Bool (b == 115)) [
+                  | inl e ↦ rw (e, told_same b 115 e) (step_is bs)
+                  | inr e ↦ rw e (elim (cases_Bool (b == 119)) [
+                    | inl e ↦ rw (e, told_same b 119 e) (write_is bs)
+                    | inr e ↦ rw e tt
+                  ])
+                ])
+              ])
+            ])
+          ])
+        ])
+      ])
+    ]

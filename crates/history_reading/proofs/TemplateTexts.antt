@@ -66,13 +66,13 @@ digits_is n [] some small = (refl, small)
 digits_is n (b ∷ bs) some small =
     elim (cases_Bool ((nat_le 48 b && nat_le b 57) && nat_le n 1844674407370955160)) [
       | inl e ↦
-        let p = and_parts (nat_le 48 b && nat_le b 57) (nat_le n 1844674407370955160) e in
-        let q = and_parts (nat_le 48 b) (nat_le b 57) p.0 in
-        let low : 48 ≤ b = leb-true 48 b q.0 in
-        let high : b ≤ 57 = leb-true b 57 q.1 in
-        let few : n ≤ 1844674407370955160 = leb-true n 1844674407370955160 p.1 in
-        let more = digits_is (10 * n + (b - 48)) bs (omega arith) (omega arith) in
-        rw e (one_digit n b bs some few low high ∙ more.0, more.1)
+          let p = and_parts (nat_le 48 b && nat_le b 57) (nat_le n 1844674407370955160) e in
+          let q = and_parts (nat_le 48 b) (nat_le b 57) p.0 in
+          let low : 48 ≤ b = leb-true 48 b q.0 in
+          let high : b ≤ 57 = leb-true b 57 q.1 in
+          let few : n ≤ 1844674407370955160 = leb-true n 1844674407370955160 p.1 in
+          let more = digits_is (10 * n + (b - 48)) bs (omega arith) (omega arith) in
+          rw e (one_digit n b bs some few low high ∙ more.0, more.1)
       | inr e ↦ rw e (refl, small)
     ]
 
@@ -96,15 +96,15 @@ number_is [] = tt
 number_is (b ∷ bs) =
     elim (cases_Bool (nat_le 49 b && nat_le b 57)) [
       | inl e ↦
-        let p = and_parts (nat_le 49 b) (nat_le b 57) e in
-        let low : 49 ≤ b = leb-true 49 b p.0 in
-        let high : b ≤ 57 = leb-true b 57 p.1 in
-        let more = digits_is (b - 48) bs (omega arith) (omega arith) in
-        rw e (first_digit b bs low high ∙ more.0, more.1)
+          let p = and_parts (nat_le 49 b) (nat_le b 57) e in
+          let low : 49 ≤ b = leb-true 49 b p.0 in
+          let high : b ≤ 57 = leb-true b 57 p.1 in
+          let more = digits_is (b - 48) bs (omega arith) (omega arith) in
+          rw e (first_digit b bs low high ∙ more.0, more.1)
       | inr e ↦ rw e (elim (cases_Bool (b == 48)) [
         | inl z ↦ rw z (zero_alone b bs (told_same b 48 z), omega arith)
         | inr z ↦ rw z tt
-        ])
+      ])
     ]
 
 pub field_is : (text bs : List ℕ) → IfSome (exact_field_at text bs) (IsFrontOf bs text)
@@ -176,10 +176,10 @@ letter_is [] = tt
 letter_is (b ∷ bs) =
     elim (cases_Bool (nat_le 97 b && nat_le b 104)) [
       | inl e ↦
-        let p = and_parts (nat_le 97 b) (nat_le b 104) e in
-        let low : 97 ≤ b = leb-true 97 b p.0 in
-        let same : 97 + (b - 97) ≡ b = omega arith in
-        rw (e, same) refl
+          let p = and_parts (nat_le 97 b) (nat_le b 104) e in
+          let low : 97 ≤ b = leb-true 97 b p.0 in
+          let same : 97 + (b - 97) ≡ b = omega arith in
+          rw (e, same) refl
       | inr e ↦ rw e tt
     ]
 
