@@ -183,9 +183,9 @@ fn awaits_stamp(line: Option<Line>) -> bool
     }
 }
 
-// Waits until the actor is woken, also where there is room for a ticket that is not sent; the board is then asked whether its request
-// is still there. A wake since the actor's last step ends the wait at once. An actor that has not told for which name it waits tells
-// so, and asks the board once more. False where the queues are closed.
+// Waits until the actor is woken, also where there is room for a ticket that is not sent; the board is then asked whether its
+// request is still there. A wake since the actor's last step ends the wait at once. An actor that has not told for which name it
+// waits tells so, and asks the board once more. False where the queues are closed.
 fn wait<R: Wait, B: Steps + Sync, G: Gate>(
     rt: &R,
     shared: &Shared<'_, B, G>,

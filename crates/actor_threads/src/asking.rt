@@ -14,7 +14,9 @@ use thread_steps::Steps;
 /// A ticket for which the queue of the node had no room.
 #[derive(Clone, Copy)]
 pub struct Unsent {
+    /// The node whose queue was full.
     pub node: NodeNo,
+    /// The ticket, handed back.
     pub ticket: Ticket,
 }
 

@@ -22,15 +22,15 @@ struct Awaiter {
     place: AtomicUsize,
 }
 
-/// Where each actor with lines tells for which name it is going to wait. A name is posted by one line, so what an actor has told of a
-/// line that it has passed wakes it no more.
+/// Where each actor with lines tells for which name it is going to wait. A name is posted by one line, so what an actor has told of
+/// a line that it has passed wakes it no more.
 #[derive(Drop)]
 pub struct Awaiters {
     all: Vec<Awaiter>,
 }
 
 impl Awaiters {
-    /// Nobody waits for a name.
+    /// Nobody waits for a name. NoMemory where memory is refused.
     pub fn open<L: Ledger>(alloc: Global, shares: &[ActorShare<L>]) -> Result<Awaiters, NoMemory> {
         let mut all = Vec::with_capacity(alloc, shares.len())?;
         for mine in shares {

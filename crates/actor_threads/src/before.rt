@@ -9,8 +9,11 @@ use thread_steps::ActorShare;
 /// A share as it was before its actor's thread began.
 #[derive(Clone, Copy)]
 pub struct Before {
+    /// The actor.
     pub actor: Actor,
+    /// How many of its lines were done.
     pub done: u64,
+    /// The node that the share was aimed at as the master.
     pub aim: NodeNo,
 }
 

@@ -8,6 +8,7 @@ use std::alloc::Global;
 /// The queues, and the passes of all who use them.
 #[derive(Drop)]
 pub struct Crew {
+    /// The queues of all nodes.
     pub queues: Queues,
     /// Node by node, those of the stages.
     pub stages: Vec<StagePass>,
@@ -16,7 +17,7 @@ pub struct Crew {
 }
 
 impl Crew {
-    /// All memory of queues, pools and passes is taken here.
+    /// All memory of queues, pools and passes is taken here. NoMemory where memory is refused.
     pub fn open(alloc: Global, setup: &Setup, actors: usize) -> Result<Crew, NoMemory>
         ensures stages { IfOk result (λ crew. AreReady crew.queues setup.now.workers crew.stages.items) }
         ensures senders { IfOk result (λ crew. All (IsSenderPass crew.queues) crew.senders.items) }

@@ -10,6 +10,7 @@ use script_data::{Line, Verb};
 /// The lines of an actor that are not done, among those of others.
 #[derive(Drop)]
 pub struct LinesLeft<'a> {
+    /// The actor.
     pub actor: Actor,
     lines: &'a MarkedLines<'a>,
     // They stand from this place on.
@@ -17,7 +18,7 @@ pub struct LinesLeft<'a> {
 }
 
 impl<'a> LinesLeft<'a> {
-    /// Those behind the first so many of the actor's.
+    /// The actor's lines behind the first so many of them.
     pub fn after(actor: Actor, lines: &'a MarkedLines<'a>, done: u64) -> LinesLeft<'a>
         ensures actor { result.actor ≡ actor }
         ensures lines { result.lines.now ≡ lines.now }

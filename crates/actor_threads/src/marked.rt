@@ -32,7 +32,7 @@ impl<'a> Model for MarkedLines<'a> {
 }
 
 impl<'a> MarkedLines<'a> {
-    /// Marks these lines.
+    /// Marks these lines. NoMemory where memory is refused.
     pub fn of(alloc: Global, lines: &'a [Line]) -> Result<MarkedLines<'a>, NoMemory>
         ensures { IfOk result (λ made. made ≡ lines.now) }
     {

@@ -14,7 +14,7 @@ use std::sync::Wait;
 use std::sync::ledger::Ledger;
 use thread_steps::{ActorShare, Steps};
 
-/// So many passes of the beacon.
+/// So many passes of the beacon. NoMemory where memory is refused.
 pub fn open_sights<R: Wait>(
     rt: &R,
     alloc: Global,

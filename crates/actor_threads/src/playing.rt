@@ -25,9 +25,9 @@ use std::thread;
 use std::thread::Threads;
 use thread_steps::{ActorShare, ActorSteps, Steps};
 
-/// Carries the lines out at the board: the actor of each share and every stage of each node on a thread of its own. It ends once all
-/// of them have, and gives back the shares, in their order. Where a thread cannot be made, actors that would wait end before their
-/// lines do. What memory is taken here is taken before the first thread starts.
+/// Carries the lines out at the board: the actor of each share and every stage of each node on a thread of its own. It ends once
+/// all of them have, and gives back the shares, in their order. Where a thread cannot be made, actors that would wait end before
+/// their lines do. What memory is taken here is taken before the first thread starts. NoMemory where memory is refused.
 pub fn play<
     L: Ledger + Send + Sync,
     R: Threads + Wait + Sync,

@@ -11,14 +11,21 @@ use thread_steps::Steps;
 /// What all threads share.
 #[derive(Drop)]
 pub struct Shared<'a, B: Steps + Sync, G: Gate> {
+    /// The script's setup.
     pub setup: Setup,
+    /// All lines of the script.
     pub lines: &'a MarkedLines<'a>,
+    /// The board that makes the events.
     pub board: &'a B,
+    /// The queues of all nodes.
     pub queues: &'a Queues,
+    /// The gate that stages pass.
     pub gate: &'a G,
     /// Sessions look at it, and nodes tell it through the desk.
     pub beacon: &'a Beacon,
+    /// The publisher of who took the last term, for the node that has taken one.
     pub desk: Mutex<Desk<'a>>,
+    /// Which actors wait for which name.
     pub awaiters: Awaiters,
     /// Whether memory was refused.
     pub short: AtomicBool,

@@ -11,7 +11,8 @@ use std::sync::Wait;
 use std::thread::{Scope, Threads};
 use thread_steps::Steps;
 
-/// Starts every stage of every node. Where no thread can be made the queues are closed, so that nobody waits for this stage for ever.
+/// Starts every stage of every node. Where no thread can be made the queues are closed, so that nobody waits for this stage for
+/// ever.
 pub fn start_stages<
     's,
     'a: 's,

@@ -13,6 +13,7 @@ use thread_steps::Steps;
 /// Who may wait for what a line does.
 #[derive(Clone, Copy, Debug, PartialEq, Eq)]
 pub enum Woken {
+    /// The line ends nobody's wait.
     Nobody,
     /// The actors that wait for the name.
     AwaitersOf(Name),

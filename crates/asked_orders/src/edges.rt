@@ -26,7 +26,7 @@ pub struct Nodes {
     pub all: usize,
 }
 
-/// Lays, behind the others, edges of the order that is asked for.
+/// Lays, behind the others, edges of the order that is asked for. AllocError where memory is refused.
 pub fn lay_asked(
     edges: &mut Vec<Edge>,
     wanted: Wanted,

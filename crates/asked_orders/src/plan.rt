@@ -6,7 +6,9 @@ use trace_rules::{Level, Times, Transaction, Wanted};
 /// A committed transaction of a process.
 #[derive(Clone, Copy)]
 pub struct Turn {
+    /// The process's number.
     pub process: u64,
+    /// The transaction's place.
     pub txn: usize,
 }
 
@@ -21,7 +23,7 @@ pub struct Plan {
     pub moments: Vec<u64>,
 }
 
-/// The plan of an order that is asked for. It takes a time in proportion to n log n.
+/// The plan of an order that is asked for. It takes a time in proportion to n log n. AllocError where memory is refused.
 pub fn plan_of(
     alloc: Global,
     wanted: Wanted,

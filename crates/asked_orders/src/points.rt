@@ -6,6 +6,8 @@ ghost use Rattle.trace_rules.specs.Wants.{moments_of};
 
 use trace_rules::{Level, Times, Transaction};
 
+/// The moment behind which the transaction's start surely lies: when its begin was asked for. None where that is not known, or
+/// there is no such transaction.
 pub fn from_start(level: Level, times: &[Times], txn: usize) -> Option<u64>
     ensures { result ≡ (moments_of level times.now).from (Start txn) }
 {
@@ -15,6 +17,8 @@ pub fn from_start(level: Level, times: &[Times], txn: usize) -> Option<u64>
     }
 }
 
+/// The moment before which the transaction's start surely lies: when it had begun. None at the serializable level, where that is
+/// not known, and where there is no such transaction.
 pub fn until_start(level: Level, times: &[Times], txn: usize) -> Option<u64>
     ensures { result ≡ (moments_of level times.now).until (Start txn) }
 {
@@ -27,6 +31,8 @@ pub fn until_start(level: Level, times: &[Times], txn: usize) -> Option<u64>
     }
 }
 
+/// The moment behind which the transaction's commit surely lies: when it was asked for. None at the serializable level, where that
+/// is not known, and where there is no such transaction.
 pub fn from_commit(level: Level, times: &[Times], txn: usize) -> Option<u64>
     ensures { result ≡ (moments_of level times.now).from (Commit txn) }
 {
@@ -39,6 +45,8 @@ pub fn from_commit(level: Level, times: &[Times], txn: usize) -> Option<u64>
     }
 }
 
+/// The moment before which the transaction's commit surely lies: when it was completed. None where that is not known, or there is
+/// no such transaction.
 pub fn until_commit(level: Level, times: &[Times], txn: usize) -> Option<u64>
     ensures { result ≡ (moments_of level times.now).until (Commit txn) }
 {
@@ -48,6 +56,7 @@ pub fn until_commit(level: Level, times: &[Times], txn: usize) -> Option<u64>
     }
 }
 
+/// Whether the transaction committed. False where there is no such transaction.
 pub fn is_committed(transactions: &[Transaction], txn: usize) -> bool
     ensures { result ≡ committed_in (slice_get transactions.now txn) }
 {

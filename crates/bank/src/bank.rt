@@ -82,8 +82,8 @@ impl Bank {
         told(self.cluster.accept(node, session, reading))
     }
 
-    /// The clock's reading. The cluster asks for steady readings, and nothing else: behind none before it, but for the skew, which is not
-    /// asked for here, since all nodes read one clock, and far from the end of the numbers.
+    /// The clock's reading. The cluster asks for steady readings, and nothing else: behind none before it, but for the skew, which
+    /// is not asked for here, since all nodes read one clock, and far from the end of the numbers.
     fn reading(&self) -> Result<u64, Failure>
         ensures far { IfOk result (λ reading. reading ≤ 2 ^ 61) }
         ensures steady { IfOk result (λ reading. self.now.cluster.state.seen ≤ reading + self.now.cluster.state.setup.skew) }

@@ -7,7 +7,9 @@ pub struct BatchAccount {
     pub sends: bool,
     /// Its parts of the right to know everything.
     pub parts: u64,
+    /// The batches put through the pass, in order.
     pub put: LinkedList<Numbered>,
+    /// The batches taken through the pass, in order.
     pub taken: LinkedList<Numbered>,
     /// What was taken through each pass that was joined to this one.
     pub others: LinkedList<LinkedList<Numbered>>,

@@ -46,7 +46,7 @@ impl Model for BatchPass {
 }
 
 impl BatchRing {
-    /// A ring for `room` batches, and the sender's pass, which has every part.
+    /// A ring for `room` batches, and the sender's pass, which has every part. NoMemory where memory is refused.
     pub fn open(alloc: Global, room: usize) -> Result<(BatchRing, BatchPass), NoMemory>
         requires { 0 < room }
         ensures { IfOk result (λ opened. (opened.0.room ≡ room) × (opened.1 ≡ holds opened.0.id first_account)) }

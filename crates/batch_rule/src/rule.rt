@@ -4,8 +4,10 @@ use crossbeam_queue::protocol::{Join, Lesson, Outcome, Protocol, Split};
 use crossbeam_queue::{Pass, RuledArrayQueue};
 use persist_batches::Numbered;
 
+/// A ring of numbered batches under the rule InOrder.
 pub type Ruled = RuledArrayQueue<Numbered, BatchAccount, InOrder>;
 
+/// A pass of a ring of batches, with its account.
 pub type RuledPass = Pass<Numbered, BatchAccount>;
 
 /// The batches that were taken are the first that were sent.

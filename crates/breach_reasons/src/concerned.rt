@@ -10,8 +10,9 @@ use si_judge::Rule;
 use stamp_base::{NoMemory, Stamp};
 use std::alloc::Global;
 
-/// The items of the transactions that the finding concerns, in order: those of its two items, and with a read the one that its answer
-/// came from. Where a start is not above a commit, the ask for it too. None where nothing is broken.
+/// The items of the transactions that the finding concerns, in order: those of its two items, and with a read the one that its
+/// answer came from. Where a start is not above a commit, the ask for it too. None where nothing is broken. NoMemory where memory
+/// is refused.
 pub fn breach_items(alloc: Global, items: &[Item], found: &Finding) -> Result<Vec<Chosen>, NoMemory>
     ensures { IfOk result (λ chosen. chosen.items ≡ breach_items items.now found.now) }
 {
@@ -21,7 +22,7 @@ pub fn breach_items(alloc: Global, items: &[Item], found: &Finding) -> Result<Ve
     choose_about(alloc, items, &starts, &numbers)
 }
 
-/// The numbers of the two items of the finding, counted from 1.
+/// The numbers of the two items of the finding, counted from 1. NoMemory where memory is refused.
 pub fn ringed(alloc: Global, found: &Finding) -> Result<Vec<u64>, NoMemory>
     ensures { IfOk result (λ numbers. numbers.items ≡ ringed found.now) }
 {

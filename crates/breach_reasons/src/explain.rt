@@ -12,7 +12,7 @@ use refusal_reasons::{Clue, print_named, seek};
 use si_judge::Rule;
 use stamp_base::{KeyNo, NoMemory, TxnId, Value};
 
-/// Adds what was found: in a line, and below it what shows it and what would have been right.
+/// Adds what was found: in a line, and below it what shows it and what would have been right. NoMemory where memory is refused.
 pub fn print_finding(
     text: &mut Text,
     items: &[Item],

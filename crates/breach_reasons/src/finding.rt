@@ -15,20 +15,21 @@ use std::alloc::Global;
 pub enum Finding {
     /// Isolated, and serial where that was asked too.
     Sound,
-    /// The first rule of isolation that is broken, and the two items that break it.
+    /// The first rule of isolation that is broken, and the numbers of two items that break it, counted from 1.
     Broken {
         rule: Rule,
         first: usize,
         second: usize,
     },
-    /// Isolated and not serial: a read, and a placed commit that crosses it.
+    /// Isolated and not serial: the numbers of a read and of a placed commit that crosses it, counted from 1.
     Crossed {
         read: usize,
         placed: usize,
     },
 }
 
-/// Judges whether the items of a finished history are isolated and, where it is strict, serial too.
+/// Judges whether the items of a finished history are isolated and, where it is strict, serial too. As with the judges, the answer
+/// is never NoMemory.
 pub fn find(alloc: Global, items: &[Item], strict: bool) -> Result<Finding, NoMemory>
     ensures { IfOk result (λ found. IsFound strict items.now found) }
 {
@@ -59,7 +60,7 @@ fn find_crossing(alloc: Global, items: &[Item], strict: bool) -> Result<Finding,
     }
 }
 
-/// Adds in a line, with no line feed, what was found.
+/// Adds in a line, with no line feed, what was found. NoMemory where memory is refused.
 #[tactic(auto, unfolding(crate::specs::Findings::finding_line))]
 pub fn print_line(
     text: &mut Text,

@@ -14,7 +14,9 @@ use std::marker::Model;
 /// The reader's start is below the water: what it would see may be gone.
 #[derive(Clone, Copy, Debug, PartialEq, Eq)]
 pub struct TooOld {
+    /// The reader's start.
     pub start: Stamp,
+    /// The water, the oldest start that may still read.
     pub water: Stamp,
 }
 
@@ -40,8 +42,8 @@ impl Model for Archive {
 }
 
 impl Archive {
-    /// Drops the versions that no reader at the water or above it can see. It costs a look at each row, one at the table
-    /// for a bare one, and a search by halves for each key.
+    /// Drops the versions that no reader at the water or above it can see. It costs a look at each row, one at the table for a bare
+    /// one, and a search by halves for each key. NoMemory where memory is refused.
     pub fn compact(
         alloc: Global,
         cells: Cells,

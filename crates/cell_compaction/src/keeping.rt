@@ -10,7 +10,7 @@ use commit_table::Table;
 use stamp_base::{KeyNo, Mark, NoMemory, Stamp};
 use std::alloc::Global;
 
-/// Each row with its commit as shadow.
+/// Each row with its commit as shadow. NoMemory where memory is refused.
 pub fn with_commits(alloc: Global, rows: &[Row], table: &Table) -> Result<Vec<Row>, NoMemory>
     ensures { IfOk result (λ filled. map row_of filled.items ≡ with_commits table.now.pairs (map row_of rows.now)) }
 {
@@ -46,7 +46,7 @@ fn commit_in(found: &Option<Mark>) -> Option<Stamp>
     }
 }
 
-/// The rows that stay, of rows with their commits.
+/// The rows that stay, of rows with their commits. NoMemory where memory is refused.
 pub fn kept(alloc: Global, rows: &[Row], water: Stamp) -> Result<Vec<Row>, NoMemory>
     requires { AreOrdered (map row_of rows.now) }
     ensures { IfOk result (λ kept. map row_of kept.items ≡ kept_of (map row_of rows.now) water (map row_of rows.now)) }

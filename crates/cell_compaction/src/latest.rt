@@ -11,8 +11,11 @@ use stamp_base::{KeyNo, Stamp, TxnId, Value};
 /// A row of a key that a reader finds, with its commit.
 #[derive(Clone, Copy, Debug, PartialEq, Eq)]
 pub struct Latest {
+    /// The commit of the transaction that wrote it.
     pub commit: Stamp,
+    /// The transaction that wrote it, by its start.
     pub version: TxnId,
+    /// What it wrote.
     pub value: Value,
 }
 

@@ -12,12 +12,14 @@ use std::collections::BTreeMap;
 /// A version with its key.
 #[derive(Clone, Copy, Debug, PartialEq, Eq)]
 pub struct Row {
+    /// The key.
     pub key: KeyNo,
+    /// The version, with its value and shadow.
     pub cell: Cell,
 }
 
 impl Cells {
-    /// The rows, by rising keys and versions. Where memory is refused the cells are gone.
+    /// The rows, by rising keys and versions. NoMemory where memory is refused: then the cells are gone.
     pub fn into_rows(self) -> Result<Vec<Row>, NoMemory>
         ensures rows { IfOk result (λ rows. map row_of rows.items ≡ self.rows) }
         ensures ordered { AreOrdered self.rows }
@@ -26,7 +28,7 @@ impl Cells {
     }
 }
 
-/// The rows of all lists, list by list.
+/// The rows of all lists, list by list. NoMemory where memory is refused.
 pub fn rows_in(alloc: Global, lists: &BTreeMap<KeyNo, Vec<Cell>>) -> Result<Vec<Row>, NoMemory>
     ensures { IfOk result (λ rows. map row_of rows.items ≡ rows_of lists.now.entries) }
 {

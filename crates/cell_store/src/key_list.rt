@@ -28,7 +28,7 @@ fn search_upto(cells: &[Cell], upto: Stamp) -> &[Cell]
     &cells[..count]
 }
 
-/// The cells from the last one on.
+/// The cells from the last one on. AllocError where memory is refused.
 pub fn turned(alloc: Global, cells: &[Cell]) -> Result<Vec<Cell>, AllocError>
     ensures { IfOk result (λ turned. turned.items ≡ reverse cells.now) }
 {
@@ -116,7 +116,7 @@ pub fn cell_of(cells: &[Cell], version: Stamp) -> Option<Cell>
     }
 }
 
-/// The list of one bare cell.
+/// The list of one bare cell. NoMemory where memory is refused.
 pub fn of_one(alloc: Global, version: Stamp, value: Value) -> Result<Vec<Cell>, NoMemory>
     ensures { IfOk result (λ cells. cells.items ≡ rows.bare_cell version value ∷ []) }
 {
@@ -133,7 +133,7 @@ fn bare(version: Stamp, value: Value) -> Cell
     }
 }
 
-/// Adds a bare cell of a version that has none.
+/// Adds a bare cell of a version that has none. NoMemory where memory is refused, and then the list is as before.
 pub fn enter(cells: &mut Vec<Cell>, version: Stamp, value: Value) -> Result<(), NoMemory>
     requires { AreRising cells.old.items }
     ensures ok { OnOk result ((k : ℕ) → looked (rows_at k cells.old.items) k version ≡ None →

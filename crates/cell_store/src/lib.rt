@@ -48,7 +48,9 @@ impl Model for Cells {
 /// down to the first whose shadow is below the start, or else all. No read goes further down than that one.
 #[derive(Drop)]
 pub struct Front {
+    /// How many versions of the key there are up to the start.
     pub versions: u64,
+    /// The cells that the reader needs.
     pub cells: Vec<Cell>,
 }
 
@@ -64,8 +66,8 @@ impl Cells {
         }
     }
 
-    /// Writes a value into the row that is there, or as a new bare one. After NoMemory the store is as before and the
-    /// weather was not asked; after a StoreFault the row was put exactly where the fate is FailsApplied.
+    /// Writes a value into the row that is there, or as a new bare one. NoMemory or StoreFault, as a StoreError: after NoMemory the
+    /// store is as before and the weather was not asked; after a StoreFault the row was put exactly where the fate is FailsApplied.
     #[tactic(auto, using(crate::proofs::Entries::kept_entry))]
     pub fn put<W: Weather>(
         &mut self,
@@ -92,7 +94,8 @@ impl Cells {
         Ok(answered_under(fate, ())?)
     }
 
-    /// The key's cells of version at most `upto`, in one step, the greatest version first.
+    /// The key's cells of version at most `upto`, in one step, the greatest version first. NoMemory or StoreFault, as a StoreError:
+    /// after NoMemory the weather was not asked.
     pub fn fetch<W: Weather>(
         &self,
         weather: &mut W,
@@ -111,8 +114,8 @@ impl Cells {
         Ok(answered_under(weather.next(Store::Cells), all.cells)?)
     }
 
-    /// What a reader with this start needs of the key, without a store call: a fetch gathers it before its call. It costs a
-    /// search by halves and the cells that it gives, however many versions the key has.
+    /// What a reader with this start needs of the key, without a store call: a fetch gathers it before its call. It costs a search
+    /// by halves and the cells that it gives, however many versions the key has. NoMemory where memory is refused.
     pub fn front(&self, key: KeyNo, start: Stamp) -> Result<Front, NoMemory>
         ensures versions { IfOk result (λ front. front.versions ≡ length (fetched self.now.rows key start)) }
         ensures cells { IfOk result (λ front. front.cells.items ≡ front_of start (fetched self.now.rows key start)) }
@@ -124,7 +127,7 @@ impl Cells {
         Ok(front)
     }
 
-    /// The cell of the key and the version, in one step. None exactly where there is no such row.
+    /// The cell of the key and the version, in one step. None exactly where there is no such row. StoreFault where the store fails.
     pub fn look<W: Weather>(
         &self,
         weather: &mut W,
@@ -147,7 +150,8 @@ impl Cells {
         self.rows.cell(key, version)?.shadow
     }
 
-    /// Sets the shadow of the row that is there. Where no such row is there, nothing changes.
+    /// Sets the shadow of the row that is there. Where no such row is there, nothing changes. After a StoreFault it was set exactly
+    /// where the fate is FailsApplied.
     pub fn set_shadow<W: Weather>(
         &mut self,
         weather: &mut W,
@@ -166,7 +170,7 @@ impl Cells {
         answered_under(fate, ())
     }
 
-    /// Removes a bare row. One with a shadow stays.
+    /// Removes a bare row. One with a shadow stays. After a StoreFault it was removed exactly where the fate is FailsApplied.
     pub fn remove_bare<W: Weather>(
         &mut self,
         weather: &mut W,
@@ -183,7 +187,8 @@ impl Cells {
         answered_under(fate, ())
     }
 
-    /// The keys of the version's rows, ascending.
+    /// The keys of the version's rows, ascending. NoMemory or StoreFault, as a StoreError: after NoMemory the weather was not
+    /// asked.
     pub fn keys_of<W: Weather>(
         &self,
         weather: &mut W,

@@ -43,7 +43,7 @@ impl Rows {
         }
     }
 
-    /// They ascend by key and version.
+    /// The rows ascend by key and version.
     pub fn are_ordered(&self)
         ensures { AreOrdered self.now }
     {
@@ -80,7 +80,7 @@ impl Rows {
     }
 
     /// Of the key's cells of version at most `upto`, how many there are, and those that the reader needs, the greatest version
-    /// first.
+    /// first. NoMemory where memory is refused.
     pub fn front(&self, key: KeyNo, upto: Stamp, reader: Option<Stamp>) -> Result<Front, NoMemory>
         ensures versions { IfOk result (λ front. front.versions ≡ length (fetched self.now key upto)) }
         ensures cells { IfOk result (λ front. front.cells.items ≡ needed_by reader (fetched self.now key upto)) }
@@ -94,7 +94,7 @@ impl Rows {
         })
     }
 
-    /// Adds a bare row where there is none.
+    /// Adds a bare row where there is none. NoMemory where memory is refused.
     pub fn enter(&mut self, key: KeyNo, version: Stamp, value: Value) -> Result<(), NoMemory>
         requires { looked self.old key version ≡ None }
         ensures ok { OnOk result (self.new ≡ put_row self.old key version value) }
@@ -139,7 +139,7 @@ impl Rows {
         key_list::remove_bare(cells, version);
     }
 
-    /// The rows as a list.
+    /// The rows as a list. NoMemory where memory is refused.
     pub fn into_rows(self) -> Result<Vec<Row>, NoMemory>
         ensures rows { IfOk result (λ rows. map row_of rows.items ≡ self) }
         ensures ordered { AreOrdered self }

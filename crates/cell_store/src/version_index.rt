@@ -10,7 +10,8 @@ use std::cmp::Reverse;
 use std::collections::BTreeSet;
 use std::ops::Bound;
 
-/// The keys from the first place to the last, in order. The index has the greatest version first.
+/// The keys from the first place to the last, in order. The index has the greatest version first. AllocError where memory is
+/// refused.
 pub fn keys_from_to(
     alloc: Global,
     index: &BTreeSet<(Reverse<Stamp>, KeyNo)>,

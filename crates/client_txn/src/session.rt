@@ -42,7 +42,7 @@ impl Session {
         Session::with_memory(None)
     }
 
-    /// A free session, which remembers so many decisions; none where the number is 0.
+    /// A free session, which remembers so many decisions; none where the number is 0. NoMemory where memory is refused.
     pub fn with_cache(alloc: Global, cache: u64) -> Result<Session, NoMemory>
         ensures { IfOk result (λ session. session ≡ opened_with cache) }
     {

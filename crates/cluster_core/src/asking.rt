@@ -34,6 +34,7 @@ impl ClusterState {
     }
 
     /// Makes the room that an event needs which serves a request, as an accept reserves it otherwise. State and history stay.
+    /// NoMemory where memory is refused.
     pub fn make_ready(&mut self, event: &Event) -> Result<(), NoMemory>
         ensures ready { OnOk result (HasRoomFor self.new event.now) }
         ensures state { self.new.state ≡ self.old.state }

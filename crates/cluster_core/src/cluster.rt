@@ -21,9 +21,9 @@ use std::alloc::Global;
 use std::marker::Model;
 use system_parts::Place;
 
-/// The nodes with their oracles, the sessions, the janitor and the stores, with the history of their events. Each event is
-/// one call. The history is isolated, each of its refusals is shown by what stands before it, and where the setup asks for strict
-/// reads it is serial.
+/// The nodes with their oracles, the sessions, the janitor and the stores, with the history of their events. Each event is one
+/// call. The history is isolated, each of its refusals is shown by what stands before it, and where the setup asks for strict reads
+/// it is serial. Readings are in ticks of the base clock.
 #[derive(Drop)]
 pub struct Cluster {
     pub(crate) engine: ClusterState,
@@ -45,7 +45,7 @@ impl Model for Cluster {
 }
 
 impl Cluster {
-    /// The record is free, the stores are empty, the sessions are free, and so is the history.
+    /// The record is free, the stores are empty, the sessions are free, and so is the history. NoMemory where memory is refused.
     pub fn open(alloc: Global, setup: Setup) -> Result<Cluster, NoMemory>
         ensures state { IfOk result (λ made. made.state ≡ opening (numbers_of setup)) }
         ensures history { IfOk result (λ made. made.history ≡ []) }
@@ -56,10 +56,10 @@ impl Cluster {
         })
     }
 
-    /// The event is one step of the machine, under the fate that the weather has ahead for the one store that it asks. Where
-    /// memory is refused all is as before, and the weather was not asked; it is never refused to an event that serves a request
-    /// which was accepted, since an accept reserves room for all that is still appended for the request. A reading is behind none
-    /// before it by more than the skew, and far from the end of the numbers.
+    /// The event is one step of the machine, under the fate that the weather has ahead for the one store that it asks. Refused
+    /// where the machine refuses it, and StoreFault where that store fails. At NoMemory all is as before, and the weather was not
+    /// asked; no event that serves an accepted request meets it, since an accept reserves room for all that is still appended for
+    /// the request. A reading is behind none before it by more than the skew, and far from the end of the numbers.
     pub fn make<W: Weather>(&mut self, weather: &mut W, event: &Event) -> Result<(), Stopped>
         requires { IsSteadyAt self.old.state.setup.skew self.old.state.seen (reading_of event.now) }
         ensures made { MakesStep (step_under (W.ahead weather.old) self.old.state event.now) self.old self.new result }
@@ -88,7 +88,7 @@ impl Cluster {
         self.engine.spare()
     }
 
-    /// The greatest reading that was handed in, at first 0.
+    /// The greatest reading that was handed in, in ticks, at first 0.
     pub fn seen(&self) -> u64
         ensures { result ≡ self.now.state.seen }
     {

@@ -56,7 +56,8 @@ impl Model for ClusterState {
 }
 
 impl ClusterState {
-    /// The record is free, the stores are empty, no node has an instance, all sessions are free, and the history is empty.
+    /// The record is free, the stores are empty, no node has an instance, all sessions are free, and the history is empty. NoMemory
+    /// where memory is refused.
     pub fn open(alloc: Global, setup: Setup) -> Result<ClusterState, NoMemory>
         ensures state { IfOk result (λ made. made.state ≡ opening (numbers_of setup)) }
         ensures history { IfOk result (λ made. made.history ≡ []) }
@@ -76,8 +77,9 @@ impl ClusterState {
         })
     }
 
-    /// The event is one step of the machine, as far as its calls on the parts may be made. A node that is none of the setup's
-    /// has no part in the system, and nothing happens there.
+    /// The event is one step of the machine, as far as its calls on the parts may be made. A node that is none of the setup's has
+    /// no part in the system, and nothing happens there. Refused where the machine refuses it, StoreFault where the store that it
+    /// asks fails, and NoMemory where memory is refused.
     pub fn make<W: Weather>(&mut self, weather: &mut W, event: &Event) -> Result<(), Stopped>
         requires may { CanMake self.old.state event.now }
         requires room { HasRoomFor self.old event.now }

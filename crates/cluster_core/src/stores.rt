@@ -10,8 +10,11 @@ use history_book::Book;
 /// The cells, the commit table and the history of a cluster.
 #[derive(Drop)]
 pub struct Stores {
+    /// The rows.
     pub cells: Cells,
+    /// The commit table.
     pub table: Table,
+    /// The history.
     pub book: Book,
 }
 

@@ -1,5 +1,5 @@
-//! What a line of a script does, event by event, and why the history of a script has the faults, the ticks and the readings that the
-//! script plans, whatever the order that events are made in.
+//! What a line of a script does, event by event, and why the history of a script has the faults, the ticks and the readings that
+//! the script plans, whatever the order that events are made in.
 #![tactic(auto)]
 
 mod choosing;

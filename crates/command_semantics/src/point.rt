@@ -42,9 +42,13 @@ pub enum Interruption {
 /// it stands, whether the request is a commit, and whether a sweep is open.
 #[derive(Clone, Copy, Debug, PartialEq, Eq)]
 pub struct View {
+    /// What the session is doing.
     pub doing: Doing,
+    /// The node that holds the session's request, and the place where that stands. None without a request in flight.
     pub request: Option<(NodeNo, Place)>,
+    /// Whether the request is a commit.
     pub commit: bool,
+    /// Whether a sweep is open.
     pub sweeping: bool,
 }
 

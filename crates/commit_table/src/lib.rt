@@ -62,7 +62,7 @@ impl Table {
         self.pairs.get(&txn.value()).copied()
     }
 
-    /// The transaction's mark, in one store call.
+    /// The transaction's mark, in one store call. StoreFault where the store fails.
     pub fn get<W: Weather>(&self, weather: &mut W, txn: TxnId) -> Result<Option<Mark>, StoreFault>
         ensures value { IfOk result (λ found. found ≡ mark_of self.now.pairs txn) }
         ensures call { IsOneCall Store.Table (W.ahead weather.old) (W.ahead weather.new)
@@ -71,8 +71,9 @@ impl Table {
         answered_under(weather.next(Store::Table), self.mark_of(txn))
     }
 
-    /// Places the mark where the transaction has none. An entry that is there stays, and is the answer.
-    /// After NoMemory the table is as before and the weather was not asked.
+    /// Places the mark where the transaction has none. An entry that is there stays, and is the answer. NoMemory or StoreFault, as
+    /// a StoreError: after NoMemory the table is as before and the weather was not asked; after a StoreFault the mark was placed
+    /// exactly where the fate is FailsApplied.
     pub fn put_if_absent<W: Weather>(
         &mut self,
         weather: &mut W,
@@ -93,8 +94,8 @@ impl Table {
         }
     }
 
-    /// Gives the transaction a place, so that a later `put_reserved` of it takes no memory. The pairs
-    /// stay. A transaction that has a place keeps it.
+    /// Gives the transaction a place, so that a later `put_reserved` of it takes no memory. The pairs stay. A transaction that has
+    /// a place keeps it. NoMemory where memory is refused, and then the table is as before.
     pub fn reserve(&mut self, txn: TxnId) -> Result<(), NoMemory>
         ensures pairs { self.new.pairs ≡ self.old.pairs }
         ensures places { OnOk result (self.new.places ≡ set.insert self.old.places txn) }
@@ -110,8 +111,8 @@ impl Table {
         Ok(())
     }
 
-    /// Places the mark where the transaction has none, in the place that was reserved for it. The place
-    /// is used up whatever the fate.
+    /// Places the mark where the transaction has none, in the place that was reserved for it. The place is used up whatever the
+    /// fate. After a StoreFault the mark was placed exactly where the fate is FailsApplied.
     pub fn put_reserved<W: Weather>(
         &mut self,
         weather: &mut W,
@@ -133,7 +134,8 @@ impl Table {
         answered_under(fate, put)
     }
 
-    /// Removes a Committed entry. An Invalid one stays, and so does everything where there is none.
+    /// Removes a Committed entry. An Invalid one stays, and so does everything where there is none. After a StoreFault the entry
+    /// was removed exactly where the fate is FailsApplied.
     pub fn remove_committed<W: Weather>(
         &mut self,
         weather: &mut W,
@@ -150,7 +152,8 @@ impl Table {
         answered_under(fate, ())
     }
 
-    /// Makes room for one mark more, so that the next `put_in_room` takes no memory. The pairs and the places stay.
+    /// Makes room for one mark more, so that the next `put_in_room` takes no memory. The pairs and the places stay. NoMemory where
+    /// memory is refused.
     pub fn make_room(&mut self) -> Result<(), NoMemory>
         ensures pairs { self.new.pairs ≡ self.old.pairs }
         ensures places { self.new.places ≡ self.old.places }
@@ -161,8 +164,8 @@ impl Table {
         Ok(())
     }
 
-    /// Places the mark where the transaction has none, in the room that was made. The room is used up whatever the fate. An
-    /// entry that is there stays, and is the answer.
+    /// Places the mark where the transaction has none, in the room that was made. The room is used up whatever the fate. An entry
+    /// that is there stays, and is the answer. After a StoreFault the mark was placed exactly where the fate is FailsApplied.
     pub fn put_in_room<W: Weather>(
         &mut self,
         weather: &mut W,

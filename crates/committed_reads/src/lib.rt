@@ -24,8 +24,9 @@ pub enum Verdict {
     Refused(Vec<Edge>),
 }
 
-/// Judges whether the committed transactions of a trace read what such transactions wrote last, or their own last write, and
-/// do not read from one another in a round. It takes a time and memory in proportion to the operations.
+/// Judges whether the committed transactions of a trace read what such transactions wrote last, or their own last write, and do not
+/// read from one another in a round. It takes a time and memory in proportion to the operations. AllocError where memory is
+/// refused.
 pub fn judge_committed(
     alloc: Global,
     transactions: &[Transaction],

@@ -12,11 +12,12 @@ use system_parts::{Recorded, Verdict};
 pub struct Head {
     /// How many pairs are kept.
     pub len: usize,
+    /// The greatest commit that the bucket has forgotten, 0 where it has forgotten none.
     pub water: u64,
 }
 
 impl Head {
-    /// Of an empty bucket.
+    /// The head of an empty bucket.
     pub const EMPTY: Head = Head { len: 0, water: 0 };
 
     /// What a start is told of a key of this bucket, which keeps these pairs.

@@ -35,7 +35,7 @@ impl Model for Buckets {
 }
 
 impl Buckets {
-    /// Empty buckets. All their memory is taken here, in two pieces.
+    /// Empty buckets. All their memory is taken here, in two pieces. NoMemory where memory is refused.
     pub fn open(alloc: Global, buckets: u64, width: u64) -> Result<Buckets, NoMemory>
         requires count { IsWithin 1 4096 buckets }
         requires width { IsWithin 1 64 width }

@@ -7,7 +7,7 @@ ghost use Rattle.stamp_base.specs.Ranges.{IsStampRange, IsWithin};
 use stamp_base::Stamp;
 use std::marker::Model;
 
-/// What is left to draw: the stamps above the last one, up to the ceiling.
+/// What is left to draw: the stamps above the last one, up to the ceiling. They are numbers of the oracle's, no ticks of a clock.
 #[derive(Clone, Copy, Debug, PartialEq, Eq)]
 pub struct Range {
     last: u64,

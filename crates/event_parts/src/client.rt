@@ -60,7 +60,7 @@ impl Client {
     ghost use Rattle.event_parts.specs.Waiting.{Waits};
     ghost use Rattle.event_parts.specs.Replies.{WaitsForReply, replied};
 
-    /// A free session that remembers so many decisions, with nothing under way.
+    /// A free session that remembers so many decisions, with nothing under way. NoMemory where memory is refused.
     pub fn new(alloc: Global, cache: u64) -> Result<Client, NoMemory>
         ensures { IfOk result (λ client. client ≡ state.client_new cache) }
     {

@@ -13,7 +13,8 @@ use port_io::{Fate, Weather};
 use reader_resolve::Next;
 use stamp_base::{KeyNo, Mark, SessionNo, Stamp, Store, TxnId, Value};
 
-/// The actor is told why the event is refused, which changes nothing else.
+/// The actor is told why the event is refused, which changes nothing else. Always an error: Refused, or NoMemory where the book
+/// has no room.
 pub fn refuse(book: &mut Book, actor: Actor, cause: Cause) -> Result<(), Stopped>
     ensures made { Makes (effect.refused no_parts actor cause) no_parts no_parts book.old.items book.new.items result }
     ensures spare { book.new.spare ≡ book.old.spare }
@@ -23,7 +24,7 @@ pub fn refuse(book: &mut Book, actor: Actor, cause: Cause) -> Result<(), Stopped
     Err(Stopped::Refused(cause))
 }
 
-/// The same, in room that was made.
+/// The actor is told why the event is refused, in room that was made. Always the error Refused.
 pub fn tell(book: &mut Book, actor: Actor, cause: Cause) -> Result<(), Stopped>
     requires { 1 ≤ book.old.room }
     ensures items { book.new.items ≡ book.old.items ++ Item.Refused actor cause ∷ [] }
@@ -35,7 +36,7 @@ pub fn tell(book: &mut Book, actor: Actor, cause: Cause) -> Result<(), Stopped>
     Err(Stopped::Refused(cause))
 }
 
-/// The same of a request that was accepted, in room that was reserved for it.
+/// The actor is told why its accepted request is refused, in room that was reserved for it. Always the error Refused.
 pub fn tell_reserved(book: &mut Book, actor: Actor, cause: Cause) -> Result<(), Stopped>
     requires { 1 ≤ book.old.spare }
     ensures items { book.new.items ≡ book.old.items ++ Item.Refused actor cause ∷ [] }
@@ -47,7 +48,7 @@ pub fn tell_reserved(book: &mut Book, actor: Actor, cause: Cause) -> Result<(), 
     Err(Stopped::Refused(cause))
 }
 
-/// The same for a refusal that such a request is told once: where it was told before, nothing is appended.
+/// A refusal that an accepted request is told once: where it was told before, nothing is appended. Always the error Refused.
 pub fn tell_once(book: &mut Book, told: bool, actor: Actor, cause: Cause) -> Result<(), Stopped>
     requires { 1 ≤ book.old.spare }
     ensures items { book.new.items ≡ book.old.items ++ (if told then [] else Item.Refused actor cause ∷ []) }
@@ -60,7 +61,7 @@ pub fn tell_once(book: &mut Book, told: bool, actor: Actor, cause: Cause) -> Res
     tell_reserved(book, actor, cause)
 }
 
-/// The actor's call on the store failed. The change that it made all the same stands before the fault.
+/// The actor's call on the store failed. The change that it made all the same stands before the fault. Always the error StoreFault.
 pub fn fail(book: &mut Book, actor: Actor, store: Store, made: Option<Item>) -> Result<(), Stopped>
     requires { 2 ≤ book.old.room }
     ensures items { book.new.items ≡ book.old.items ++ made_items made ++ Item.Fault actor store ∷ [] }
@@ -75,7 +76,8 @@ pub fn fail(book: &mut Book, actor: Actor, store: Store, made: Option<Item>) -> 
     Err(Stopped::StoreFault(store))
 }
 
-/// The same of the call that places a commit, in room that was reserved for the commit.
+/// The call that places a commit failed. The commit stands before the fault where it was placed all the same, both in room that
+/// was reserved for it. Always the error StoreFault.
 pub fn fail_reserved(
     book: &mut Book,
     actor: Actor,

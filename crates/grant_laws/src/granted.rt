@@ -21,8 +21,8 @@ pub fn takes_are_granted()
 
 /// A begin line of a free session appends its begin, by the next stamp of the instance of the node that it asks, which it names or
 /// which took the record last where it names the master: where that instance is the one of the record's term with a slot free and
-/// its lease standing, it has a stamp at hand or can get a further range, and it keeps no refusal of the record. Where the instance has
-/// drawn a commit that is not settled the session is told to wait, by the least of these.
+/// its lease standing, it has a stamp at hand or can get a further range, and it keeps no refusal of the record. Where the instance
+/// has drawn a commit that is not settled the session is told to wait, by the least of these.
 pub fn begins_are_granted()
     ensures { BeginsAreGranted }
 {

@@ -49,8 +49,8 @@ pub fn a_master_begin_on_threads()
     runs_grant_begins();
 }
 
-/// A begin that is answered while a commit drawn below it is not settled is told to wait, once, and has its start when the commit is
-/// settled, here by a put that failed.
+/// A begin that is answered while a commit drawn below it is not settled is told to wait, once, and has its start when the commit
+/// is settled, here by a put that failed.
 pub fn an_early_answer_on_threads()
     ensures can { CanBeginBy runs.waiting 1 0 runs.to_wait runs.early }
     ensures granted { carried_items runs.waiting runs.wait_turns ≡ runs.wait_items }

@@ -41,7 +41,7 @@ impl Book {
         }
     }
 
-    /// Appends the item in room of its own: what was reserved stays so.
+    /// Appends the item in room of its own: what was reserved stays so. NoMemory where memory is refused.
     pub fn append(&mut self, item: Item) -> Result<(), NoMemory>
         ensures ok { OnOk result (self.new.items ≡ self.old.items ++ item ∷ []) }
         ensures kept { self.new.spare ≡ self.old.spare }
@@ -52,7 +52,7 @@ impl Book {
         Ok(())
     }
 
-    /// There is room for n items more, beside what is reserved.
+    /// There is room for n items more, beside what is reserved. NoMemory where memory is refused.
     pub fn make_room(&mut self, n: usize) -> Result<(), NoMemory>
         ensures ok { OnOk result (n ≤ self.new.room) }
         ensures items { self.new.items ≡ self.old.items }
@@ -79,7 +79,7 @@ impl Book {
         self.room -= 1;
     }
 
-    /// Reserves room for n items more.
+    /// Reserves room for n items more. NoMemory where memory is refused.
     pub fn reserve(&mut self, n: usize) -> Result<(), NoMemory>
         ensures ok { OnOk result (self.new.spare ≡ self.old.spare + n) }
         ensures kept { self.new.items ≡ self.old.items }

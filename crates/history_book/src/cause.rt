@@ -1,6 +1,6 @@
 use stamp_base::{KeyNo, NodeNo, SessionNo, Stamp, Term};
 
-/// Why an event was refused.
+/// Why an event was refused. `reading` and `until` are in ticks of the base clock.
 #[derive(Clone, Copy, Debug, PartialEq, Eq)]
 pub enum Cause {
     /// A key of the write list has a recorded commit above the start.

@@ -4,18 +4,26 @@ use stamp_base::{KeyNo, Mark, Name, NodeNo, SessionNo, Stage, Stamp, Store, Term
 /// Who acts.
 #[derive(Clone, Copy, Debug, PartialEq, Eq)]
 pub enum Actor {
+    /// The base clock.
     Clock,
+    /// A node.
     Node(NodeNo),
+    /// A session.
     Session(SessionNo),
+    /// The janitor, which sweeps abandoned transactions.
     Janitor,
 }
 
 /// What an actor notes of its part in the script.
 #[derive(Clone, Copy, Debug, PartialEq, Eq)]
 pub enum Note {
+    /// It posts the name.
     Post(Name),
+    /// It awaits the name.
     Await(Name),
+    /// It holds the stage of its node.
     Hold(Stage),
+    /// It frees the stage of its node.
     Free(Stage),
 }
 
@@ -24,6 +32,7 @@ pub enum Note {
 pub struct Found {
     /// The transaction that wrote it.
     pub from: TxnId,
+    /// What it wrote.
     pub value: Value,
 }
 
@@ -96,23 +105,29 @@ pub enum StoreStep {
 /// How a transaction ended without a commit.
 #[derive(Clone, Copy, Debug, PartialEq, Eq)]
 pub enum Ending {
+    /// It was to commit and had written nothing.
     ReadOnly,
+    /// Its session gave it up.
     Aborted,
+    /// It can't commit any more.
     Dead,
 }
 
-/// One entry of a history.
+/// One entry of a history. Readings, ends of leases (`until`) and what a clock stands at (`to`) are in ticks of the base clock;
+/// terms, epochs and ceilings are no times.
 #[derive(Clone, Copy, Debug, PartialEq, Eq)]
 pub enum Item {
     /// The base clock stands at `to`.
     Tick {
         to: u64,
     },
+    /// The actor notes its part in the script.
     Note {
         actor: Actor,
         note: Note,
     },
-    /// The node took the master record at a reading of its clock.
+    /// The node took the master record at a reading of its clock: a new term, whose oracle draws the stamps above `epoch` up to
+    /// `ceiling`, under a lease that ends at `until`.
     Take {
         node: NodeNo,
         reading: u64,
@@ -121,7 +136,7 @@ pub enum Item {
         until: u64,
         ceiling: u64,
     },
-    /// The node's lease lasts to `until`.
+    /// The node's lease lasts to `until`, renewed at a reading of its clock.
     Renew {
         node: NodeNo,
         reading: u64,
@@ -134,15 +149,18 @@ pub enum Item {
         term: Term,
         ceiling: u64,
     },
+    /// The session asked the node for a start.
     AskBegin {
         session: SessionNo,
         node: NodeNo,
     },
+    /// The session asked the node to commit its transaction.
     AskCommit {
         session: SessionNo,
         node: NodeNo,
         start: Stamp,
     },
+    /// The node accepted the session's request at a reading of its clock, in ticks of the base clock.
     Accept {
         session: SessionNo,
         node: NodeNo,
@@ -157,10 +175,12 @@ pub enum Item {
         start: Stamp,
         commit: Option<Stamp>,
     },
+    /// The session's transaction began with the start.
     Begin {
         session: SessionNo,
         start: Stamp,
     },
+    /// The transaction wrote the value at the key.
     Write {
         session: SessionNo,
         start: Stamp,
@@ -179,6 +199,7 @@ pub enum Item {
         start: Stamp,
         commit: Stamp,
     },
+    /// The session was told that its transaction committed.
     Committed {
         session: SessionNo,
         start: Stamp,
@@ -189,15 +210,18 @@ pub enum Item {
         actor: Actor,
         start: Stamp,
     },
+    /// The actor made a step on the stores.
     Step {
         actor: Actor,
         what: StoreStep,
     },
+    /// The transaction ended without a commit.
     End {
         session: SessionNo,
         start: Stamp,
         how: Ending,
     },
+    /// The actor was refused, for the cause.
     Refused {
         actor: Actor,
         cause: Cause,
@@ -207,10 +231,12 @@ pub enum Item {
         actor: Actor,
         store: Store,
     },
+    /// The node's oracle of the term ended.
     Crash {
         node: NodeNo,
         term: Term,
     },
+    /// The session is gone for good.
     Vanish {
         session: SessionNo,
     },

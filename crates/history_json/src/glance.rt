@@ -48,7 +48,7 @@ fn of_kind(bytes: &[u8]) -> Option<Item> {
     of_rare_kind(kind, rest)
 }
 
-/// The same, of kinds that are rare.
+/// The items whose first member is their kind, of kinds that are rare.
 fn of_rare_kind(kind: &[u8], rest: &[u8]) -> Option<Item> {
     if is_word(kind, b"tick") {
         return tick(rest);

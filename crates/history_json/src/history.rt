@@ -13,12 +13,15 @@ use std::alloc::Global;
 /// How the lines of a history are written.
 #[derive(Clone, Copy, Debug, PartialEq, Eq)]
 pub enum Format {
+    /// Lines of words.
     Text,
+    /// Lines of JSON, an object each.
     Json,
 }
 
-/// The items that the lines are, all in one format: JSON where the first line that says something begins with a
-/// brace. A line of no bytes says nothing, and the last line may end without a line feed.
+/// The items that the lines are, all in one format: JSON where the first line that says something begins with a brace. A line of no
+/// bytes says nothing, and the last line may end without a line feed. At, with the number of the first line that is no item, from
+/// 1, or 0 where the bytes are more than 16,777,216; NoMemory where memory is refused.
 pub fn read_history(alloc: Global, bytes: &[u8]) -> Result<Vec<Item>, HistoryFault>
     ensures read { IfOk result (λ items. AreItems bytes.now items.items) }
     ensures bad { IfErr result (λ fault. IsFaultOf bytes.now fault) }

@@ -12,7 +12,7 @@ use history_reading::read_item;
 use serde_json::Value;
 use std::alloc::{AllocError, Global};
 
-/// The item that the value is.
+/// The item that the value is. None where it is none. AllocError where memory is refused.
 pub fn item_of(alloc: Global, value: &Value) -> Result<Option<Item>, AllocError>
     ensures found { IfOk result (λ found. IfSome found (λ item. view value.now ≡ data_of item)) }
     ensures fits { IfOk result (λ found. IfSome found FitsItem) }

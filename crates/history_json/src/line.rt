@@ -24,7 +24,7 @@ pub fn print_line(item: &Item, line: &mut LineBuf)
     line.push_text(b"\n");
 }
 
-/// The item's line without its line feed. `from_line` reads it as the item.
+/// The item's line without its line feed. `from_line` reads it as the item. NoMemory where memory is refused.
 pub fn to_line(alloc: Global, item: &Item) -> Result<String, NoMemory>
     ensures text { IfOk result (λ line. string_bytes line ≡ json_line item.now) }
     ensures read_again { IfOk result (λ line. IsJsonLineOf (string_bytes line) item.now) }
@@ -34,7 +34,8 @@ pub fn to_line(alloc: Global, item: &Item) -> Result<String, NoMemory>
     Ok(String::from_str(alloc, text_of(line.as_slice()))?)
 }
 
-/// The item whose line of JSON the bytes are. Blanks, escapes and the order of the members are free.
+/// The item whose line of JSON the bytes are. Blanks, escapes and the order of the members are free. None where they are none.
+/// NoMemory where memory is refused.
 pub fn from_line(alloc: Global, line: &[u8]) -> Result<Option<Item>, NoMemory>
     ensures found { IfOk result (λ found. IfSome found (IsJsonLineOf line.now)) }
     ensures fits { IfOk result (λ found. IfSome found FitsItem) }
@@ -83,7 +84,7 @@ fn is_printed(line: &[u8], item: &Item) -> bool
     line == printed.as_slice()
 }
 
-/// The item's line as a history prints it, with its line feed.
+/// The item's line as a history prints it, with its line feed. NoMemory where memory is refused.
 pub fn printed_line(alloc: Global, item: &Item) -> Result<String, NoMemory>
     ensures { IfOk result (λ line. string_bytes line ≡ json_text item.now) }
 {

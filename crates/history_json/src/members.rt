@@ -13,8 +13,11 @@ use stamp_base::{KeyNo, NodeNo, SessionNo};
 /// What a member says.
 #[derive(Clone, Copy)]
 pub enum Said<'a> {
+    /// A whole number.
     Number(u64),
+    /// A text as it is.
     Text(&'a str),
+    /// A key's name.
     Key(KeyNo),
     /// The text of a step on a store.
     Step(&'a StoreStep),
@@ -25,7 +28,9 @@ pub enum Said<'a> {
 /// A member by its name.
 #[derive(Clone, Copy)]
 pub struct Member<'a> {
+    /// Its name.
     pub name: &'static str,
+    /// What it says.
     pub said: Said<'a>,
 }
 

@@ -21,6 +21,7 @@ pub fn text_of(bytes: &[u8]) -> &str
     }
 }
 
+/// The node's letter, `a` to `h`.
 pub fn node_name(node: NodeNo) -> &'static str
     ensures { result.now ≡ node_text node }
 {
@@ -36,6 +37,7 @@ pub fn node_name(node: NodeNo) -> &'static str
     }
 }
 
+/// The session's name, `s0` to `s15`.
 pub fn session_name(session: SessionNo) -> &'static str
     ensures { result.now ≡ session_text session }
 {
@@ -59,6 +61,7 @@ pub fn session_name(session: SessionNo) -> &'static str
     }
 }
 
+/// The actor's name: `clock`, a node's letter, a session's name, or `janitor`.
 pub fn actor_name(actor: Actor) -> &'static str
     ensures { result.now ≡ actor_text actor }
 {
@@ -70,6 +73,7 @@ pub fn actor_name(actor: Actor) -> &'static str
     }
 }
 
+/// The word of a stage.
 pub fn stage_name(stage: Stage) -> &'static str
     ensures { result.now ≡ stage_text stage }
 {
@@ -80,6 +84,7 @@ pub fn stage_name(stage: Stage) -> &'static str
     }
 }
 
+/// The word of a store.
 pub fn store_name(store: Store) -> &'static str
     ensures { result.now ≡ store_text store }
 {
@@ -90,6 +95,7 @@ pub fn store_name(store: Store) -> &'static str
     }
 }
 
+/// The word for how a transaction ended.
 pub fn ending_name(how: Ending) -> &'static str
     ensures { result.now ≡ ending_text how }
 {
@@ -100,6 +106,7 @@ pub fn ending_name(how: Ending) -> &'static str
     }
 }
 
+/// The value as text: its bytes are visible ASCII.
 #[tactic(auto, using(crate::proofs::PlainLemmas::value_utf8))]
 pub fn value_text(value: &Value) -> &str
     ensures { result.now ≡ value.now }
@@ -107,6 +114,7 @@ pub fn value_text(value: &Value) -> &str
     text_of(value.as_slice())
 }
 
+/// The name as text: its bytes are ASCII.
 #[tactic(auto, using(crate::proofs::PlainLemmas::name_utf8))]
 pub fn name_text(name: &Name) -> &str
     ensures { result.now ≡ name.now }

@@ -9,7 +9,8 @@ use crate::rows::row_of;
 use serde_json::Value;
 use std::alloc::{AllocError, Global};
 
-/// The words of the object's kind, with what its members say.
+/// The words of the object's kind, with what its members say. None where it has no such kind, or lacks a member of it. AllocError
+/// where memory is refused.
 #[tactic(auto, unfolding(crate::specs::Words::words_of))]
 pub fn words_of(alloc: Global, object: &Value) -> Result<Option<Vec<u8>>, AllocError>
     ensures { IfOk result (λ found. option_map (λ words. words.items) found ≡ words_of (view object.now)) }

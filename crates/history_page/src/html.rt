@@ -1,5 +1,5 @@
-// The page to explore a history: what stands before, between and behind its data. Neither the looks nor the script is part of what is
-// proved. The script draws the data that it finds and asks for nothing from outside; bench/check_page.py uses it in a browser.
+// The page to explore a history: what stands before, between and behind its data. Neither the looks nor the script is part of what
+// is proved. The script draws the data that it finds and asks for nothing from outside; bench/check_page.py uses it in a browser.
 
 /// The page up to the lines of the history.
 pub const HEAD: &str = r##"<!doctype html>

@@ -10,7 +10,7 @@ use history_signs::{Bar, BarKind, Chosen};
 use history_view::Text;
 use stamp_base::NoMemory;
 
-/// Adds the page of these items, with the bars of those that are chosen and what is told of them.
+/// Adds the page of these items, with the bars of those that are chosen and what is told of them. NoMemory where memory is refused.
 pub fn print_history_page(
     text: &mut Text,
     items: &[Item],

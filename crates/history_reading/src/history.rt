@@ -10,6 +10,7 @@ use std::alloc::AllocError;
 pub enum HistoryFault {
     /// The line of this number, counted from 1, is the first that is no item. Line 0 stands for too many bytes.
     At { line: u64 },
+    /// Memory was refused.
     NoMemory,
 }
 

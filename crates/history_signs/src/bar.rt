@@ -8,19 +8,26 @@ use stamp_base::{NodeNo, SessionNo, TxnId};
 /// How a bar is drawn: how its transaction ended, or as a lease.
 #[derive(Clone, Copy)]
 pub enum BarKind {
+    /// It committed.
     Committed,
+    /// Its commit was refused.
     Refused,
+    /// Its session gave it up.
     Aborted,
+    /// It can't commit any more.
     Dead,
     /// Nothing tells its end.
     Open,
+    /// The bar is a lease, not a transaction.
     Lease,
 }
 
 /// A bar, from the item that opens it to the place where it ends.
 #[derive(Clone, Copy)]
 pub struct Bar {
+    /// The place where it ends.
     pub to: usize,
+    /// How it is drawn.
     pub kind: BarKind,
 }
 

@@ -13,12 +13,14 @@ use std::alloc::Global;
 pub struct Chosen {
     /// Its number in the history, counted from 1.
     pub number: u64,
+    /// The item.
     pub item: Item,
     /// The bar that it opens, to a place of the history, counted from 0.
     pub bar: Option<Bar>,
 }
 
-/// So many items from a place on, in order; where the picture is brief, all but those that tell only how a thing was done.
+/// So many items from a place on, in order; where the picture is brief, all but those that tell only how a thing was done. NoMemory
+/// where memory is refused.
 #[tactic(auto, unfolding(crate::specs::Chosen::chosen_below))]
 pub fn choose_part(
     alloc: Global,
@@ -39,7 +41,7 @@ pub fn choose_part(
     Ok(chosen)
 }
 
-/// All items of the transactions with these starts, and those of these numbers, in order.
+/// All items of the transactions with these starts, and those of these numbers, in order. NoMemory where memory is refused.
 #[tactic(auto, unfolding(crate::specs::Chosen::chosen_below))]
 pub fn choose_about(
     alloc: Global,
@@ -145,6 +147,7 @@ fn is_start(start: Stamp, starts: &[Stamp]) -> bool
     false
 }
 
+/// Whether the number is one of these.
 #[tactic(auto, unfolding(crate::specs::Chosen::is_among))]
 pub fn is_among(number: u64, numbers: &[u64]) -> bool
     ensures { result ≡ is_among number numbers.now }

@@ -16,13 +16,14 @@ use std::alloc::Global;
 pub struct EarlierBar {
     /// The item before the picture's first that opens it.
     pub opener: Item,
+    /// Its row, counted from the top.
     pub row: usize,
     /// Where it ends in the picture, and how.
     pub bar: Bar,
 }
 
-/// The bars that items before a place open and that end there or behind it, in order, where their lanes are among these. The picture
-/// shows the chosen items, none of which stands before the place.
+/// The bars that items before a place open and that end there or behind it, in order, where their lanes are among these. The
+/// picture shows the chosen items, none of which stands before the place. NoMemory where memory is refused.
 #[tactic(auto, unfolding(crate::specs::Earlier::earlier_below))]
 pub fn earlier_bars(
     alloc: Global,

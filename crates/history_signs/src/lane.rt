@@ -62,7 +62,7 @@ pub fn lane_of(item: &Item) -> usize
     }
 }
 
-/// The lanes in which signs stand, from top to bottom.
+/// The lanes in which signs stand, from top to bottom. NoMemory where memory is refused.
 #[tactic(auto, unfolding(crate::specs::Lanes::lanes_below))]
 pub fn lanes_of(alloc: Global, chosen: &[Chosen]) -> Result<Vec<usize>, NoMemory>
     ensures { IfOk result (λ lanes. lanes.items ≡ lanes_for chosen.now) }

@@ -1,5 +1,5 @@
-//! Which signs, bars and arrows a history's picture has: a lane for each actor that occurs, and for each item that is chosen its sign,
-//! with the bar that it opens and the earlier item that shows it.
+//! Which signs, bars and arrows a history's picture has: a lane for each actor that occurs, and for each item that is chosen its
+//! sign, with the bar that it opens and the earlier item that shows it.
 #![tactic(auto)]
 
 mod bar;

@@ -13,25 +13,31 @@ use std::alloc::Global;
 /// An earlier sign, by its column and its row.
 #[derive(Clone, Copy)]
 pub struct Link {
+    /// Its column, from 0.
     pub column: usize,
+    /// Its row, counted from the top.
     pub row: usize,
 }
 
 /// What is drawn for an item.
 #[derive(Clone, Copy)]
 pub struct Sign {
+    /// The item.
     pub item: Item,
     /// The item's number in the history, counted from 1.
     pub number: u64,
+    /// Its row, counted from the top.
     pub row: usize,
     /// The bar that it opens, to its last column.
     pub bar: Option<Bar>,
     /// The last sign before it that shows it.
     pub link: Option<Link>,
+    /// Whether a ring is drawn around it.
     pub ringed: bool,
 }
 
 /// The signs of the chosen items, one for each, in order. Lanes are numbered from the top. The items of these numbers are ringed.
+/// NoMemory where memory is refused.
 pub fn signs_of(
     alloc: Global,
     lanes: &[usize],

@@ -12,33 +12,52 @@ use std::alloc::Global;
 /// The look of a sign: a small dot, or a circle with a letter.
 #[derive(Clone, Copy)]
 pub enum Glyph {
+    /// A small dot.
     Dot,
+    /// A request to a node.
     Ask,
+    /// A stamp that was drawn.
     Draw,
+    /// A start that was told.
     Begin,
+    /// A write.
     Write,
+    /// A read.
     Read,
+    /// A commit that stands in the commit table.
     Placed,
+    /// A commit that was told.
     Committed,
+    /// An end without a commit.
     End,
+    /// A refusal.
     Refused,
+    /// An invalid mark.
     Mark,
+    /// A take of the master record.
     Take,
+    /// A renewed lease.
     Renew,
+    /// A further range of stamps.
     Extend,
+    /// A failed call on a store.
     Fault,
+    /// A crash of an oracle.
     Crash,
+    /// A session that is gone.
     Vanish,
 }
 
 /// What a legend tells of.
 #[derive(Clone, Copy)]
 pub enum Key {
+    /// The look of a bar.
     Bar(BarKind),
+    /// The look of a sign.
     Sign(Glyph),
 }
 
-/// What occurs in a picture, in the order of its legend.
+/// What occurs in a picture, in the order of its legend. NoMemory where memory is refused.
 pub fn keys_of(alloc: Global, earlier: &[EarlierBar], signs: &[Sign]) -> Result<Vec<Key>, NoMemory>
     ensures { IfOk result (λ keys. keys.items ≡ keys_for earlier.now signs.now) }
 {

@@ -6,7 +6,8 @@ use crate::marks::{column_x, row_y};
 use crate::text::Text;
 use stamp_base::NoMemory;
 
-/// Adds a line for each lane, from top to bottom, on a page that is so wide and has so many signs.
+/// Adds a line for each lane, from top to bottom, on a page that is so wide and has so many signs. NoMemory where memory is
+/// refused.
 #[tactic(auto, unfolding(crate::specs::Words::each_text))]
 pub fn print_lines(
     text: &mut Text,

@@ -34,7 +34,7 @@ pub fn row_y(row: usize) -> u64
 
 // ---- bars
 
-/// Adds the bar that the sign in the column opens.
+/// Adds the bar that the sign in the column opens. NoMemory where memory is refused.
 pub fn print_any_bar(
     text: &mut Text,
     wide: bool,
@@ -66,7 +66,7 @@ fn print_bar(
     text.push(b"</g>\n")
 }
 
-/// Adds a bar that goes on from before the first sign, with the words of the item that opened it.
+/// Adds a bar that goes on from before the first sign, with the words of the item that opened it. NoMemory where memory is refused.
 #[tactic(auto, unfolding(crate::specs::Marks::earlier_bar_text))]
 pub fn print_earlier_bar(text: &mut Text, wide: bool, earlier: &EarlierBar) -> Result<(), NoMemory>
     ensures { OnOk result (text.new ≡ text.old ++ earlier_bar_text wide earlier.now) }
@@ -113,7 +113,7 @@ fn print_rect(text: &mut Text, x: u64, y: u64, width: u64) -> Result<(), NoMemor
 
 // ---- arrows
 
-/// Adds the arrow to the sign in the column from the one that shows it.
+/// Adds the arrow to the sign in the column from the one that shows it. NoMemory where memory is refused.
 pub fn print_any_arrow(
     text: &mut Text,
     wide: bool,
@@ -221,7 +221,7 @@ fn beside(gap: u64, y: u64, to_y: u64) -> u64
 
 // ---- signs
 
-/// Adds the sign in the column, over bars and arrows.
+/// Adds the sign in the column, over bars and arrows. NoMemory where memory is refused.
 #[tactic(auto, unfolding(crate::specs::Marks::sign_text))]
 pub fn print_sign(text: &mut Text, wide: bool, column: usize, sign: &Sign) -> Result<(), NoMemory>
     ensures { OnOk result (text.new ≡ text.old ++ sign_text wide column sign.now) }
@@ -237,7 +237,7 @@ pub fn print_sign(text: &mut Text, wide: bool, column: usize, sign: &Sign) -> Re
     text.push(b"</g>\n")
 }
 
-/// Adds a circle with a letter in it, or a dot.
+/// Adds a circle with a letter in it, or a dot. NoMemory where memory is refused.
 pub fn print_dot(text: &mut Text, x: u64, y: u64, glyph: Glyph) -> Result<(), NoMemory>
     requires { y ≤ 2000 }
     ensures { OnOk result (text.new ≡ text.old ++ dot_text x y glyph) }

@@ -26,7 +26,7 @@ pub fn page_height(rows: usize, keys: usize) -> u64
     row_y(rows) + 22 + 18 * ((keys.min(64) + 7) / 8) as u64
 }
 
-/// Adds what stands before the lanes, on a page of so many signs, lanes and keys in its legend.
+/// Adds what stands before the lanes, on a page of so many signs, lanes and keys in its legend. NoMemory where memory is refused.
 pub fn print_head(
     text: &mut Text,
     frame: &Frame,
@@ -124,7 +124,8 @@ fn print_left(text: &mut Text, left: u64) -> Result<(), NoMemory>
 
 // ---- the legend
 
-/// Adds the legend at that height: at the left, and again behind each two hundred columns, so many times.
+/// Adds the legend at that height: at the left, and again behind each two hundred columns, so many times. NoMemory where memory is
+/// refused.
 #[tactic(auto, unfolding(crate::specs::Page::legends_text))]
 pub fn print_legends(
     text: &mut Text,

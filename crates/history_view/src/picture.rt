@@ -19,13 +19,14 @@ pub struct Frame {
     pub wide: bool,
     /// The numbers of the first and the last item that it is of, counted from 1.
     pub first: u64,
+    /// The number of the last item that it is of, counted from 1.
     pub last: u64,
     /// How many items the history has.
     pub total: u64,
 }
 
-/// The picture of the signs in these lanes, as one document of SVG, below its caption. Those items of the frame that have no sign are
-/// counted as left out. The earlier bars go on from items before the first sign.
+/// The picture of the signs in these lanes, as one document of SVG, below its caption. Those items of the frame that have no sign
+/// are counted as left out. The earlier bars go on from items before the first sign. NoMemory where memory is refused.
 pub fn print_picture(
     alloc: Global,
     frame: &Frame,

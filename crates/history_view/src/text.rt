@@ -40,7 +40,7 @@ impl Text {
         self.bytes.as_slice()
     }
 
-    /// Adds words at the end.
+    /// Adds words at the end. NoMemory where memory is refused.
     pub fn push(&mut self, words: &[u8]) -> Result<(), NoMemory>
         ensures { OnOk result (self.new ≡ self.old ++ words.now) }
     {
@@ -48,7 +48,7 @@ impl Text {
         Ok(())
     }
 
-    /// Adds a number at the end.
+    /// Adds a number at the end. NoMemory where memory is refused.
     pub fn push_number(&mut self, number: u64) -> Result<(), NoMemory>
         ensures { OnOk result (self.new ≡ self.old ++ decimal number) }
     {
@@ -57,7 +57,7 @@ impl Text {
         self.push(digits.as_slice())
     }
 
-    /// Adds words and the number behind them.
+    /// Adds words and the number behind them. NoMemory where memory is refused.
     pub fn push_field(&mut self, words: &[u8], number: u64) -> Result<(), NoMemory>
         ensures { OnOk result (self.new ≡ self.old ++ words.now ++ decimal number) }
     {
@@ -65,7 +65,7 @@ impl Text {
         self.push_number(number)
     }
 
-    /// Adds two numbers, each behind its words.
+    /// Adds two numbers, each behind its words. NoMemory where memory is refused.
     pub fn push_two(
         &mut self,
         words: &[u8],
@@ -79,7 +79,7 @@ impl Text {
         self.push_field(next_words, next)
     }
 
-    /// Adds words between others.
+    /// Adds words between others. NoMemory where memory is refused.
     pub fn push_between(
         &mut self,
         before: &[u8],
@@ -93,7 +93,7 @@ impl Text {
         self.push(after)
     }
 
-    /// Adds the words of an item, as they stand in XML.
+    /// Adds the words of an item, as they stand in XML. NoMemory where memory is refused.
     pub fn push_item(&mut self, item: &Item) -> Result<(), NoMemory>
         ensures { OnOk result (self.new ≡ self.old ++ escaped (body_of item.now)) }
     {
@@ -102,7 +102,7 @@ impl Text {
         self.push_escaped(line.as_slice())
     }
 
-    /// Adds words, as they stand in XML.
+    /// Adds words, as they stand in XML. NoMemory where memory is refused.
     pub fn push_escaped(&mut self, words: &[u8]) -> Result<(), NoMemory>
         ensures { OnOk result (self.new ≡ self.old ++ escaped words.now) }
     {

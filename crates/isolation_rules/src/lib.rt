@@ -1,5 +1,5 @@
-//! The rules of isolation as pairs of items that break them, and a plain walk that finds the least pair; and small histories beside the
-//! definitions of isolation and of serial order.
+//! The rules of isolation as pairs of items that break them, and a plain walk that finds the least pair; and small histories beside
+//! the definitions of isolation and of serial order.
 #![tactic(auto)]
 
 mod apart;

@@ -62,7 +62,7 @@ fn wrong_answer<V: Views>(
     }
 }
 
-/// The same where the transaction wrote the key before.
+/// The place of the right answer where this one is wrong and the transaction wrote the key before.
 fn wrong_own<V: Views>(
     first: usize,
     own: Version,
@@ -95,7 +95,7 @@ fn sees<V: Views>(start: Stamp, key: KeyNo, answer: Option<Found>, views: &V) ->
     is_seen(&views.seen(start, key), &answer)
 }
 
-/// The same where the transaction did not write the key before.
+/// The place of the right answer where this one is wrong and the transaction did not write the key before.
 fn wrong_seen<V: Views>(
     first: usize,
     start: Stamp,

@@ -14,6 +14,7 @@ pub enum Rule {
 /// What a history is found to be.
 #[derive(Clone, Copy, Debug, PartialEq, Eq)]
 pub enum Verdict {
+    /// No rule is broken.
     Isolated,
     /// The first rule that is broken, and the numbers of two items that break it, counted from 1.
     Broken {

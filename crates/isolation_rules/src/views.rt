@@ -30,6 +30,7 @@ pub trait Views {
 /// The items themselves: each answer is a walk over them.
 #[derive(Clone, Copy)]
 pub struct Plain<'a> {
+    /// All items.
     pub items: &'a [Item],
     /// Those before the read.
     pub before: &'a [Item],

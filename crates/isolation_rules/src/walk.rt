@@ -12,7 +12,9 @@ use history_book::Item;
 /// The places of two items, counted from 0.
 #[derive(Clone, Copy)]
 pub struct Pair {
+    /// The place of the first.
     pub first: usize,
+    /// The place of the second, behind it.
     pub second: usize,
 }
 

@@ -9,13 +9,13 @@ use std::marker::Model;
 /// Why a lease refuses: the reading is at or past its end.
 #[derive(Clone, Copy, Debug, PartialEq, Eq)]
 pub struct Expired {
-    /// The reading that was asked about.
+    /// The reading that was asked about, in ticks.
     pub reading: u64,
-    /// The end of the lease.
+    /// The end of the lease, in ticks.
     pub until: u64,
 }
 
-/// The right to accept requests at readings below a number.
+/// The right to accept requests at readings below a number. Readings and ends of leases are in ticks of the base clock.
 #[derive(Clone, Copy, Debug, PartialEq, Eq)]
 pub struct Lease {
     until: u64,
@@ -30,14 +30,14 @@ impl Model for Lease {
 }
 
 impl Lease {
-    /// A lease up to `until`.
+    /// A lease up to `until`, in ticks.
     pub fn new(until: u64) -> Lease
         ensures { result ≡ until }
     {
         Lease { until }
     }
 
-    /// Ok exactly where the reading is below the end of the lease.
+    /// Ok exactly where the reading is below the end of the lease; Expired where it is not.
     pub fn check(&self, reading: u64) -> Result<(), Expired>
         ensures holds { IsOk result ↔ (reading < self.now) }
         ensures expired { IfErr result (λ e. (self.now ≤ reading) × (e.reading ≡ reading) × (e.until ≡ self.now)) }
@@ -60,7 +60,7 @@ impl Lease {
     }
 }
 
-/// Whether a reading may come after one of `seen`, of clocks that differ by at most `skew`.
+/// Whether a reading may come after one of `seen`, of clocks that differ by at most `skew`, all in ticks of the base clock.
 pub fn is_steady(seen: u64, reading: u64, skew: u64) -> bool
     ensures value { IsTrue result ↔ (seen ≤ reading + skew) }
     ensures pair { IsTrue result ↔ Steady skew (seen ∷ reading ∷ []) }

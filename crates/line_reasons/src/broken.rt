@@ -10,7 +10,7 @@ use crate::wants::{is_word, wants_of};
 use stamp_base::NoMemory;
 use std::alloc::Global;
 
-/// Where the bytes break off from words and members in turn, behind a member that says so.
+/// Where the bytes break off from words and members in turn, behind a member that says so. NoMemory where memory is refused.
 #[tactic(auto, unfolding(crate::specs::TextLines::BreaksOff))]
 pub fn broken(
     alloc: Global,

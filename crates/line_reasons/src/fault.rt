@@ -24,13 +24,17 @@ pub enum LineFault {
     TooLong,
 
     // Of a line of JSON.
+    /// It is no text of JSON.
     NoJson,
+    /// It is JSON, and no object.
     NoObject,
+    /// It has no member `kind` that is a text.
     NoKind,
     /// It has more members than its kind.
     TooMany,
 
     // Of both.
+    /// No items are of its kind.
     UnknownKind,
     /// The member of this name is not there, or not in its place.
     Missing { name: &'static str },

@@ -13,7 +13,7 @@ use serde_json::Value;
 use stamp_base::NoMemory;
 use std::alloc::Global;
 
-/// The first member of the row that is missing, or says what it doesn't want.
+/// The first member of the row that is missing, or says what it doesn't want. NoMemory where memory is refused.
 #[tactic(auto, unfolding(crate::specs::Objects::IsWrongIn))]
 pub fn wrong_in(
     alloc: Global,

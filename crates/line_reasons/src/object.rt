@@ -11,7 +11,7 @@ use serde_json::Value;
 use stamp_base::NoMemory;
 use std::alloc::Global;
 
-/// What is wrong with a line of JSON that is no item.
+/// What is wrong with a line of JSON that is no item. NoMemory where memory is refused.
 pub fn json_fault(alloc: Global, line: &[u8]) -> Result<LineFault, NoMemory>
     ensures { IfOk result (TellsJson line.now) }
 {

@@ -14,7 +14,7 @@ use stamp_base::NoMemory;
 use std::alloc::Global;
 
 /// Adds why the line of this number, counted from 1, is no item, as a line of words; nothing where no reason was found. Line 0
-/// stands for too many bytes.
+/// stands for too many bytes. NoMemory where memory is refused.
 pub fn print_reason(
     alloc: Global,
     text: &mut Text,

@@ -11,7 +11,7 @@ use history_json::row_of;
 use stamp_base::NoMemory;
 use std::alloc::Global;
 
-/// What is wrong with a line of text that is no item.
+/// What is wrong with a line of text that is no item. NoMemory where memory is refused.
 pub fn text_fault(alloc: Global, line: &[u8]) -> Result<LineFault, NoMemory>
     ensures { IfOk result (TellsText line.now) }
 {
@@ -125,6 +125,7 @@ pub fn first_word(bytes: &[u8]) -> &[u8]
     &bytes[..word_len(bytes)]
 }
 
+/// How many bytes stand before the first blank: all of them where there is none.
 #[tactic(auto, unfolding(history_reading::specs::ReadWords::word_len))]
 pub fn word_len(bytes: &[u8]) -> usize
     ensures len { result ≡ word_len bytes.now }

@@ -8,7 +8,8 @@ use history_reading::read_item;
 use stamp_base::NoMemory;
 use std::alloc::Global;
 
-/// Whether the text is a value of what is wanted: whether a line that has it, and is right in all else, is an item's.
+/// Whether the text is a value of what is wanted: whether a line that has it, and is right in all else, is an item's. NoMemory
+/// where memory is refused.
 pub fn is_value(alloc: Global, wants: Wants, said: &[u8]) -> Result<bool, NoMemory>
     ensures { IfOk result (λ is. IsFalse is → IsNoValue wants said.now) }
 {

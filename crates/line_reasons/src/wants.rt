@@ -8,14 +8,21 @@ ghost use Rattle.line_reasons.specs.Wants.{is_stamp_name, noted_wants, text_want
 pub enum Wants {
     /// A whole number of 64 bits.
     Number,
+    /// A term, from 1.
     Term,
+    /// A stamp, from 1 to 2^62.
     Stamp,
+    /// A node's letter.
     Node,
+    /// A session's name.
     Session,
+    /// A key's name.
     Key,
+    /// A value's text.
     Value,
     /// How a transaction ended.
     Ending,
+    /// An actor's name.
     Actor,
     /// The word of a note.
     Note,
@@ -27,6 +34,7 @@ pub enum Wants {
     Step,
     /// The cause of a refusal.
     Cause,
+    /// The word of a store.
     Store,
 }
 
@@ -99,6 +107,7 @@ fn text_wants(kind: &[u8]) -> Wants
     }
 }
 
+/// Whether the bytes are this word.
 pub fn is_word(bytes: &[u8], word: &[u8]) -> bool
     ensures { result ≡ is_word word.now bytes.now }
 {

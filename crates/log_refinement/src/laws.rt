@@ -55,8 +55,8 @@ pub fn served_histories_answer()
     ensures { ServedHistoriesAnswer }
 {}
 
-/// Where no line of the script makes a stage's event for a session, and its node does not crash in between, what the session asks ends
-/// by its outcome, and never since the node has no request of it.
+/// Where no line of the script makes a stage's event for a session, and its node does not crash in between, what the session asks
+/// ends by its outcome, and never since the node has no request of it.
 pub fn scripts_without_stage_lines_are_served()
     ensures { ScriptsWithoutStageLinesAreServed }
 {}

@@ -4,7 +4,9 @@ use stamp_base::{KeyNo, NodeNo, TxnId};
 /// The event of a node that a request waits for.
 #[derive(Clone, Copy, Debug, PartialEq, Eq)]
 pub enum Due {
+    /// The request is asked, and not accepted.
     Accept,
+    /// The request is accepted, and its stamp not drawn.
     Decide,
     /// A commit is drawn.
     Put,
@@ -15,6 +17,7 @@ pub enum Due {
 /// What the present line of a session has begun and its log does not show the end of yet.
 #[derive(Clone, Copy, Debug, PartialEq, Eq)]
 pub enum Owed {
+    /// No end is owed.
     Nothing,
     /// The end of a read of the key.
     Read { key: KeyNo },

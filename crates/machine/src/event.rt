@@ -1,7 +1,8 @@
 use history_book::{Actor, Note};
 use stamp_base::{KeyNo, NodeNo, SessionNo, TxnId, Value};
 
-/// What can happen to the system. Each event is one atomic step, and makes at most one call on a store.
+/// What can happen to the system. Each event is one atomic step, and makes at most one call on a store. Readings, and what a clock
+/// stands at, are in ticks of the base clock.
 #[derive(Clone, Copy, Debug, PartialEq, Eq)]
 pub enum Event {
     /// The base clock stands at `to`.

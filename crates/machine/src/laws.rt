@@ -60,9 +60,9 @@ pub fn reads_count_if_strict()
         fetch_refused setup c key ≡ work_refusal c.entry.state (is_reading c) }
 {}
 
-/// Each event comes to one outcome of `specs/Outcome`: the state that it leaves and the items that it tells are exactly those of the
-/// outcome, and each refusal among them says what is the case. It is asked that the state's parts fit together (`Fits`), as they do
-/// in each state that is reached.
+/// Each event comes to one outcome of `specs/Outcome`: the state that it leaves and the items that it tells are exactly those of
+/// the outcome, and each refusal among them says what is the case. It is asked that the state's parts fit together (`Fits`), as
+/// they do in each state that is reached.
 pub fn events_come_to_outcomes()
     ensures { EventsComeToOutcomes }
 {}

@@ -30,7 +30,7 @@ impl Model for Beacon {
 }
 
 impl Beacon {
-    /// A beacon on which nothing was published, and its one publisher.
+    /// A beacon on which nothing was published, and its one publisher. NoMemory where memory is refused.
     pub fn open(alloc: Global) -> Result<(Beacon, Publisher), NoMemory>
         ensures { IfOk result (λ opened. opened.1 ≡ published opened.0 []) }
     {

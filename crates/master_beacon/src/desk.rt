@@ -27,6 +27,7 @@ impl<'a> Model for Desk<'a> {
 }
 
 impl<'a> Desk<'a> {
+    /// The publisher with the beacon that it publishes on.
     pub fn new(beacon: &'a Beacon, publisher: Publisher) -> Desk<'a>
         requires { publisher.beacon ≡ beacon.now }
         ensures { result ≡ publisher }

@@ -8,7 +8,9 @@ use std::collections::LinkedList;
 /// A term, and the node that took it.
 #[derive(Clone, Copy, Debug, PartialEq, Eq)]
 pub struct Announced {
+    /// The term.
     pub term: Term,
+    /// The node.
     pub node: NodeNo,
 }
 
@@ -25,6 +27,7 @@ pub struct BeaconView {
 /// The two words are the term and the node of the pair that was published last, and zeros where there is none.
 pub type Cell = RuledSeqCell<[u64; 2], BeaconView, InOneList, 2>;
 
+/// A pass of a beacon's cell, with its view of the published list.
 pub type CellPass = Pass<[u64; 2], BeaconView>;
 
 /// There is one published list, which rises, and each pass has seen a front of it.

@@ -9,7 +9,8 @@ use stamp_base::{NodeNo, Stamp, Term};
 use std::marker::Model;
 pub use system_parts::{ExtendRefused, Grant, RenewRefused, TakeRefused};
 
-/// The one record that says which node has the oracle. Each of its three steps is one store call.
+/// The one record that says which node has the oracle. Each of its three steps is one store call. Readings, leases, their ends and
+/// skews are in ticks of the base clock, ranges and ceilings in stamps.
 #[derive(Drop)]
 pub struct Master {
     lease: u64,
@@ -35,7 +36,8 @@ impl Model for Master {
 }
 
 impl Master {
-    /// A free record: term 0, no holder, `until` 0 and `ceiling` 0.
+    /// A free record: term 0, no holder, `until` 0 and `ceiling` 0. A take or a renewal gives `lease` ticks, clocks differ by at
+    /// most `skew` ticks, and a take or an extension brings `range` stamps.
     pub fn free(lease: u64, skew: u64, range: u64) -> Master
         requires lease { lease ≤ 1000000 }
         requires skew { skew ≤ 1000000 }
@@ -70,7 +72,7 @@ impl Master {
         self.holder
     }
 
-    /// The end of the lease.
+    /// The end of the lease, in ticks.
     pub fn until(&self) -> u64
         ensures value { result ≡ self.now.state.until }
         ensures range { result ≤ 2 ^ 61 + 1000000 }
@@ -119,8 +121,9 @@ impl Master {
         })
     }
 
-    /// Grants the next term to the node, with a lease from the reading on and a range from the old ceiling on. It is
-    /// refused as `grant_at` says, and then changes nothing. A fault comes before the refusals and hides them.
+    /// Grants the next term to the node, with a lease from the reading on and a range from the old ceiling on. It is refused as
+    /// `grant_at` says, and then changes nothing. A StoreFault comes before the refusals and hides them; after one the record was
+    /// taken exactly where the fate is FailsApplied and nothing refuses the take.
     pub fn take<W: Weather>(
         &mut self,
         weather: &mut W,
@@ -147,8 +150,9 @@ impl Master {
         told_under(fate, told, TakeRefused::StoreFault)
     }
 
-    /// Sets `until` to the greater of `until` and the reading with the lease, and answers it. Refused as
-    /// Replaced exactly where the record has another term. It needs no lease that stands.
+    /// Sets `until` to the greater of `until` and the reading with the lease, and answers it. Refused as Replaced exactly where the
+    /// record has another term. It needs no lease that stands. A StoreFault hides the answer; after one the end was set exactly
+    /// where the fate is FailsApplied and nothing refuses the renewal.
     pub fn renew<W: Weather>(
         &mut self,
         weather: &mut W,
@@ -174,8 +178,9 @@ impl Master {
         told_under(fate, told, RenewRefused::StoreFault)
     }
 
-    /// Raises the ceiling by one range, and answers it. Refused as Replaced exactly where the record has
-    /// another term, then as Spent exactly where a further range would go past the last stamp.
+    /// Raises the ceiling by one range, and answers it. Refused as Replaced exactly where the record has another term, then as
+    /// Spent exactly where a further range would go past the last stamp. A StoreFault hides the answer; after one the ceiling was
+    /// raised exactly where the fate is FailsApplied and nothing refuses the extension.
     pub fn extend<W: Weather>(&mut self, weather: &mut W, term: Term) -> Result<u64, ExtendRefused>
         ensures state { self.new.state ≡ fated (W.ahead weather.old Store.Master 0)
             self.old.state (extended self.old.rules self.old.state term) }

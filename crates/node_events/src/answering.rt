@@ -62,7 +62,7 @@ fn answer_at(
     }
 }
 
-/// The same of a request that has its answer, in room that was reserved for it.
+/// The node answers a request that has its answer, in room that was reserved for it.
 #[tactic(auto, using(crate::proofs::Replies::waits_for_reply, crate::proofs::Replies::reply_made))]
 fn answer_ready(
     book: &mut Book,

@@ -87,7 +87,7 @@ fn decide_held(
     }
 }
 
-/// The same of a request that was accepted, in room that was reserved for it.
+/// The node decides a request that was accepted, in room that was reserved for it.
 fn decide_accepted(
     book: &mut Book,
     instance: &mut Instance,

@@ -69,7 +69,7 @@ fn put_at<W: Weather>(
     }
 }
 
-/// The same of a commit that was drawn, in room and in a place that were reserved for it.
+/// The node places a commit that was drawn, in room and in a place that were reserved for it.
 fn put_drawn<W: Weather>(
     weather: &mut W,
     book: &mut Book,

@@ -1,5 +1,5 @@
-//! What `omid` answers to a replay, an audit and a script with a bad line, over bytes in memory: one stored run shows them all, as both
-//! compilers build it. `omid` itself has a stored run too, on threads, by its own standard input and output.
+//! What `omid` answers to a replay, an audit and a script with a bad line, over bytes in memory: one stored run shows them all, as
+//! both compilers build it. `omid` itself has a stored run too, on threads, by its own standard input and output.
 #![tactic(auto)]
 
 use std::io;

@@ -15,7 +15,7 @@ use trace_reading::{Recording, push_number, push_words};
 use trace_report::{name_of, push_cycle, push_wrong_read, wrong_at};
 use trace_rules::{Level, Wanted};
 
-/// Whether each read is of a committed transaction's last write, and none goes round.
+/// Whether each read is of a committed transaction's last write, and none goes round. NoMemory where memory is refused.
 #[tactic(auto, using(crate::proofs::MadeLemmas::is_committed, crate::proofs::MadeLemmas::is_wrong_committed, crate::proofs::MadeLemmas::is_committed_shown))]
 pub fn committed(alloc: Global, recording: &Recording, indexed: &Indexed) -> Result<Made, NoMemory>
     ensures found { IfOk result (λ made. IsCommitted (subject_of recording.now indexed.now.attempts.items indexed.now.trace indexed.now.times.items indexed.now.ranks.items) made.code made.text.items) }

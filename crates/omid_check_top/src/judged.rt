@@ -22,7 +22,7 @@ use trace_report::{
 };
 use trace_rules::{Level, Operation, Wanted};
 
-/// What is said of the trace.
+/// What is said of the trace. NoMemory where memory is refused.
 pub fn judged(
     alloc: Global,
     question: Question,
@@ -82,7 +82,7 @@ fn holds(alloc: Global, level: Level, wanted: Wanted, transactions: usize) -> Re
     })
 }
 
-/// That the read at this place is wrong.
+/// That the read at this place is wrong. NoMemory where memory is refused.
 pub fn wrong_read(
     alloc: Global,
     level: Level,
@@ -109,6 +109,7 @@ pub fn wrong_read(
     })
 }
 
+/// The transaction and the key of the operation. Two zeros where there is none.
 pub fn reader_of(operation: Option<&Operation>) -> (usize, u64)
     ensures { (result.0, result.1) ≡ reader_of (option_map (λ o. o.now) operation.entry) }
 {
@@ -118,7 +119,7 @@ pub fn reader_of(operation: Option<&Operation>) -> (usize, u64)
     }
 }
 
-/// That a cycle of edges refuses the trace, with its steps.
+/// That a cycle of edges refuses the trace, with its steps. NoMemory where memory is refused.
 #[tactic(auto, using(crate::proofs::MadeLemmas::shows))]
 pub fn refused(
     alloc: Global,
@@ -141,7 +142,7 @@ pub fn refused(
     })
 }
 
-/// That nothing decides, and of which key.
+/// That nothing decides, and of which key. NoMemory where memory is refused.
 pub fn undecided(alloc: Global, recording: &Recording, key: Option<u64>) -> Result<Made, NoMemory>
     ensures code { IfOk result (λ made. made.code ≡ 8) }
     ensures told { IfOk result (λ made. made.text.items ≡ open_text recording.now.names key) }

@@ -27,7 +27,8 @@ pub enum Grade {
     OfReads,
 }
 
-/// A line for each level, first those that hold, the strongest first; the status is that of committed reads.
+/// A line for each level, first those that hold, the strongest first; the status is that of committed reads. NoMemory where memory
+/// is refused.
 #[tactic(auto, using(crate::proofs::LevelLemmas::reads_end))]
 pub fn levels(alloc: Global, indexed: &Indexed) -> Result<Made, NoMemory>
     ensures found { IfOk result (λ made. AreLevels indexed.now.trace indexed.now.times.items indexed.now.ranks.items made.code made.text.items) }

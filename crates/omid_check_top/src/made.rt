@@ -17,11 +17,13 @@ use trace_report::push_unclear;
 /// A text, and the status that goes with it.
 #[derive(Drop)]
 pub struct Made {
+    /// The text, in bytes of UTF-8.
     pub text: Vec<u8>,
+    /// The status of the call.
     pub code: u8,
 }
 
-/// What is said of the trace that the bytes are.
+/// What is said of the trace that the bytes are. NoMemory where memory is refused.
 #[tactic(auto, using(crate::proofs::MadeLemmas::of_bytes, crate::proofs::MadeLemmas::not_read))]
 pub fn made_of(alloc: Global, question: Question, bytes: &[u8]) -> Result<Made, NoMemory>
     ensures right { IfOk result (λ made. IsRight question bytes.now made.code made.text.items) }
@@ -46,7 +48,7 @@ fn not_read(alloc: Global, line: u64, want: Want) -> Result<Made, NoMemory>
     })
 }
 
-/// That the trace is too long.
+/// That the trace is too long. NoMemory where memory is refused.
 pub fn too_long(alloc: Global) -> Result<Made, NoMemory>
     ensures code { IfOk result (λ made. made.code ≡ 3) }
     ensures told { IfOk result (λ made. made.text.items ≡ too_long_text) }

@@ -19,7 +19,7 @@ const OUT_OF_SESSION: &str = r#"{"type": "ok", "process": 0, "value": [["w", "x"
 {"type": "ok", "process": 0, "value": [["r", "x", 2]]}
 "#;
 
-/// The same, where the reader was asked for after the second write was answered.
+/// The reader of the first write was asked for after the second write was answered: so the first was written over it.
 const IN_TIME: &str = r#"{"type": "invoke", "process": 0, "time": 0, "value": [["w", "x", 1]]}
 {"type": "invoke", "process": 1, "time": 1, "value": [["w", "x", 2]]}
 {"type": "ok", "process": 1, "time": 2, "value": [["w", "x", 2]]}

@@ -17,7 +17,7 @@ use trace_reading::{Recording, push_words};
 use trace_rules::{Level, Wanted};
 
 /// The history of the trace with stamps at the level, in the order that is asked for besides; or which limit of histories is not
-/// met, or why there are none.
+/// met, or why there are none. NoMemory where memory is refused.
 #[tactic(auto, using(crate::proofs::StampLemmas::not_stamped, crate::proofs::StampLemmas::wrong_not_stamped, crate::proofs::StampLemmas::open_not_stamped))]
 pub fn stamps(
     alloc: Global,

@@ -6,8 +6,8 @@ use trace_report::{Step, Way};
 use trace_rules::{Level, Operation, Trace, Wanted};
 
 /// The steps of a cycle of edges between points, which are numbered as the judge numbers them: starts by transaction and behind
-/// them commits, or one point a transaction where the level is Serializable; behind the points stand moments. An edge
-/// within one transaction is no step, and those by way of moments are one.
+/// them commits, or one point a transaction where the level is Serializable; behind the points stand moments. An edge within one
+/// transaction is no step, and those by way of moments are one. NoMemory where memory is refused.
 pub fn steps_of(
     alloc: Global,
     level: Level,

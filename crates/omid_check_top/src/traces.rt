@@ -1,5 +1,6 @@
 // The five traces of examples/traces, without times: an event a line, but for the invocations that were answered.
 
+/// A trace of PostgreSQL at the level read committed.
 pub const POSTGRES_READ_COMMITTED: &str =
     r#"{"type":"ok","process":"before","value":[["w",0,"i.0"],["w",2,"i.2"]]}
 {"type":"ok","process":0,"value":[["r",3,null]]}
@@ -52,6 +53,7 @@ pub const POSTGRES_READ_COMMITTED: &str =
 {"type":"ok","process":3,"value":[["w",3,"3.11.0"],["r",1,"3.10.0"],["w",2,"3.11.1"],["r",2,"3.11.1"]]}
 "#;
 
+/// A trace of PostgreSQL at the level repeatable read.
 pub const POSTGRES_REPEATABLE_READ: &str =
     r#"{"type":"ok","process":"before","value":[["w",0,"i.0"],["w",2,"i.2"]]}
 {"type":"ok","process":0,"value":[["w",2,"0.0.0"],["w",1,"0.0.1"],["w",1,"0.0.2"],["r",3,null]]}
@@ -104,6 +106,7 @@ pub const POSTGRES_REPEATABLE_READ: &str =
 {"type":"ok","process":2,"value":[["w",3,"2.11.0"],["w",2,"2.11.1"],["r",2,"2.11.1"],["w",0,"2.11.2"]]}
 "#;
 
+/// A trace of PostgreSQL at the level serializable.
 pub const POSTGRES_SERIALIZABLE: &str =
     r#"{"type":"ok","process":"before","value":[["w",0,"i.0"],["w",2,"i.2"]]}
 {"type":"ok","process":0,"value":[["w",2,"0.0.0"],["w",1,"0.0.1"],["w",1,"0.0.2"],["r",3,null]]}
@@ -156,6 +159,7 @@ pub const POSTGRES_SERIALIZABLE: &str =
 {"type":"ok","process":3,"value":[["r",2,"3.7.2"],["r",2,"3.7.2"]]}
 "#;
 
+/// A trace of MariaDB at the level repeatable read.
 pub const MARIADB_REPEATABLE_READ: &str =
     r#"{"type":"ok","process":"before","value":[["w",0,"i.0"],["w",2,"i.2"]]}
 {"type":"ok","process":0,"value":[["r",3,null]]}
@@ -208,6 +212,7 @@ pub const MARIADB_REPEATABLE_READ: &str =
 {"type":"ok","process":1,"value":[["r",3,"1.6.0"],["w",2,"1.11.0"],["w",0,"1.11.1"]]}
 "#;
 
+/// A trace of MariaDB with snapshot isolation switched on.
 pub const MARIADB_SNAPSHOT_ISOLATION: &str =
     r#"{"type":"ok","process":"before","value":[["w",0,"i.0"],["w",2,"i.2"]]}
 {"type":"ok","process":1,"value":[["w",1,"1.0.0"]]}

@@ -8,7 +8,7 @@ use history_text::LineBuf;
 use stamp_base::{KeyNo, NoMemory, Stamp, TxnId, Value};
 use std::alloc::Global;
 
-/// What a reader at the water finds in the archive of that water, and the numbers of rows.
+/// What a reader at the water finds in the archive of that water, and the numbers of rows. NoMemory where memory is refused.
 pub fn text_of(alloc: Global, archive: &Archive, water: Stamp) -> Result<Vec<u8>, NoMemory>
     requires { archive.now.water ≡ water }
     ensures { IfOk result (λ text. text.items ≡ archive_text (read_from archive.now.rows water) archive.now.before (length archive.now.rows) water) }

@@ -102,7 +102,7 @@ fn judged(alloc: Global, asked: Standard, items: &[Item]) -> Result<Report, NoMe
     }
 }
 
-/// The same where they are isolated.
+/// What is found of items that are isolated.
 fn judged_isolated(alloc: Global, asked: Standard, items: &[Item]) -> Result<Report, NoMemory>
     requires { Isolated items.now }
     ensures always { IsOk result }
@@ -114,7 +114,7 @@ fn judged_isolated(alloc: Global, asked: Standard, items: &[Item]) -> Result<Rep
     }
 }
 
-/// The same where they shall be serial too.
+/// What is found of isolated items that shall be serial too.
 fn judged_strictly(alloc: Global, items: &[Item]) -> Result<Report, NoMemory>
     requires { Isolated items.now }
     ensures always { IsOk result }

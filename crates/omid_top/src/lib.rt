@@ -58,9 +58,9 @@ use words::Command;
 /// is written, with its cause; 4 where the source failed, 5 where the sink did, and 6 where memory was refused; 7
 /// where the history that was audited is not as asked, and the first broken rule and two items that break it are
 /// written; 8 where over split stores something else was kept of an event than comes of it, and the first two items that
-/// differ are written, and 9 where an actor has drawn all its ticks there. On 2 the source is not read, and on 3 nothing is carried out. No error of memory comes from judging, and
-/// none once the first byte is written, but for `replay json`: its lines take memory as they are made, and on 6 whole
-/// lines of a front of the history may have gone out.
+/// differ are written, and 9 where an actor has drawn all its ticks there. On 2 the source is not read, and on 3 nothing is carried
+/// out. No error of memory comes from judging, and none once the first byte is written, but for `replay json`: its lines take
+/// memory as they are made, and on 6 whole lines of a front of the history may have gone out.
 ///
 /// The words are text. A caller that has a word which is none hands in an empty one in its place, as `words_behind` does:
 /// no command has either.

@@ -23,6 +23,7 @@ use stamp_base::NoMemory;
 pub enum PrintStop {
     /// The sink failed.
     Failed,
+    /// Memory was refused.
     NoMemory,
 }
 
@@ -46,7 +47,8 @@ impl From<NoMemory> for PrintStop {
     }
 }
 
-/// Writes this text of the history. It takes no memory.
+/// Writes this text of the history. Failed where the sink fails, with a front of the text written. NoMemory at JSON alone, with the
+/// lines of the first items written; the other forms take no memory.
 pub fn print_in<K: Sink>(form: Form, sink: &mut K, items: &[Item]) -> Result<(), PrintStop>
     ensures all { OnOk result (Gains (K.held sink.old) (K.held sink.new) (text_in form items.now)) }
     ensures front { IsErrOf result PrintStop.Failed → GainsFront (K.held sink.old) (K.held sink.new) (text_in form items.now) }
@@ -108,7 +110,7 @@ fn print_summary<K: Sink>(sink: &mut K, items: &[Item]) -> Result<(), Failed>
     print_text(sink, line.as_slice())
 }
 
-/// Writes the usage line.
+/// Writes the usage line. Failed where the sink fails, with a front of it written.
 pub fn print_usage<K: Sink>(sink: &mut K) -> Result<(), Failed>
     ensures all { OnOk result (Gains (K.held sink.old) (K.held sink.new) usage_text) }
     ensures front { OnErr result (GainsFront (K.held sink.old) (K.held sink.new) usage_text) }
@@ -121,7 +123,7 @@ pub fn print_usage<K: Sink>(sink: &mut K) -> Result<(), Failed>
     )
 }
 
-/// Writes the first bad line of a script and its first cause.
+/// Writes the first bad line of a script and its first cause. Failed where the sink fails, with a front of the text written.
 pub fn print_bad_line<K: Sink>(sink: &mut K, number: u64, cause: ScriptCause) -> Result<(), Failed>
     ensures all { OnOk result (Gains (K.held sink.old) (K.held sink.new) (bad_line_text (record { line = number; cause = cause }))) }
     ensures front { OnErr result (GainsFront (K.held sink.old) (K.held sink.new) (bad_line_text (record { line = number; cause = cause }))) }
@@ -133,7 +135,7 @@ pub fn print_bad_line<K: Sink>(sink: &mut K, number: u64, cause: ScriptCause) ->
     print_text(sink, line.as_slice())
 }
 
-/// Writes what an audit reports.
+/// Writes what an audit reports. Failed where the sink fails, with a front of the text written.
 pub fn print_report<K: Sink>(sink: &mut K, report: &Report) -> Result<(), Failed>
     ensures all { OnOk result (Gains (K.held sink.old) (K.held sink.new) (report_text report.now)) }
     ensures front { OnErr result (GainsFront (K.held sink.old) (K.held sink.new) (report_text report.now)) }
@@ -145,7 +147,8 @@ pub fn print_report<K: Sink>(sink: &mut K, report: &Report) -> Result<(), Failed
     print_text(sink, line.as_slice())
 }
 
-/// Writes at which tick something else was kept of an event than comes of it, and the first pair of items that differ.
+/// Writes at which tick something else was kept of an event than comes of it, and the first pair of items that differ. Failed where
+/// the sink fails, with a front of the text written.
 pub fn print_torn<K: Sink>(
     sink: &mut K,
     tick: u64,
@@ -166,7 +169,7 @@ pub fn print_torn<K: Sink>(
     print_text(sink, line.as_slice())
 }
 
-/// Writes that an actor has drawn all its ticks.
+/// Writes that an actor has drawn all its ticks. Failed where the sink fails, with a front of the text written.
 pub fn print_spent<K: Sink>(sink: &mut K) -> Result<(), Failed>
     ensures all { OnOk result (Gains (K.held sink.old) (K.held sink.new) spent_text) }
     ensures front { OnErr result (GainsFront (K.held sink.old) (K.held sink.new) spent_text) }
@@ -217,7 +220,7 @@ fn set_bad_line(line: &mut LineBuf, number: u64, cause: ScriptCause)
     line.push_text(b"\n");
 }
 
-/// Writes the text. Most often the sink takes all of it at once.
+/// Writes the text. Most often the sink takes all of it at once. Failed where the sink fails, with a front of the text written.
 pub fn print_text<K: Sink>(sink: &mut K, text: &[u8]) -> Result<(), Failed>
     ensures all { OnOk result (Gains (K.held sink.old) (K.held sink.new) text.now) }
     ensures front { OnErr result (GainsFront (K.held sink.old) (K.held sink.new) text.now) }

@@ -41,8 +41,8 @@ pub fn program<R: Env + Alloc<A = Global> + Clock + Threads + Wait + Sync>(
 /// The longest word that is told from others. No word of a command is longer.
 const LONGEST: usize = 64;
 
-/// The words behind the program's name. One that is no text, or longer than any of a command, stands as an empty word:
-/// no command has either.
+/// The words behind the program's name. One that is no text, or longer than any of a command, stands as an empty word: no command
+/// has either. NoMemory where memory is refused.
 pub fn words_behind<E: Env>(env: &E, alloc: Global) -> Result<Vec<String>, NoMemory> {
     let mut words = Vec::new(alloc);
     let mut word = [0; LONGEST];

@@ -24,6 +24,7 @@ pub struct ShowingGate<'a, C: Clock + Sync> {
 }
 
 impl<'a, C: Clock + Sync> ShowingGate<'a, C> {
+    /// A gate that reads this clock, and shows on standard error only where that is a terminal.
     pub fn new(clock: &'a C, errors: Stderr) -> ShowingGate<'a, C> {
         ShowingGate {
             clock,

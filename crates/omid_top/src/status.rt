@@ -1,6 +1,7 @@
 /// How a call of the program ended.
 #[derive(Clone, Copy, Debug, PartialEq, Eq)]
 pub struct Status {
+    /// The status, as the process ends with it.
     pub code: u8,
 }
 

@@ -24,7 +24,8 @@ pub enum Command {
 /// The longest word that is told from others. No word of a command is longer.
 const LONGEST: usize = 64;
 
-/// The words behind the program's name. One that is no text, or longer than any of a command, stands as an empty word.
+/// The words behind the program's name. One that is no text, or longer than any of a command, stands as an empty word. NoMemory
+/// where memory is refused.
 pub fn words_behind<E: Env>(env: &E, alloc: Global) -> Result<Vec<String>, NoMemory> {
     let mut words = Vec::new(alloc);
     let mut word = [0; LONGEST];

@@ -19,11 +19,13 @@ use std::alloc::Global;
 /// A text, and the status that goes with it.
 #[derive(Drop)]
 pub struct Made {
+    /// The text.
     pub text: Text,
+    /// The status of the call.
     pub code: u8,
 }
 
-/// What the command makes of the items.
+/// What the command makes of the items. NoMemory where memory is refused.
 pub fn made_of(alloc: Global, command: Command, items: &[Item]) -> Result<Made, NoMemory>
     requires { IsSound command }
     ensures made { IfOk result (λ made. Makes command items.now made.code made.text) }

@@ -18,9 +18,9 @@ use stamp_base::{BYTE_LIMIT, NoMemory};
 use std::alloc::Global;
 
 /// Carries out what the words name: reads a history, and writes its picture or that of what is broken in it, what is broken and the
-/// explanations of its refusals, or a page to explore it. The status is 0 where that was done, 2 where the words are no command, 3 where the bytes are
-/// no history, 4 where the source failed, 5 where the sink did, 6 where memory was refused, and 7 where a history that was
-/// judged is not isolated or, by a strict command, not serial. On 2 the source is not read.
+/// explanations of its refusals, or a page to explore it. The status is 0 where that was done, 2 where the words are no command, 3
+/// where the bytes are no history, 4 where the source failed, 5 where the sink did, 6 where memory was refused, and 7 where a
+/// history that was judged is not isolated or, by a strict command, not serial. On 2 the source is not read.
 pub fn view<S: Source, K: Sink>(alloc: Global, words: &[String], source: &mut S, sink: &mut K) -> u8
     // What is done for the words.
     ensures views { (command : Command) → Names command (map string_bytes words.now) →

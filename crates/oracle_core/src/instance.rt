@@ -13,8 +13,8 @@ use std::alloc::Global;
 use std::marker::Model;
 use system_parts::{Decided, Grant, Held, Place, Progress, Reply, Request, Settled, Verdict};
 
-/// One oracle, made by one grant of the master record. A request goes from place to place by `ask`, `accept`,
-/// `decide`, for a commit that it places itself `settle`, and `answer`.
+/// One oracle, made by one grant of the master record. A request goes from place to place by `ask`, `accept`, `decide`, for a
+/// commit that it places itself `settle`, and `answer`. Readings and ends of leases are in ticks of the base clock.
 #[derive(Drop)]
 pub struct Instance {
     node: NodeNo,
@@ -44,7 +44,7 @@ impl Model for Instance {
 }
 
 impl Instance {
-    /// An instance that holds no request. All its memory is taken here.
+    /// An instance that holds no request. All its memory is taken here. NoMemory where memory is refused.
     pub fn open(
         alloc: Global,
         grant: Grant,

@@ -6,6 +6,7 @@ ghost use Rattle.system_parts.specs.InstanceSteps as step;
 use stamp_base::{SessionNo, Stamp};
 use system_parts::{Held, Place, Progress, Request};
 
+/// The session that made the request.
 pub fn session_of(request: &Request) -> SessionNo
     ensures { result ≡ entry.session_of request.now }
 {
@@ -27,6 +28,7 @@ pub fn just_asked(request: Request) -> Held
     }
 }
 
+/// The request, and how far it has come. None where none is held.
 pub fn request_of(held: &Option<Held>) -> Option<(Request, Place)>
     ensures { result ≡ entry.request_of_held held.now }
 {
@@ -36,6 +38,7 @@ pub fn request_of(held: &Option<Held>) -> Option<(Request, Place)>
     }
 }
 
+/// How far the request has come. None where none is held.
 pub fn place_of(held: &Option<Held>) -> Option<Place>
     ensures { result ≡ entry.place_of_held held.now }
 {
@@ -56,6 +59,7 @@ fn place_of_progress(progress: &Progress) -> Place
     }
 }
 
+/// Whether a request is held whose session was told to wait for an earlier commit.
 pub fn told_not_yet(held: &Option<Held>) -> bool
     ensures { result ≡ entry.not_yet_of_held held.now }
 {

@@ -13,11 +13,15 @@ use trace_rules::{Operation, Transaction, Version};
 pub struct Reading {
     /// Its place among the operations.
     pub place: usize,
+    /// The reader's place among the transactions.
     pub txn: usize,
+    /// The key's number.
     pub key: u64,
+    /// The version that it found; None where it found nothing.
     pub answer: Option<Version>,
 }
 
+/// What the search for reads of others gives.
 #[derive(Drop)]
 pub enum Found {
     /// All reads of others; each read of a key that its transaction wrote is of that write.
@@ -34,7 +38,7 @@ enum Look {
     Wrong,
 }
 
-/// The reads of others, or the first wrong read of a transaction's own write.
+/// The reads of others, or the first wrong read of a transaction's own write. AllocError where memory is refused.
 pub fn readings_of(
     alloc: Global,
     transactions: &[Transaction],

@@ -20,7 +20,7 @@ pub enum Sources {
     WrongRead(usize),
 }
 
-/// Finds what each read is of, in a time and memory in proportion to the operations.
+/// Finds what each read is of, in a time and memory in proportion to the operations. AllocError where memory is refused.
 pub fn sources_of(
     alloc: Global,
     transactions: &[Transaction],

@@ -14,7 +14,7 @@ pub struct LastValues {
     values: HashMap<(usize, u64), u64>,
 }
 
-/// Of all operations.
+/// The last values of all operations. AllocError where memory is refused.
 pub fn last_values(alloc: Global, operations: &[Operation]) -> Result<LastValues, AllocError>
     ensures { IfOk result (λ last. HasLast operations.now last.values) }
 {
@@ -26,7 +26,7 @@ pub fn last_values(alloc: Global, operations: &[Operation]) -> Result<LastValues
 }
 
 impl LastValues {
-    /// Of no operations.
+    /// The last values of no operations.
     pub fn new(alloc: Global) -> LastValues
         ensures { HasLast [] result.values }
     {
@@ -35,6 +35,8 @@ impl LastValues {
         }
     }
 
+    /// Notes an operation behind those passed so far: a write sets the transaction's last value at the key. AllocError where memory
+    /// is refused.
     pub fn pass(&mut self, operation: &Operation) -> Result<(), AllocError>
         ensures { OnOk result ((part : List Operation) → HasLast part self.old.values → HasLast (part ++ operation.now ∷ []) self.new.values) }
     {

@@ -11,12 +11,15 @@ use trace_rules::{Operation, Transaction};
 /// A committed transaction's last value at a key.
 #[derive(Clone, Copy, Debug, PartialEq, Eq)]
 pub struct Writing {
+    /// The writer's place among the transactions.
     pub txn: usize,
+    /// The key's number.
     pub key: u64,
+    /// The value's number.
     pub value: u64,
 }
 
-/// Each version of a committed transaction, once where no transaction writes a value twice.
+/// Each version of a committed transaction, once where no transaction writes a value twice. AllocError where memory is refused.
 pub fn writings_of(
     alloc: Global,
     transactions: &[Transaction],
@@ -71,6 +74,7 @@ fn writing_at(
     }
 }
 
+/// Whether the transaction committed. False where there is no such transaction.
 pub fn is_committed(transactions: &[Transaction], txn: usize) -> bool
     ensures { result ≡ committed_in (slice_get transactions.now txn) }
 {

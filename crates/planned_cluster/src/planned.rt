@@ -20,8 +20,11 @@ use std::alloc::Global;
 /// The cluster, the weather that is still ahead, and the base clock.
 #[derive(Drop)]
 pub struct PlannedCluster {
+    /// The cluster, with who took the master record.
     pub cluster: WatchedCluster,
+    /// The faults that are still ahead.
     pub weather: PlannedWeather,
+    /// The base clock, in ticks.
     pub clock: u64,
 }
 

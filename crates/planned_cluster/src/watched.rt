@@ -51,7 +51,7 @@ impl Model for WatchedCluster {
 }
 
 impl WatchedCluster {
-    /// Nobody has taken the record.
+    /// Nobody has taken the record. NoMemory where memory is refused.
     pub fn open(alloc: Global, setup: Setup) -> Result<WatchedCluster, NoMemory>
         ensures state { IfOk result (λ made. made.state ≡ opening (numbers_of setup)) }
         ensures history { IfOk result (λ made. made.history ≡ []) }
@@ -64,7 +64,7 @@ impl WatchedCluster {
         })
     }
 
-    /// As the cluster makes it.
+    /// As the cluster makes it, with its errors.
     pub fn make<W: Weather>(&mut self, weather: &mut W, event: &Event) -> Result<(), Stopped>
         requires { IsSteadyAt self.old.state.setup.skew self.old.state.seen (reading_of event.now) }
         ensures made { MakesStep (step_under (W.ahead weather.old) self.old.state event.now) self.old self.new result }

@@ -26,14 +26,18 @@ pub trait Sink {
 /// Why a sink took no more.
 #[derive(Clone, Copy, Debug, PartialEq, Eq)]
 pub enum SinkWhy {
+    /// A write failed.
     Failed,
+    /// A write took no byte.
     TookNothing,
 }
 
 /// How many bytes went out, and why no more did.
 #[derive(Clone, Copy, Debug, PartialEq, Eq)]
 pub struct SinkStop {
+    /// How many bytes went out.
     pub sent: usize,
+    /// Why no more did.
     pub why: SinkWhy,
 }
 

@@ -28,8 +28,11 @@ pub trait Source {
 /// Why a source was not read to its end.
 #[derive(Clone, Copy, Debug, PartialEq, Eq)]
 pub enum ReadStop {
+    /// A read failed.
     Failed,
+    /// It has more bytes than were allowed.
     TooLong,
+    /// Memory was refused.
     NoMemory,
 }
 

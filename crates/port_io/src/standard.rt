@@ -14,6 +14,7 @@ pub struct StdSource {
 }
 
 impl StdSource {
+    /// A source of standard input, of which no read failed yet.
     pub fn new(input: Stdin) -> StdSource
         ensures { ⟦<StdSource as Source>⟧.faults result ≡ 0 }
     {
@@ -51,6 +52,7 @@ pub struct StdSink {
 }
 
 impl StdSink {
+    /// A sink of standard output, to which nothing went yet.
     pub fn new(out: Stdout) -> StdSink
         ensures { ⟦<StdSink as Sink>⟧.faults result ≡ 0 }
     {
@@ -62,7 +64,7 @@ impl StdSink {
         }
     }
 
-    /// Writes what was kept back. Ok only where this worked and no write failed before, so that all went out.
+    /// Writes what was kept back. Ok only where this worked and no write failed before, so that all went out; else Failed.
     pub fn finish(mut self) -> Result<(), Failed>
         ensures { OnOk result (⟦<StdSink as Sink>⟧.faults self ≡ 0) }
     {

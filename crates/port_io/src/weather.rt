@@ -8,8 +8,11 @@ use stamp_base::Store;
 /// would have changed.
 #[derive(Clone, Copy, Debug, PartialEq, Eq)]
 pub enum Fate {
+    /// The call is answered and takes effect.
     Works,
+    /// The call fails and changes nothing.
     FailsUnchanged,
+    /// The call fails and takes effect all the same.
     FailsApplied,
 }
 

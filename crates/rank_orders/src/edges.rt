@@ -17,8 +17,9 @@ use trace_edges::lay;
 use trace_rules::Transaction;
 use version_ranks::Rank;
 
-/// Lays, behind the others, edges of the order of versions that is told, from each version's writer to those of the next versions of
-/// its key. Ranks are to stand by key and version. It takes a time in proportion to their number.
+/// Lays, behind the others, edges of the order of versions that is told, from each version's writer to those of the next versions
+/// of its key. Ranks are to stand by key and version. It takes a time in proportion to their number. AllocError where memory is
+/// refused.
 pub fn lay_ranks(
     edges: &mut Vec<Edge>,
     transactions: &[Transaction],

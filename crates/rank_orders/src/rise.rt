@@ -12,7 +12,9 @@ use version_ranks::Rank;
 /// How far the ranks have come that were looked at.
 #[derive(Clone, Copy, Debug, PartialEq, Eq)]
 pub struct Height {
+    /// The key's number.
     pub key: u64,
+    /// The version's rank.
     pub version: u64,
     /// Above the numbers of commits of the key's lower versions.
     pub under: usize,

@@ -16,7 +16,7 @@ pub struct Cleared {
 }
 
 impl Cleared {
-    /// Of no items.
+    /// What no items have cleared.
     pub fn new(alloc: Global) -> Cleared
         ensures { (h : List Item) → AreCleared h [] result }
     {
@@ -37,6 +37,7 @@ impl Cleared {
         }
     }
 
+    /// Whether a read of the key by the transaction with this start is known to stand.
     pub fn has(&self, start: Stamp, key: KeyNo) -> bool
         ensures { result ≡ true → HasPair self.now.pairs start key }
     {

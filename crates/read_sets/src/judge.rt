@@ -10,6 +10,7 @@ use std::alloc::Global;
 /// What a history is found to be.
 #[derive(Clone, Copy, Debug, PartialEq, Eq)]
 pub enum SerialVerdict {
+    /// No placed commit crosses a read.
     Serial,
     /// The numbers of a read and of a placed commit that crosses it, counted from 1: another transaction wrote the key, and
     /// its commit is above the reader's start and below the reader's commit.

@@ -36,7 +36,8 @@ impl ReadSet {
         &self.keys
     }
 
-    /// Adds a key at the end. A key that is there keeps its place.
+    /// Adds a key at the end. A key that is there keeps its place. TooManyKeys exactly where 64 other keys are held, and then
+    /// nothing changes.
     pub fn read(&mut self, key: KeyNo) -> Result<(), TooManyKeys>
         ensures there { Contains self.old key → OnOk result (self.new ≡ self.old) }
         ensures added { (Contains self.old key → ⊥) → OnOk result (self.new ≡ self.old ++ key ∷ []) }

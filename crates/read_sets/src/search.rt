@@ -49,7 +49,7 @@ fn second_at(
     }
 }
 
-/// The same for a read of the key by the transaction, behind these items.
+/// The first placed commit that crosses a read of the key by the transaction, behind these items.
 fn second_of_read(
     items: &[Item],
     index: &Option<Index>,

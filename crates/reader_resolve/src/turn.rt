@@ -10,9 +10,13 @@ use system_parts::{Answer, Cell, Known, Outcome};
 /// at most the epoch.
 #[derive(Clone, Copy, Debug)]
 pub struct Reader {
+    /// The key that is read.
     pub key: KeyNo,
+    /// The transaction, by its start.
     pub start: Stamp,
+    /// The epoch of its begin.
     pub epoch: u64,
+    /// Whether it may mark every version.
     pub every: bool,
 }
 
@@ -21,6 +25,7 @@ pub struct Reader {
 pub enum Turn {
     /// Resolves the cell that comes after those that were passed over.
     Resolves { passed: usize, settle: Settle },
+    /// Ends with this answer.
     Answers(Answer),
 }
 

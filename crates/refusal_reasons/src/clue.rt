@@ -8,13 +8,21 @@ use stamp_base::{KeyNo, NodeNo, SessionNo, Store};
 /// What an item has to be. Terms, stamps, epochs, ceilings and ends of leases stand as numbers.
 #[derive(Clone, Copy, Debug, PartialEq, Eq)]
 pub enum Clue {
+    /// An ask of the session.
     Ask { session: SessionNo },
+    /// An accept of the session's request.
     Accepted { session: SessionNo },
+    /// A draw for the session.
     Drew { session: SessionNo },
+    /// A take by the node.
     Took { node: NodeNo },
+    /// A crash of the node's oracle.
     Crashed { node: NodeNo },
+    /// A crash of the node's oracle of the term.
     CrashedIn { node: NodeNo, term: u64 },
+    /// A write at the key by the transaction with this start.
     Wrote { start: u64, key: KeyNo },
+    /// A begin of the session.
     Begun { session: SessionNo },
     /// A fetch of the key by the session.
     Fetched { session: SessionNo, key: KeyNo },
@@ -22,28 +30,35 @@ pub enum Clue {
     Commit { term: u64, commit: u64 },
     /// A draw of the stamp in the term, as a start or as a commit.
     StampIn { term: u64, stamp: u64 },
+    /// A take by the node, with this epoch.
     Epoch { node: NodeNo, epoch: u64 },
     /// A take whose lease has this end.
     LeaseTaken { node: NodeNo, until: u64 },
+    /// A renewal by the node, of a lease with this end.
     LeaseRenewed { node: NodeNo, until: u64 },
     /// A take or a renewal, of any node.
     Lease { until: u64 },
     /// A take of the term, by any node.
     TermTaken { term: u64 },
+    /// A take of the term by the node.
     OwnTerm { node: NodeNo, term: u64 },
+    /// A take by the node of a term below this one.
     EarlierTerm { node: NodeNo, than: u64 },
     /// A take or an extension with this ceiling, in any term.
     Ceiling { ceiling: u64 },
+    /// A take or an extension with this ceiling, in the term.
     CeilingIn { term: u64, ceiling: u64 },
+    /// An invalid mark of the transaction with this start.
     Marked { start: u64 },
     /// A call on the commit table failed, of the node or of the session.
     TableFault { node: NodeNo, session: SessionNo },
     /// A call of the node on any store failed.
     NodeFault { node: NodeNo },
+    /// The session is gone.
     Vanished { session: SessionNo },
     /// A commit that was placed.
     Placed { commit: u64 },
-    /// The same, of the transaction with this start.
+    /// A commit that was placed, of the transaction with this start.
     CommitOf { start: u64 },
     /// An ask for a start.
     AskedStart { session: SessionNo },
@@ -71,7 +86,7 @@ pub fn fits(clue: &Clue, item: &Item) -> bool
     }
 }
 
-/// The same for clues that tell of nodes.
+/// Whether the item is what a clue that tells of nodes asks for.
 fn fits_node(clue: &Clue, item: &Item) -> bool
     ensures { result ≡ clues.fits_node clue.now item.now }
 {

@@ -9,7 +9,7 @@ use history_view::Text;
 use stamp_base::NoMemory;
 use std::alloc::Global;
 
-/// The explanations of all refusals among the items.
+/// The explanations of all refusals among the items. NoMemory where memory is refused.
 pub fn explain_refusals(alloc: Global, items: &[Item]) -> Result<Text, NoMemory>
     ensures { IfOk result (λ text. text ≡ explanations items.now 0 items.now) }
 {
@@ -135,7 +135,7 @@ fn print_witness(text: &mut Text, number: u64, item: &Item) -> Result<(), NoMemo
     Ok(())
 }
 
-/// Adds an item by its number and its words.
+/// Adds an item by its number and its words. NoMemory where memory is refused.
 #[tactic(auto, unfolding(crate::specs::Words::named_text))]
 pub fn print_named(text: &mut Text, number: u64, item: &Item) -> Result<(), NoMemory>
     ensures { OnOk result (text.new ≡ text.old ++ named_text number item.now) }

@@ -17,8 +17,11 @@ use stamp_base::{KeyNo, NodeNo, SessionNo, TxnId};
 /// The places of the items that show a refusal, at most three.
 #[derive(Clone, Copy, Debug, PartialEq, Eq)]
 pub struct Places {
+    /// The place of the first, counted from 0.
     pub first: Option<usize>,
+    /// The place of the second.
     pub second: Option<usize>,
+    /// The place of the third.
     pub third: Option<usize>,
 }
 

@@ -11,6 +11,7 @@ use std::alloc::Global;
 /// Lines for a script of two nodes, numbered from 1.
 #[derive(Drop)]
 pub struct Draft {
+    /// The lines so far.
     pub lines: Vec<Line>,
     ghost sound: { All (LineIsSound 2) lines.items },
 }
@@ -27,7 +28,7 @@ impl Draft {
         }
     }
 
-    /// Adds a line: the actor is to do this.
+    /// Adds a line: the actor is to do this. NoMemory where memory is refused.
     #[tactic(auto, unfolding(crate::specs::Storm::lines_from))]
     pub fn add(&mut self, actor: Actor, verb: Verb) -> Result<(), NoMemory>
         requires room { length self.old.lines.items < LINE_LIMIT }

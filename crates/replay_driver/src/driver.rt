@@ -20,8 +20,8 @@ use session_script::Script;
 use stamp_base::{LINE_LIMIT, NoMemory};
 use std::alloc::Global;
 
-/// The cluster once all the script's lines were carried out, each to its end. A refused line ends nothing: its refusal stands
-/// in the history.
+/// The cluster once all the script's lines were carried out, each to its end. A refused line ends nothing: its refusal stands in
+/// the history. NoMemory where memory is refused.
 pub fn replay(alloc: Global, script: &Script) -> Result<Cluster, NoMemory>
     requires { vec_len script.now.lines ≤ LINE_LIMIT }
     ensures history { IfOk result (λ cluster. cluster.history ≡ replayed (data_of script.now)) }
@@ -33,7 +33,8 @@ pub fn replay(alloc: Global, script: &Script) -> Result<Cluster, NoMemory>
     replay_told(alloc, script, &Silent)
 }
 
-/// The same. Behind each line, `progress` is told how many were carried out.
+/// The cluster once all the script's lines were carried out, as `replay` gives it. Behind each line, `progress` is told how many
+/// were carried out. NoMemory where memory is refused.
 pub fn replay_told<P: Progress>(
     alloc: Global,
     script: &Script,

@@ -31,7 +31,7 @@ const KEYS: u64 = 31;
 /// How long the clock ticks while a node takes over.
 const PAUSE: u64 = 12;
 
-/// The script of a storm of so many transactions.
+/// The script of a storm of so many transactions. NoMemory where memory is refused.
 pub fn storm_script(alloc: Global, transactions: u64) -> Result<Script, NoMemory>
     requires { IsWithin 1 20000 transactions }
     ensures script { IfOk result (λ script. data_of script ≡ storm_data transactions) }

@@ -62,9 +62,13 @@ impl Loose {
 /// Where a stage of a node works, and what its three stages do alike.
 #[derive(Drop)]
 pub struct Desk<'a, B: Steps, G: Gate> {
+    /// The node.
     pub node: NodeNo,
+    /// The board that is asked for each step.
     pub board: &'a B,
+    /// The queues of all nodes.
     pub queues: &'a Queues,
+    /// The gate that is passed before each step.
     pub gate: &'a G,
 }
 
@@ -90,7 +94,8 @@ impl<B: Steps, G: Gate> Desk<'_, B, G> {
     }
 
     /// Makes the stage's step for an entry's request, again and again while the stage is held or a commit below the request's start
-    /// is not settled. A request that is not there any more is passed over.
+    /// is not settled. A request that is not there any more is passed over. An Ending where the stage is to end: the queues are
+    /// closed, or memory was refused.
     pub fn step_in_turn<R: Wait>(
         &self,
         rt: &R,
@@ -130,8 +135,8 @@ impl<B: Steps, G: Gate> Desk<'_, B, G> {
         self.board.let_yield(self.gate.yields());
     }
 
-    /// For a stage that found the queue of the next one full: asks for room, and where it has asked since it last waited, waits until
-    /// it is woken. Ends the stage where the queues are closed.
+    /// For a stage that found the queue of the next one full: asks for room, and where it has asked since it last waited, waits
+    /// until it is woken. Ends the stage where the queues are closed.
     pub fn wait_for_room<R: Wait>(
         &self,
         rt: &R,
@@ -170,8 +175,8 @@ impl<B: Steps, G: Gate> Desk<'_, B, G> {
         unreachable!()
     }
 
-    /// For a request stage that found the pool out: asks for a batch, and where it has asked since it last waited, waits until it is
-    /// woken. Ends the stage where the queues are closed.
+    /// For a request stage that found the pool out: asks for a batch, and where it has asked since it last waited, waits until it
+    /// is woken. Ends the stage where the queues are closed.
     pub fn wait_for_empty<R: Wait>(&self, rt: &R, asked: bool) -> Result<(), Ending> {
         if asked {
             return self.wait(rt, Stage::Request, 0);
@@ -181,8 +186,8 @@ impl<B: Steps, G: Gate> Desk<'_, B, G> {
         Ok(())
     }
 
-    /// For a persist worker that found no batch: tells that it is going to wait, and where it has told so already, waits until it is
-    /// woken. Ends the stage where the queues are closed.
+    /// For a persist worker that found no batch: tells that it is going to wait, and where it has told so already, waits until it
+    /// is woken. Ends the stage where the queues are closed.
     pub fn wait_for_batch<R: Wait>(&self, rt: &R, worker: u64) -> Result<(), Ending> {
         if self.queues.rest_for_batch(self.node, worker) {
             return self.wait(rt, Stage::Persist, worker);
@@ -217,8 +222,8 @@ pub fn entry_of(ticket: &Ticket, start: Stamp, commit: Option<Stamp>) -> Entry
     }
 }
 
-// Whether the stage is through with a request after this step. Otherwise it is held, an earlier commit is not settled, or memory was
-// refused.
+// Whether the stage is through with a request after this step. Otherwise it is held, an earlier commit is not settled, or memory
+// was refused.
 fn is_over(step: &StageStep) -> bool
     ensures { result ≡ is_over step.now }
 {

@@ -21,7 +21,7 @@ pub struct Ending {
 }
 
 impl Ending {
-    /// Where the queues are closed.
+    /// An Ending where the queues are closed.
     pub fn where_closed(queues: &Queues) -> Result<(), Ending> {
         if queues.closed() {
             return Err(Ending {

@@ -6,7 +6,9 @@ use std::sync::Wait;
 /// A stage of a node.
 #[derive(Clone, Copy, Debug, PartialEq, Eq)]
 pub struct GatePlace {
+    /// The node.
     pub node: NodeNo,
+    /// Which of its stages it is.
     pub stage: Stage,
 }
 
@@ -22,6 +24,7 @@ pub enum WaitsFor {
 /// Is passed before each step of a stage, outside all locks. It may keep a stage waiting. And it is told how far a replay is,
 /// which has no stages. All but `pass` have default bodies, and no promise rests on any of them.
 pub trait Gate: Sync {
+    /// Is called by the node's stage before each of its steps. It may wait.
     fn pass<R: Wait>(&self, rt: &R, place: GatePlace);
 
     /// So many lines of a script were carried out in file order, of all that it has. What a gate does with that is no part of
@@ -61,6 +64,7 @@ pub trait Gate: Sync {
 /// A gate, where a thread that waits asks how it gives way.
 #[derive(Drop)]
 pub struct GateWay<'a, G: Gate> {
+    /// The gate that is asked.
     pub gate: &'a G,
 }
 

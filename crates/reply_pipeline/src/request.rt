@@ -70,8 +70,8 @@ fn serve<R: Wait, B: Steps, G: Gate>(rt: &R, desk: &Desk<'_, B, G>, pass: &mut S
     leave(left, Ending::closing(desk.queues))
 }
 
-// Gathers what is drawn next in a batch of this number, and sends it. A ticket may be left from the batch before, and from this one,
-// whose request waits for a stage that is held.
+// Gathers what is drawn next in a batch of this number, and sends it. A ticket may be left from the batch before, and from this
+// one, whose request waits for a stage that is held.
 fn make_batch<R: Wait, B: Steps, G: Gate>(
     rt: &R,
     desk: &Desk<'_, B, G>,
@@ -263,8 +263,8 @@ fn try_ticket<R: Wait, B: Steps, G: Gate>(
     unreachable!()
 }
 
-// Whether the request has ended with this step, or is not there any more. A refused or faulted extension leaves it where it was. The
-// causes of a refused extension also end a request, which its next step then does not find.
+// Whether the request has ended with this step, or is not there any more. A refused or faulted extension leaves it where it was.
+// The causes of a refused extension also end a request, which its next step then does not find.
 fn ends(step: &StageStep) -> bool
     ensures { result ≡ ends step.now }
 {
@@ -304,7 +304,8 @@ fn empty_batch<R: Wait, B: Steps, G: Gate>(
     unreachable!()
 }
 
-// Sends a batch, in which all is entered that was drawn, and waits while the queue is full, or gives it back where the queues are closed.
+// Sends a batch, in which all is entered that was drawn, and waits while the queue is full, or gives it back where the queues are
+// closed.
 fn send<R: Wait, B: Steps, G: Gate>(
     rt: &R,
     desk: &Desk<'_, B, G>,

@@ -15,6 +15,7 @@ pub struct Passed {
 }
 
 impl Passed {
+    /// Passes the gate for one step of the stage.
     pub fn at<R: Wait, G: Gate>(rt: &R, gate: &G, node: NodeNo, stage: Stage) -> Passed
         ensures { (result.node ≡ node) × (result.stage ≡ stage) }
     {
@@ -98,8 +99,8 @@ impl Said {
     }
 }
 
-// The board says Held wherever the stage is held, also of what is not there any more. A held stage keeps nothing of an instance that
-// is gone.
+// The board says Held wherever the stage is held, also of what is not there any more. A held stage keeps nothing of an instance
+// that is gone.
 fn held_step<R: Wait, B: Steps>(rt: &R, board: &B, node: NodeNo, term: Term) -> StageStep {
     let found = board.term_of(rt, node);
     if found == Some(term) {

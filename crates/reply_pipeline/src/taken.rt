@@ -38,6 +38,7 @@ impl Taken {
         Taken { ticket }
     }
 
+    /// The ticket.
     pub fn ticket(&self) -> Ticket
         ensures { result ≡ self.now }
     {

@@ -45,7 +45,7 @@ impl Model for RequestPass {
 }
 
 impl RequestRing {
-    /// A ring for `room` tickets, and the receiver's pass.
+    /// A ring for `room` tickets, and the receiver's pass. NoMemory where memory is refused.
     pub fn open(alloc: Global, room: usize) -> Result<(RequestRing, RequestPass), NoMemory>
         requires { 0 < room }
         ensures { IfOk result (λ opened. (opened.0.room ≡ room) × (opened.1 ≡ holds opened.0.id first_account)) }

@@ -3,8 +3,10 @@ use crate::account::{RequestAccount, Ticket};
 use crossbeam_queue::protocol::{Join, Lesson, Outcome, Protocol, Split};
 use crossbeam_queue::{Pass, RuledArrayQueue};
 
+/// A ring of tickets under the rule InTurn.
 pub type Ruled = RuledArrayQueue<Ticket, RequestAccount, InTurn>;
 
+/// A pass of a ring of tickets, with its account.
 pub type RuledPass = Pass<Ticket, RequestAccount>;
 
 /// What was taken of each sender is what that sender put first.

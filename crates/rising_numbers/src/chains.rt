@@ -10,10 +10,13 @@ use std::alloc::{AllocError, Global};
 /// there is none.
 #[derive(Drop)]
 pub struct Chains {
+    /// For each node, one more than the place of the last edge that leads to it; 0 where none does.
     pub heads: Vec<usize>,
+    /// For each edge, one more than the place of the one before it to the same node; 0 where there is none.
     pub nexts: Vec<usize>,
 }
 
+/// The chains of these edges, whose ends are below `nodes`. AllocError where memory is refused.
 pub fn chained(alloc: Global, nodes: usize, edges: &[Edge]) -> Result<Chains, AllocError>
     requires { AreWithin nodes edges.now }
     ensures chained { IfOk result (λ c. Chained edges.now c.heads.items c.nexts.items (length edges.now)) }

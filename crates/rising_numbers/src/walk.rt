@@ -8,11 +8,13 @@ use crate::Edge;
 use crate::chains::Chains;
 use std::alloc::{AllocError, Global};
 
+/// How far the walk has come.
 #[derive(Drop)]
 pub struct Walk {
     /// How much of its chain is ahead of a node: 0 once it has its number, 1 at the end of the chain, above that two more than
     /// the place of its next edge; and two more than its head before the walk came to it.
     pub ahead: Vec<usize>,
+    /// The number of each node that has one.
     pub numbers: Vec<usize>,
     /// The nodes that wait for a number, each for the next one.
     pub path: Vec<usize>,
@@ -21,6 +23,7 @@ pub struct Walk {
 }
 
 impl Walk {
+    /// A walk that has come to no node yet. AllocError where memory is refused.
     pub fn new(
         alloc: Global,
         nodes: usize,
@@ -49,7 +52,7 @@ impl Walk {
     }
 
     /// Gives a node its number, and with it all from which edges lead to it; or gives a node from which the last one of the path
-    /// has its next edge, and which is on the path too.
+    /// has its next edge, and which is on the path too. AllocError where memory is refused.
     pub fn visit(
         &mut self,
         edges: &[Edge],
@@ -72,7 +75,7 @@ impl Walk {
         }
     }
 
-    /// The edges from a node on the path to those before it, up to where the path came to it.
+    /// The edges from a node on the path to those before it, up to where the path came to it. AllocError where memory is refused.
     pub fn round(
         &self,
         alloc: Global,

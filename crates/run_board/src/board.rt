@@ -32,7 +32,8 @@ use turn_rules::Turn;
 /// How often a thread tries for the lock before it sleeps.
 const TRIES: u64 = 100;
 
-/// How many pauses lie between two tries of a thread that keeps its processor. They take about as long as a yield that comes back at once.
+/// How many pauses lie between two tries of a thread that keeps its processor. They take about as long as a yield that comes back
+/// at once.
 const PAUSES: u64 = 10;
 
 /// A play behind a lock, and its script once more.
@@ -46,7 +47,7 @@ pub struct Board<L: Ledger> {
 
 impl<L: Ledger> Board<L> {
     /// A board, and one share for each actor with lines, in the order clock, janitor, nodes, sessions. The blank has as many parts
-    /// as that, or one where no actor has a line.
+    /// as that, or one where no actor has a line. NoMemory where memory is refused.
     pub fn open(
         alloc: Global,
         script: Script,
@@ -84,8 +85,8 @@ impl<L: Ledger> Board<L> {
         &self.script
     }
 
-    // The play, once nobody else has it. An event takes about a microsecond, and to sleep and be woken several; so who finds the lock
-    // taken tries again some times before it sleeps.
+    // The play, once nobody else has it. An event takes about a microsecond, and to sleep and be woken several; so who finds the
+    // lock taken tries again some times before it sleeps.
     fn taken<R: Wait>(&self, rt: &R) -> MutexGuard<'_, Play<L>> {
         for _try in 0..TRIES {
             if let Some(play) = self.play.try_lock() {

@@ -1,5 +1,5 @@
-//! A script that is carried out turn by turn, in whatever order the turns come, and the lock round it: what stands after the turns is
-//! what their list makes of the script, and by the shares of the actors it is known in the end that every line was made.
+//! A script that is carried out turn by turn, in whatever order the turns come, and the lock round it: what stands after the turns
+//! is what their list makes of the script, and by the shares of the actors it is known in the end that every line was made.
 #![tactic(auto)]
 
 mod answers;

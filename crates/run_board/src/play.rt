@@ -75,9 +75,9 @@ impl<L: Ledger> Play<L> {
     }
 
     /// The history that the turns have made, at every moment. It is isolated, each of its refusals is shown by what stands before
-    /// it, and where the setup asks for strict reads it is serial. Every line that an actor has passed is answered, and so is each line before a cursor, since no cursor is ahead of
-    /// its actor; nor does one lack a line that its actor had passed with a turn of its own. Faults, ticks and readings are those that
-    /// the script plans.
+    /// it, and where the setup asks for strict reads it is serial. Every line that an actor has passed is answered, and so is each
+    /// line before a cursor, since no cursor is ahead of its actor; nor does one lack a line that its actor had passed with a turn
+    /// of its own. Faults, ticks and readings are those that the script plans.
     pub fn history(&self) -> &[Item]
         ensures value { result.now ≡ carried_items self.now.ran.script self.now.ran.turns }
         ensures isolated { Isolated result.now }
@@ -94,8 +94,8 @@ impl<L: Ledger> Play<L> {
     }
 
     /// Makes the next event of the present line of the share's actor, unless it waits or no line is left: where the line names the
-    /// master, it asks the node at which the share is aimed, or the first where that node has not taken the record. The share counts
-    /// the lines that were passed since.
+    /// master, it asks the node at which the share is aimed, or the first where that node has not taken the record. The share
+    /// counts the lines that were passed since.
     pub fn advance(&mut self, mine: &mut ActorShare<L>) -> Advance
         ensures made { Advances self.old mine.old result self.new mine.new }
         ensures goes_on { GoesOn mine.old mine.new }
@@ -114,8 +114,8 @@ impl<L: Ledger> Play<L> {
     }
 
     /// Makes one event of the node's stage for the session's request, unless the stage is held, or the request is not there. Memory
-    /// may be refused only where the request is accepted, or where it stands before its decision and the range is extended, which is
-    /// used up, as a session whose request waits there was told: this one or another.
+    /// may be refused only where the request is accepted, or where it stands before its decision and the range is extended, which
+    /// is used up, as a session whose request waits there was told: this one or another.
     pub fn stage_step(
         &mut self,
         node: NodeNo,

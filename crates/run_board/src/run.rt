@@ -53,7 +53,7 @@ impl Model for ScriptRun {
 }
 
 impl ScriptRun {
-    /// No turn was made yet.
+    /// No turn was made yet. NoMemory where memory is refused.
     pub fn open(alloc: Global, script: Script) -> Result<ScriptRun, NoMemory>
         requires few { vec_len script.lines ≤ LINE_LIMIT }
         requires for_threads { AreForThreads script.lines.items }

@@ -16,7 +16,9 @@ use turn_rules::{Seat, Turn, pass};
 /// How far an actor has come, and its lines.
 #[derive(Drop)]
 pub struct Seated {
+    /// How far the actor has come.
     pub seat: Seat,
+    /// Its lines, in file order.
     pub lines: Vec<Line>,
 }
 
@@ -61,7 +63,7 @@ pub fn see_sessions(lines: &[Line])
     }
 }
 
-/// All actors before their first lines: clock, janitor, nodes and sessions.
+/// All actors before their first lines: clock, janitor, nodes and sessions. NoMemory where memory is refused.
 pub fn all_seated(alloc: Global, nodes: u64, lines: &[Line]) -> Result<Vec<Seated>, NoMemory>
     requires { nodes ≤ 8 }
     ensures { IfOk result (λ all. AreSeatedFirst nodes lines.now all.items) }

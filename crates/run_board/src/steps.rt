@@ -56,8 +56,8 @@ impl ScriptRun {
     }
 
     /// Makes one event of the node's stage for the session's request, unless the stage is held, or the request is not there. Memory
-    /// may be refused only where the request is accepted, or where it stands before its decision and the range is extended, which is
-    /// used up, as a session whose request waits there was told: this one or another.
+    /// may be refused only where the request is accepted, or where it stands before its decision and the range is extended, which
+    /// is used up, as a session whose request waits there was told: this one or another.
     pub fn stage_step(
         &mut self,
         node: NodeNo,

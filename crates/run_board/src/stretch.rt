@@ -9,13 +9,14 @@ use stamp_base::{NodeNo, Term};
 use std::sync::ledger::Ledger;
 use thread_steps::{ActorShare, ActorStep};
 
-/// How many events of its lines an actor makes at most. They take less than a millisecond: with fewer, sixteen sessions pass the lock
-/// so often that a run takes a tenth more processor time, and with more it takes hardly less.
+/// How many events of its lines an actor makes at most. They take less than a millisecond: with fewer, sixteen sessions pass the
+/// lock so often that a run takes a tenth more processor time, and with more it takes hardly less.
 const EVENTS: u64 = 256;
 
 impl<L: Ledger> Play<L> {
-    /// Makes events of the actor's lines one after the other, and serves what they ask, until a request is left to the stages, the actor
-    /// is to look about, or so many are made. A line that waits ends it too; the answer is Waits only where nothing was made before.
+    /// Makes events of the actor's lines one after the other, and serves what they ask, until a request is left to the stages, the
+    /// actor is to look about, or so many are made. A line that waits ends it too; the answer is Waits only where nothing was made
+    /// before.
     pub(crate) fn stretch(&mut self, mine: &mut ActorShare<L>) -> ActorStep
         ensures { GoesOn mine.old mine.new }
     {
@@ -53,8 +54,8 @@ impl<L: Ledger> Play<L> {
         }
     }
 
-    // Whether the actor is to look who is master, or to tell it, before it goes on: the last event took the record, passed an await,
-    // or found no oracle at the node at which its share is aimed.
+    // Whether the actor is to look who is master, or to tell it, before it goes on: the last event took the record, passed an
+    // await, or found no oracle at the node at which its share is aimed.
     fn is_to_look(&self, aim: NodeNo) -> bool {
         match self.history().last() {
             Some(Item::Take { .. }) => true,

@@ -14,9 +14,9 @@ use thread_steps::StageStep;
 const STEPS: u64 = 16;
 
 impl<L: Ledger> Play<L> {
-    /// Serves the session's request as the stages of its node would, one after the other, where nothing is there that it would wait for:
-    /// no stage of the node is held, and no commit there is drawn and not put. Whether nothing is left to its request stage: a request
-    /// that is, also where memory is refused, stands where that stage goes on with it.
+    /// Serves the session's request as the stages of its node would, one after the other, where nothing is there that it would wait
+    /// for: no stage of the node is held, and no commit there is drawn and not put. Whether nothing is left to its request stage: a
+    /// request that is, also where memory is refused, stands where that stage goes on with it.
     pub fn serve_through(&mut self, node: NodeNo, term: Term, session: SessionNo) -> bool
         ensures through { GoesThrough node term session self.old self.new }
         ensures in_the_way { (IsClear self.old.ran node → ⊥) → self.new ≡ self.old }

@@ -23,7 +23,7 @@ use turn_rules::Turn;
 
 /// Carries a script out on threads, which pass the gate before each step of a stage: the cluster, and the turns that led there.
 /// They are a whole list of lawful turns of the script, in whatever order the threads made them, and the history is what they make
-/// of it. That it ends is not promised: an actor may wait for what never comes.
+/// of it. That it ends is not promised: an actor may wait for what never comes. NoMemory where memory is refused.
 pub fn run<R: Threads + Wait + Sync, G: Gate>(
     rt: &R,
     alloc: Global,

@@ -14,7 +14,7 @@ use std::thread::Parker;
 use thread_steps::{ActorShare, ActorSteps, Steps};
 use turn_rules::Turn;
 
-/// What the board gives once nothing is left.
+/// What the board gives once nothing is left. NoMemory where memory is refused.
 pub fn finish<L: Ledger, R: Wait>(
     rt: &R,
     setup: &Setup,

@@ -67,7 +67,7 @@ pub struct Stands {
 }
 
 /// Makes the events of the share's actor until its line waits or none is left. A share may come up with no event: its last line was
-/// brought to its end by the step of a stage.
+/// brought to its end by the step of a stage. NoMemory where memory is refused.
 pub fn carry_on<L: Ledger, R: Wait, B: Steps + ActorSteps<L>>(
     rt: &R,
     board: &B,
@@ -136,7 +136,8 @@ pub struct Asked {
     made: bool,
 }
 
-/// Asks the board for the stage's step for the session's request, under the term of the node's oracle.
+/// Asks the board for the stage's step for the session's request, under the term of the node's oracle. NoMemory where memory is
+/// refused.
 pub fn ask<R: Wait, B: Steps>(
     rt: &R,
     board: &B,

@@ -28,8 +28,8 @@ pub(crate) fn make_room(ask: &Ask, table: &mut Table) -> Result<(), NoMemory>
     }
 }
 
-/// Makes the step, which lists no keys, by one call on its store, and appends its items. The answer fits the step, and leaves room for one more
-/// item. Of what a failed call did all the same only a mark that was placed is shown.
+/// Makes the step, which lists no keys, by one call on its store, and appends its items. The answer fits the step, and leaves room
+/// for one more item. Of what a failed call did all the same only a mark that was placed is shown.
 pub(crate) fn meet<W: Weather>(
     weather: &mut W,
     book: &mut Book,

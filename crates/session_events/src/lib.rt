@@ -1,5 +1,5 @@
-//! The events by which a session asks, writes, begins a read or ends, and those that make one step of what is under way, a session's or
-//! the janitor's: each over the parts that it touches, exact to the machine's definition of it.
+//! The events by which a session asks, writes, begins a read or ends, and those that make one step of what is under way, a
+//! session's or the janitor's: each over the parts that it touches, exact to the machine's definition of it.
 #![tactic(auto)]
 
 mod aborting;

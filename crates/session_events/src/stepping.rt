@@ -46,7 +46,7 @@ pub fn step<W: Weather>(
     }
 }
 
-/// The same of what is under way.
+/// The session makes the next step of the read, the resolve or the completion that is under way.
 fn step_work<W: Weather>(
     weather: &mut W,
     book: &mut Book,

@@ -15,7 +15,7 @@ use stamp_base::{
     Value,
 };
 
-/// A number from the least to the most.
+/// A number from the least to the most. BadNumber where the word is no number, OutOfRange where it is below or above.
 #[tactic(auto, unfolding(crate::specs::Checked::number_at))]
 pub fn number_at(least: u64, most: u64, word: &[u8]) -> Result<u64, ScriptCause>
     ensures number { result ≡ number_at least most word.now }
@@ -27,7 +27,7 @@ pub fn number_at(least: u64, most: u64, word: &[u8]) -> Result<u64, ScriptCause>
     }
 }
 
-/// A number of a setup, within its bounds.
+/// A number of a setup, within its bounds. BadNumber where the word is no number, OutOfRange where it is below or above.
 pub fn setup_number_at(number: SetupNumber, word: &[u8]) -> Result<u64, ScriptCause>
     ensures number { result ≡ setup_number_at number word.now }
     ensures within { IfOk result (MayBe number) }
@@ -36,7 +36,7 @@ pub fn setup_number_at(number: SetupNumber, word: &[u8]) -> Result<u64, ScriptCa
     number_at(bounds.least, bounds.most, word)
 }
 
-/// A flag of a setup, by the word that turns it on.
+/// A flag of a setup, by the word that turns it on. UnknownKind where it is another word.
 #[tactic(auto, unfolding(crate::specs::Checked::flag_at))]
 pub fn flag_at(flag: SetupFlag, word: &[u8]) -> Result<SetupFlag, ScriptCause>
     ensures { result ≡ flag_at flag word.now }
@@ -59,7 +59,7 @@ fn within(least: u64, most: u64, number: u64) -> Result<u64, ScriptCause>
     }
 }
 
-/// The start of a transaction, by which it is named.
+/// The start of a transaction, by which it is named. BadNumber where the word is no number, OutOfRange where it is no stamp.
 #[tactic(auto, unfolding(crate::specs::Checked::start_at))]
 pub fn start_at(word: &[u8]) -> Result<TxnId, ScriptCause>
     ensures { result ≡ start_at word.now }
@@ -68,7 +68,7 @@ pub fn start_at(word: &[u8]) -> Result<TxnId, ScriptCause>
     Stamp::new(number).ok_or(ScriptCause::OutOfRange)
 }
 
-/// A node of the setup.
+/// A node of the setup. UnknownNode where the word is none.
 #[tactic(auto, unfolding(crate::specs::Checked::node_at))]
 pub fn node_at(setup: &Setup, word: &[u8]) -> Result<NodeNo, ScriptCause>
     ensures node { result ≡ node_at setup.now.nodes word.now }
@@ -77,7 +77,7 @@ pub fn node_at(setup: &Setup, word: &[u8]) -> Result<NodeNo, ScriptCause>
     node_of(setup, word).ok_or(ScriptCause::UnknownNode)
 }
 
-/// Where a line is sent.
+/// Where a line is sent. UnknownNode where the word names none of the setup.
 #[tactic(auto, unfolding(crate::specs::Checked::target_at))]
 pub fn target_at(setup: &Setup, word: &[u8]) -> Result<Target, ScriptCause>
     ensures target { result ≡ target_at setup.now.nodes word.now }
@@ -86,6 +86,7 @@ pub fn target_at(setup: &Setup, word: &[u8]) -> Result<Target, ScriptCause>
     target_of(setup, word).ok_or(ScriptCause::UnknownNode)
 }
 
+/// A session by its name. BadSession where the word is none.
 #[tactic(auto, unfolding(crate::specs::Checked::session_at))]
 pub fn session_at(word: &[u8]) -> Result<SessionNo, ScriptCause>
     ensures { result ≡ session_at word.now }
@@ -93,6 +94,7 @@ pub fn session_at(word: &[u8]) -> Result<SessionNo, ScriptCause>
     session_of(word).ok_or(ScriptCause::BadSession)
 }
 
+/// A key by its name. BadKey where the word is none.
 #[tactic(auto, unfolding(crate::specs::Checked::key_at))]
 pub fn key_at(word: &[u8]) -> Result<KeyNo, ScriptCause>
     ensures { result ≡ key_at word.now }
@@ -100,6 +102,7 @@ pub fn key_at(word: &[u8]) -> Result<KeyNo, ScriptCause>
     key_of(word).ok_or(ScriptCause::BadKey)
 }
 
+/// A value. BadValue where the word is none.
 #[tactic(auto, unfolding(crate::specs::Checked::value_at))]
 pub fn value_at(word: &[u8]) -> Result<Value, ScriptCause>
     ensures { result ≡ value_at word.now }
@@ -107,6 +110,7 @@ pub fn value_at(word: &[u8]) -> Result<Value, ScriptCause>
     value_of(word).ok_or(ScriptCause::BadValue)
 }
 
+/// A stage by its word. UnknownStage where there is no such stage.
 #[tactic(auto, unfolding(crate::specs::Checked::stage_at))]
 pub fn stage_at(word: &[u8]) -> Result<Stage, ScriptCause>
     ensures { result ≡ stage_at word.now }
@@ -114,6 +118,7 @@ pub fn stage_at(word: &[u8]) -> Result<Stage, ScriptCause>
     stage_of(word).ok_or(ScriptCause::UnknownStage)
 }
 
+/// A store by its word. UnknownStore where there is no such store.
 #[tactic(auto, unfolding(crate::specs::Checked::store_at))]
 pub fn store_at(word: &[u8]) -> Result<Store, ScriptCause>
     ensures { result ≡ store_at word.now }
@@ -121,7 +126,7 @@ pub fn store_at(word: &[u8]) -> Result<Store, ScriptCause>
     store_of(word).ok_or(ScriptCause::UnknownStore)
 }
 
-/// How a store call fails.
+/// How a store call fails. UnknownKind where the word is none.
 #[tactic(auto, unfolding(crate::specs::Checked::kind_at))]
 pub fn kind_at(word: &[u8]) -> Result<Fate, ScriptCause>
     ensures { result ≡ kind_at word.now }
@@ -129,6 +134,7 @@ pub fn kind_at(word: &[u8]) -> Result<Fate, ScriptCause>
     kind_of(word).ok_or(ScriptCause::UnknownKind)
 }
 
+/// A name that is posted and awaited. BadName where the word is none.
 #[tactic(auto, unfolding(crate::specs::Checked::name_at))]
 pub fn name_at(word: &[u8]) -> Result<Name, ScriptCause>
     ensures { result ≡ name_at word.now }

@@ -11,44 +11,78 @@ pub enum SetupForm {
     Number(SetupNumber),
     /// A word that turns something on.
     Flag(SetupFlag),
+    /// How many buckets, and how many keys each keeps.
     Buckets,
+    /// The lead of a node's clock.
     Lead,
+    /// A fault of a call on a store.
     Fault,
 }
 
 /// The form of an actor's line, whatever its arguments are.
 #[derive(Clone, Copy, Debug, PartialEq, Eq)]
 pub enum VerbForm {
+    /// `tick` of the clock.
     Tick,
+    /// `take` of a node.
     Take,
+    /// `renew` of a node.
     Renew,
+    /// `crash` of a node.
     Crash,
+    /// `extend` of a node.
     Extend,
+    /// `hold` of a node.
     Hold,
+    /// `free` of a node.
     Free,
+    /// `accept` of a node.
     Accept,
+    /// `decide` of a node.
     Decide,
+    /// `put` of a node.
     Put,
+    /// `answer` of a node.
     Answer,
+    /// `begin` of a session.
     Begin,
+    /// `commit` of a session.
     Commit,
+    /// `submit` of a session.
     Submit,
+    /// `ask-begin` of a session.
     AskBegin,
+    /// `ask-commit` of a session.
     AskCommit,
+    /// `write` of a session.
     Write,
+    /// `read` of a session.
     Read,
+    /// `fetch` of a session.
     Fetch,
+    /// `collect` of a session.
     Collect,
+    /// `abort` of a session.
     Abort,
+    /// `heal` of a session.
     Heal,
+    /// `vanish` of a session.
     Vanish,
+    /// `step` of a session.
     Step,
+    /// `finish` of a session.
     Finish,
+    /// `sweep` of the janitor.
     Sweep,
+    /// `open` of the janitor.
     OpenSweep,
+    /// `step` of the janitor.
     SweepStep,
+    /// `finish` of the janitor.
     SweepFinish,
+    /// `post` of any actor.
     Post,
+    /// `await` of any actor.
     Await,
 }
 

@@ -16,7 +16,8 @@ use history_book::Actor;
 use script_data::Verb;
 use stamp_base::Setup;
 
-/// What a line of the actor asks for.
+/// What a line of the actor asks for. The first cause against it: WrongNumberOfWords, UnknownVerb, ReplayOnly, or that of its first
+/// bad argument.
 #[tactic(auto, unfolding(crate::specs::Verbs::verb_at))]
 pub fn verb_at(mode: Mode, setup: &Setup, actor: &Actor, words: &Words) -> Result<Verb, ScriptCause>
     ensures verb { result ≡ verb_at mode setup.now.nodes actor.now (seen words.now) }

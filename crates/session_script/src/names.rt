@@ -45,7 +45,7 @@ impl PostedNames {
     }
 
     /// Makes room for the name that the event posts, and gives it. None where it posts no name, or one that is posted. An event
-    /// that posts no name takes no memory.
+    /// that posts no name takes no memory. NoMemory where memory is refused.
     pub fn make_room(&mut self, event: &Event) -> Result<Option<Vec<u8>>, NoMemory>
         ensures names { self.new.names ≡ self.old.names }
         ensures room { IfOk result (λ name. IfSome name (λ n. 0 < self.new.room)) }

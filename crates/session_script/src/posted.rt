@@ -42,7 +42,7 @@ impl PostedNames {
         self.names.contains(name.as_slice())
     }
 
-    /// Posts a name that was not.
+    /// Posts a name that was not. AllocError where memory is refused.
     pub fn post(&mut self, alloc: Global, name: &Name) -> Result<(), AllocError>
         requires { list_any (bytes_eq name.now) self.old ≡ false }
         ensures { OnOk result (self.new ≡ self.old ++ name.now ∷ []) }
@@ -52,7 +52,7 @@ impl PostedNames {
         Ok(())
     }
 
-    /// Posts the name that a line of the verb posts, if it does.
+    /// Posts the name that a line of the verb posts, if it does. AllocError where memory is refused.
     pub fn note(&mut self, alloc: Global, verb: &Verb) -> Result<(), AllocError>
         requires { name_objection self.old verb.now ≡ None }
         ensures { OnOk result (self.new ≡ posted_after self.old verb.now) }

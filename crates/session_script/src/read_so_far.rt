@@ -14,6 +14,7 @@ use stamp_base::{LINE_LIMIT, Setup};
 use std::alloc::{AllocError, Global};
 use std::slice;
 
+/// What the lines read so far set and give.
 #[derive(Drop)]
 pub struct ReadSoFar {
     alloc: Global,
@@ -23,6 +24,7 @@ pub struct ReadSoFar {
     pub settings: Vec<Setting>,
     /// The names that were posted.
     pub posted: PostedNames,
+    /// The script so far.
     pub script: Script,
     ghost few: { length script.lines.items ≤ counted },
     ghost limited: { counted ≤ LINE_LIMIT },
@@ -38,7 +40,7 @@ impl ReadSoFar {
     ghost use Rattle.session_script.specs.Names.{name_objection};
     ghost use Rattle.session_script.specs.Settings.{objection, comes_late, IsInBounds};
 
-    /// What holds before the first line.
+    /// What holds before the first line. AllocError where memory is refused.
     pub fn start(alloc: Global) -> Result<ReadSoFar, AllocError>
         ensures { IfOk result (λ reading. so_far reading ≡ nothing_read) }
     {
@@ -80,7 +82,7 @@ impl ReadSoFar {
         !self.script.lines.is_empty() || (setting.bounds_leads() && any_lead(&self.settings))
     }
 
-    /// Adds a setup line that counts.
+    /// Adds a setup line that counts. AllocError where memory is refused.
     pub fn set(&mut self, setting: Setting) -> Result<(), AllocError>
         requires room { self.old.counted < LINE_LIMIT }
         requires bounds { IsInBounds (numbers_of self.old.script.setup) setting }
@@ -116,7 +118,7 @@ impl ReadSoFar {
         }
     }
 
-    /// Adds an actor's line, which counts.
+    /// Adds an actor's line, which counts. AllocError where memory is refused.
     pub fn tell(&mut self, line: &Line) -> Result<(), AllocError>
         requires room { self.old.counted < LINE_LIMIT }
         requires sound { LineIsSound self.old.script.setup.nodes line.now }

@@ -28,7 +28,8 @@ use script_data::Line;
 use stamp_base::{BYTE_LIMIT, LINE_LIMIT};
 use std::alloc::Global;
 
-/// The script that the bytes are, or the first bad line and its first cause.
+/// The script that the bytes are. At, with the first bad line's number, from 1, and its first cause, or with line 0 and TooLong
+/// where the bytes are more than 16,777,216; NoMemory where memory is refused.
 pub fn read_script(alloc: Global, bytes: &[u8], mode: Mode) -> Result<Script, ScriptFault>
     ensures script { ReadsScript result (script_of bytes.now mode) }
     ensures sound { IfOk result (λ script. IsSound (data_of script)) }

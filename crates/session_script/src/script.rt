@@ -11,11 +11,13 @@ use std::alloc::{AllocError, Global};
 /// ranges, and what else holds of every script is stated by this type.
 #[derive(Debug, Drop)]
 pub struct Script {
+    /// The setup.
     pub setup: Setup,
-    /// The lead of each node's clock, from node `a` on.
+    /// The lead of each node's clock, in ticks, from node `a` on.
     pub leads: Vec<u64>,
     /// The planned faults: the store, the number of the call on it from 1 on, and its fate.
     pub faults: Vec<(Store, u64, Fate)>,
+    /// The actors' lines in file order.
     pub lines: Vec<Line>,
     pub ghost sound: { IsSound (record { setup = numbers_of setup; leads = leads.items; faults = faults.items; lines = lines.items }) },
 }

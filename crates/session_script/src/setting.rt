@@ -15,19 +15,24 @@ use stamp_base::{NodeNo, Setup, SetupFlag, SetupNumber, Store};
 /// What a setup line sets.
 #[derive(Clone, Copy, Debug, PartialEq, Eq)]
 pub enum Setting {
+    /// A number of the setup.
     Number {
         number: SetupNumber,
         value: u64,
     },
+    /// Something is turned on.
     Flag(SetupFlag),
+    /// How many buckets there are, and how many keys each keeps.
     Buckets {
         buckets: u64,
         width: u64,
     },
+    /// By how many ticks the node's clock is ahead of the base clock.
     Lead {
         node: NodeNo,
         lead: u64,
     },
+    /// The fate of the store's call of this number, from 1.
     Fault {
         store: Store,
         number: u64,
@@ -59,6 +64,7 @@ impl Setting {
         }
     }
 
+    /// Whether it sets a node's lead.
     pub fn is_lead(&self) -> bool
         ensures { result ≡ is_lead self.now }
     {
@@ -78,6 +84,7 @@ impl Setting {
         )
     }
 
+    /// Whether it plans a fault.
     pub fn is_fault(&self) -> bool
         ensures { result ≡ is_fault self.now }
     {
@@ -127,7 +134,7 @@ pub fn any_same(settings: &[Setting], setting: &Setting) -> bool
     settings.iter().any(|other| setting.sets_same(other))
 }
 
-/// What a setup line says.
+/// What a setup line says. The first cause against it: WrongNumberOfWords, ReplayOnly, or that of its first bad argument.
 #[tactic(auto, unfolding(crate::specs::Settings::setting_of))]
 pub fn setting_of(setup: &Setup, form: SetupForm, words: &Words) -> Result<Setting, ScriptCause>
     ensures setting { result ≡ setting_of (numbers_of setup.now) form (seen words.now) }

@@ -5,6 +5,8 @@ use std::collections::LinkedList;
 pub struct SettledAccount {
     /// Its parts of the right to know everything.
     pub parts: u64,
+    /// The batches put through the pass.
     pub put: LinkedList<Numbered>,
+    /// The batches taken through the pass.
     pub taken: LinkedList<Numbered>,
 }

@@ -45,7 +45,7 @@ impl Model for SettledPass {
 }
 
 impl SettledRing {
-    /// A ring for `room` batches, and a pass with every part.
+    /// A ring for `room` batches, and a pass with every part. NoMemory where memory is refused.
     pub fn open(alloc: Global, room: usize) -> Result<(SettledRing, SettledPass), NoMemory>
         requires { 0 < room }
         ensures { IfOk result (λ opened. (opened.0.room ≡ room) × (opened.1 ≡ holds opened.0.id first_account)) }

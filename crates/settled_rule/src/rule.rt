@@ -4,8 +4,10 @@ use crossbeam_queue::protocol::{Join, Lesson, Outcome, Protocol, Split};
 use crossbeam_queue::{Pass, RuledArrayQueue};
 use persist_batches::Numbered;
 
+/// A ring of settled batches under the rule Balanced.
 pub type Ruled = RuledArrayQueue<Numbered, SettledAccount, Balanced>;
 
+/// A pass of a ring of settled batches, with its account.
 pub type RuledPass = Pass<Numbered, SettledAccount>;
 
 /// What was put is what was taken and what the ring holds.

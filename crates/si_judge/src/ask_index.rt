@@ -8,8 +8,8 @@ use isolation_rules::Rule;
 use stamp_base::{NoMemory, SessionNo, Stamp};
 use std::alloc::Global;
 
-/// Whether each place is a suspect. The places are taken from the last to the first, and the least start of
-/// the begins that were asked for behind is kept.
+/// Whether each place is a suspect. The places are taken from the last to the first, and the least start of the begins that were
+/// asked for behind is kept. NoMemory where memory is refused.
 pub fn start_suspects(alloc: Global, items: &[Item]) -> Result<Vec<bool>, NoMemory>
     ensures { IfOk result (λ suspects. AreSuspects Rule.Fresh items.now suspects.items) }
 {
@@ -105,6 +105,7 @@ impl Asked {
     }
 }
 
+/// The session's place in a table of all sessions, below 16.
 pub fn place_of(session: SessionNo) -> usize
     ensures place { result ≡ session }
     ensures range { result < 16 }

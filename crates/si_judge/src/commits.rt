@@ -11,14 +11,16 @@ use std::collections::HashMap;
 /// A commit, and the place of its item.
 #[derive(Clone, Copy)]
 pub struct Commit {
+    /// The commit.
     pub stamp: Stamp,
+    /// The place of its item, counted from 0.
     pub place: usize,
 }
 
 /// Commits, by the numbers of the starts of their transactions.
 pub type Commits = HashMap<u64, Commit>;
 
-/// All commits of the items.
+/// All commits of the items. NoMemory where memory is refused.
 pub fn commits_by_start(alloc: Global, items: &[Item]) -> Result<Commits, NoMemory>
     requires { isolation.Stamped items.now }
     ensures { IfOk result (λ commits. HasCommits items.now (length items.now) commits) }

@@ -17,7 +17,7 @@ pub struct Listed {
 }
 
 impl Listed {
-    /// Of no items.
+    /// The transactions of no items.
     pub fn new(alloc: Global) -> Listed
         ensures { HasListed [] result.txns }
     {
@@ -26,7 +26,7 @@ impl Listed {
         }
     }
 
-    /// Passes the item.
+    /// Passes the item. NoMemory where memory is refused.
     pub fn pass(&mut self, item: &Item) -> Result<(), NoMemory>
         ensures { OnOk result ((part : List Item) → HasListed part self.old.txns →
             HasListed (part ++ item.now ∷ []) self.new.txns) }

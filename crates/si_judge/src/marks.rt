@@ -7,13 +7,14 @@ use std::alloc::Global;
 /// For each place whether it is marked.
 #[derive(Drop)]
 pub struct Marks {
+    /// For each place, counted from 0, whether it is marked.
     pub each: Vec<bool>,
 }
 
 impl Marks {
     ghost use Rattle.si_judge.specs.Marks.{IsMarked, KeepsMarks};
 
-    /// Marks for so many places, of which none is marked.
+    /// Marks for so many places, of which none is marked. NoMemory where memory is refused.
     pub fn new(alloc: Global, places: usize) -> Result<Marks, NoMemory>
         ensures { IfOk result (λ marks. vec_len marks.each ≡ places) }
     {
@@ -22,6 +23,7 @@ impl Marks {
         })
     }
 
+    /// Marks the place. Past the end, nothing changes.
     pub fn mark(&mut self, place: usize)
         ensures marked { IsMarked self.new place }
         ensures kept { KeepsMarks self.old self.new }

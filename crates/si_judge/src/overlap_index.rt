@@ -18,8 +18,8 @@ use std::alloc::Global;
 use std::collections::BTreeMap;
 use std::ops::Bound;
 
-/// Whether each place is a suspect: none where the writers of each key take turns, and else those that are
-/// marked.
+/// Whether each place is a suspect: none where the writers of each key take turns, and else those that are marked. NoMemory where
+/// memory is refused.
 pub fn overlap_suspects(alloc: Global, items: &[Item]) -> Result<Vec<bool>, NoMemory>
     requires { isolation.Stamped items.now }
     ensures { IfOk result (λ suspects. AreSuspects Rule.Apart items.now suspects.items) }
@@ -29,7 +29,7 @@ pub fn overlap_suspects(alloc: Global, items: &[Item]) -> Result<Vec<bool>, NoMe
     suspects_by(alloc, items, &commits, turns.apart)
 }
 
-/// The same where it is told whether no commits overlap.
+/// Whether each place is a suspect, where it is told whether no commits overlap.
 fn suspects_by(
     alloc: Global,
     items: &[Item],
@@ -112,7 +112,8 @@ fn mark_all_overlaps(written: &BTreeMap<(KeyNo, Stamp), Commit>, marks: &mut Mar
     }
 }
 
-/// Marks the commit of a write, and those of the key's later writes that started up to it. Those that the reach has are marked already.
+/// Marks the commit of a write, and those of the key's later writes that started up to it. Those that the reach has are marked
+/// already.
 fn mark_overlaps(
     written: &BTreeMap<(KeyNo, Stamp), Commit>,
     key: KeyNo,

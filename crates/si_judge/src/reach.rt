@@ -8,13 +8,16 @@ use stamp_base::{KeyNo, Stamp};
 /// The key's writes that started above `from` and up to `upto` are marked.
 #[derive(Clone, Copy)]
 pub struct Reach {
+    /// The key.
     pub key: KeyNo,
+    /// Above this start.
     pub from: Stamp,
+    /// Up to this start.
     pub upto: Stamp,
 }
 
 impl Reach {
-    /// Of no writes yet, from a start on.
+    /// A reach from a start on, in which no writes are yet.
     pub fn from(key: KeyNo, start: Stamp) -> Reach
         ensures { (result.key ≡ key) × (result.from ≡ start) × (result.upto ≡ start) }
     {
@@ -25,8 +28,8 @@ impl Reach {
         }
     }
 
-    /// A reach in which the start stands: this one, or else one that begins there. Writes are looked at in the order of their starts, so
-    /// a key's next start stands behind those before it.
+    /// A reach in which the start stands: this one, or else one that begins there. Writes are looked at in the order of their
+    /// starts, so a key's next start stands behind those before it.
     pub fn at(self, key: KeyNo, start: Stamp) -> Reach
         ensures there { (result.key ≡ key) × (result.from ≤ start) × (start ≤ result.upto) }
         ensures reached { (written : Written) (marks : Marks) → HasReached written self marks → HasReached written result marks }

@@ -28,7 +28,7 @@ pub fn first_pair(alloc: Global, rule: Rule, items: &[Item]) -> Option<Pair>
     }
 }
 
-/// The same by an index.
+/// The first pair of items that breaks the rule, by an index. NoMemory where its memory is refused.
 fn indexed_pair(alloc: Global, rule: Rule, items: &[Item]) -> Result<Option<Pair>, NoMemory>
     requires { Premise rule items.now }
     ensures pair { IfOk result (λ found. MatchOption found
@@ -98,8 +98,8 @@ fn second_at(
     }
 }
 
-/// The same of a suspect. That two commits wrote one key is looked up in a set, and where a begin was asked for in a
-/// table of the last asks; neither is looked for among all items for each pair.
+/// The first place that breaks the rule together with this suspect. That two commits wrote one key is looked up in a set, and
+/// where a begin was asked for in a table of the last asks; neither is looked for among all items for each pair.
 fn second_behind(
     alloc: Global,
     rule: Rule,

@@ -11,8 +11,8 @@ use isolation_rules::Rule;
 use stamp_base::{NoMemory, Stamp};
 use std::alloc::Global;
 
-/// The first place that breaks the rule on commits together with the place `first`. With n items it takes a time in proportion
-/// to n, and memory for each transaction that wrote one of the keys.
+/// The first place that breaks the rule on commits together with the place `first`. With n items it takes a time in proportion to
+/// n, and memory for each transaction that wrote one of the keys. NoMemory where that is refused.
 pub fn second_commit(alloc: Global, items: &[Item], first: usize) -> Result<Option<usize>, NoMemory>
     requires within { first < length items.now }
     ensures second { IfOk result (λ found. IsSecond Rule.Apart items.now first found) }

@@ -17,7 +17,8 @@ pub struct Sharers {
 }
 
 impl Sharers {
-    /// Those that wrote a key which the transaction with this start wrote, and that one itself where it wrote at all.
+    /// Those that wrote a key which the transaction with this start wrote, and that one itself where it wrote at all. NoMemory
+    /// where memory is refused.
     pub fn of(alloc: Global, items: &[Item], start: Stamp) -> Result<Sharers, NoMemory>
         ensures { IfOk result (λ sharers. HasSharers items.now start items.now sharers.starts) }
     {

@@ -9,8 +9,8 @@ use stamp_base::{NoMemory, Stamp};
 use std::alloc::Global;
 use std::collections::HashSet;
 
-/// Whether each place is a suspect. The items are taken from the last to the first, and the stamps of those
-/// behind are kept.
+/// Whether each place is a suspect. The items are taken from the last to the first, and the stamps of those behind are kept.
+/// NoMemory where memory is refused.
 #[tactic(auto, using(crate::proofs::StampIndexLemmas::behind_none, crate::proofs::SuspectLemmas::marked_pass))]
 pub fn stamp_suspects(alloc: Global, items: &[Item]) -> Result<Vec<bool>, NoMemory>
     ensures { IfOk result (λ suspects. AreSuspects Rule.Stamped items.now suspects.items) }

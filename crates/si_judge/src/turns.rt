@@ -24,7 +24,7 @@ pub struct Turns {
     pub apart: bool,
 }
 
-/// What is known of the writers of all items.
+/// What is known of the writers of all items. NoMemory where memory is refused.
 pub fn turns_of(alloc: Global, items: &[Item], commits: &Commits) -> Result<Turns, NoMemory>
     ensures { IfOk result (λ turns. IsTold items.now (length items.now) commits.now turns) }
 {
@@ -93,6 +93,7 @@ fn may_follow(last: &Option<Writer>, writer: &Writer) -> bool
     }
 }
 
+/// The key's place in a table of all keys, below 4,096.
 pub fn place_of(key: KeyNo) -> usize
     ensures place { result ≡ key }
     ensures range { result < 4096 }

@@ -20,7 +20,7 @@ pub struct VersionIndex {
 }
 
 impl VersionIndex {
-    /// The versions of a whole history.
+    /// The versions of a whole history. NoMemory where memory is refused.
     pub fn new(alloc: Global, items: &[Item]) -> Result<VersionIndex, NoMemory>
         requires { isolation.Stamped items.now }
         ensures { IfOk result (λ index. HasVersions items.now items.now index.versions) }

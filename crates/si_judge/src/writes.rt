@@ -17,7 +17,7 @@ pub struct LastWrites {
 }
 
 impl LastWrites {
-    /// Of no items.
+    /// The last writes of no items.
     pub fn new(alloc: Global) -> LastWrites
         ensures { HasLastWrites [] result.versions }
     {
@@ -26,7 +26,7 @@ impl LastWrites {
         }
     }
 
-    /// Passes the item, which stands at the place.
+    /// Passes the item, which stands at the place. NoMemory where memory is refused.
     pub fn pass(&mut self, place: usize, item: &Item) -> Result<(), NoMemory>
         ensures { OnOk result ((part : List Item) → length part ≡ place →
             HasLastWrites part self.old.versions → HasLastWrites (part ++ item.now ∷ []) self.new.versions) }

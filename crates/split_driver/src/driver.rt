@@ -31,8 +31,10 @@ use std::thread::Threads;
 use thread_scripts::actors_with_lines;
 
 /// Carries a script out over split stores, where each event passes the gate under the locks of its parts: the cluster that the logs
-/// settle into. Each line was carried out, and one that awaits a name behind the line that posts it; the history answers the script,
-/// serves it, and is as the script plans. That it ends is not promised: an actor may wait for what never comes.
+/// settle into. Each line was carried out, and one that awaits a name behind the line that posts it; the history answers the
+/// script, serves it, and is as the script plans. That it ends is not promised: an actor may wait for what never comes. Torn where
+/// an entry kept something else than comes of its event, Spent where an actor has drawn all its ticks, NoMemory where memory is
+/// refused.
 pub fn run_split<R: Threads + Wait + Sync, G: PartGate>(
     rt: &R,
     alloc: Global,
@@ -56,8 +58,8 @@ pub fn run_split<R: Threads + Wait + Sync, G: PartGate>(
     answering(script, waited)
 }
 
-// No clause reaches what an actor finds posted, so the history tells it. Where a name were awaited before its post, nobody is there who
-// sets it right.
+// No clause reaches what an actor finds posted, so the history tells it. Where a name were awaited before its post, nobody is there
+// who sets it right.
 fn keep_waited<R: Wait>(
     rt: &R,
     alloc: Global,

@@ -53,8 +53,8 @@ pub(crate) fn jobs_of(
     Ok(jobs)
 }
 
-/// Each actor carries out its lines on a thread of its own, and nothing is carried out on this one. Where a thread cannot be made, or
-/// the gate refuses it, no further one is started and those that run are joined: an actor that was left out would be waited for.
+/// Each actor carries out its lines on a thread of its own, and nothing is carried out on this one. Where a thread cannot be made,
+/// or the gate refuses it, no further one is started and those that run are joined: an actor that was left out would be waited for.
 pub(crate) fn play_all<R: Threads + Wait + Sync, G: PartGate>(
     rt: &R,
     alloc: Global,

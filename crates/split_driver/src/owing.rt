@@ -37,7 +37,8 @@ fn asked(node: NodeNo) -> Owed
     }
 }
 
-/// What is owed after the item of an event, which is a step or not, where this was owed before. A completion goes on by steps alone.
+/// What is owed after the item of an event, which is a step or not, where this was owed before. A completion goes on by steps
+/// alone.
 pub(crate) fn owed_after(actor: &Actor, steps: bool, owed: Owed, item: &Item) -> Owed
     ensures { result ≡ owing.owed_after actor.now steps owed item.now }
 {

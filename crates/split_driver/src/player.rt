@@ -86,8 +86,8 @@ impl<R: Wait, G: PartGate> Player<'_, R, G> {
         }
     }
 
-    /// Carries out a line of a form that has no opening item. Where the form tells no first event either, what is seen decides whether
-    /// there is one.
+    /// Carries out a line of a form that has no opening item. Where the form tells no first event either, what is seen decides
+    /// whether there is one.
     fn play_other(
         &self,
         seat: &mut ActorSeat,

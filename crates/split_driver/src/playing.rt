@@ -13,9 +13,9 @@ use split_stores::{ActorSeat, PartGate, Split};
 use std::alloc::Global;
 use std::sync::Wait;
 
-/// Carries out those of a script's lines that are the actor's, one after the other, each to its end; an `await` waits until its name
-/// is posted. What is logged follows these lines, and a front of them where the actor stops before the end. Then all that wait are woken,
-/// and stop too. That the lines come to an end is not promised.
+/// Carries out those of a script's lines that are the actor's, one after the other, each to its end; an `await` waits until its
+/// name is posted. What is logged follows these lines, and a front of them where the actor stops before the end. Then all that wait
+/// are woken, and stop too. That the lines come to an end is not promised. It stops as a PlayStop says.
 pub fn play_lines<R: Wait, G: PartGate>(
     rt: &R,
     alloc: Global,

@@ -22,14 +22,16 @@ use std::alloc::Global;
 /// What an event appended, and how it stopped, where it was refused or its store call failed.
 #[derive(Drop)]
 pub struct Acted {
+    /// The items that it appended, in order.
     pub items: Vec<Item>,
+    /// How it stopped; None where it was made in full.
     pub stopped: Option<Stopped>,
 }
 
 /// Makes the event of the parts that are lent, which agree: the items and the parts are those of the step of the filled state,
 /// which has the lent parts and is as at the opening elsewhere, under the fate that is planned for the store call, which is
-/// counted. After want of memory all parts are as before. Nothing is done where a lent record leases by other numbers than
-/// the setup.
+/// counted. After want of memory all parts are as before. Nothing is done where a lent record leases by other numbers than the
+/// setup. NoMemory where memory is refused.
 pub fn act(alloc: Global, lent: &mut Lent<'_>, event: &Event) -> Result<Acted, NoMemory>
     requires { Agrees (seen lent.old) event.now }
     ensures acted { LeasesBySetup (seen lent.old) → IfOk result (λ acted. Acts (seen lent.old) (seen lent.new) (timed_by (seen lent.old) event.now) acted) }
@@ -46,7 +48,7 @@ pub fn act(alloc: Global, lent: &mut Lent<'_>, event: &Event) -> Result<Acted, N
     act_timed(alloc, lent, setup, &timed)
 }
 
-/// The same of the machine's event, where the lent record leases by the setup.
+/// Makes the machine's event of the lent parts, where a lent record leases by the setup.
 fn act_timed(
     alloc: Global,
     lent: &mut Lent<'_>,

@@ -221,7 +221,7 @@ impl Lent<'_> {
         deciding::has_asked(client, post, session)
     }
 
-    /// The same of each session.
+    /// Each session has asked for the request that the node holds of it.
     fn crash_fits(&self, node: NodeNo) -> bool
         requires { ((session : ℕ) → session < 16 → HasSession (seen self.now) session) × HasNode (seen self.now) node }
         ensures { IsTrue result ↔ ((session : ℕ) → IsAsked (filled (seen self.now)) node session) }

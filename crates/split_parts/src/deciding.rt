@@ -32,7 +32,7 @@ pub(crate) fn holds_none(post: &Post, session: SessionNo) -> bool
     }
 }
 
-/// The same where the session is in the state.
+/// The node holds no request of the session, where the session is in the state.
 pub(crate) fn holds_none_in(client: &Client, state: State, post: &Post, session: SessionNo) -> bool
     ensures { IsTrue result ↔ (client.now.entry.state ≡ state → HoldsNone post.now session) }
 {

@@ -10,33 +10,57 @@ use crate::plan::Plan;
 use cluster_core::ClusterState;
 use stamp_base::SessionNo;
 
-/// What the script sets, and the parts that are lent to an event: sixteen sessions by their numbers, the janitor, the clock, a node,
-/// the three stores, and the posted names. More may be lent than the event has to do with.
+/// What the script sets, and the parts that are lent to an event: sixteen sessions by their numbers, the janitor, the clock, a
+/// node, the three stores, and the posted names. More may be lent than the event has to do with.
 #[derive(Drop)]
 pub struct Lent<'a> {
+    /// What the script sets.
     pub plan: &'a Plan,
+    /// Session 0.
     pub s0: Option<&'a mut SessionPart>,
+    /// Session 1.
     pub s1: Option<&'a mut SessionPart>,
+    /// Session 2.
     pub s2: Option<&'a mut SessionPart>,
+    /// Session 3.
     pub s3: Option<&'a mut SessionPart>,
+    /// Session 4.
     pub s4: Option<&'a mut SessionPart>,
+    /// Session 5.
     pub s5: Option<&'a mut SessionPart>,
+    /// Session 6.
     pub s6: Option<&'a mut SessionPart>,
+    /// Session 7.
     pub s7: Option<&'a mut SessionPart>,
+    /// Session 8.
     pub s8: Option<&'a mut SessionPart>,
+    /// Session 9.
     pub s9: Option<&'a mut SessionPart>,
+    /// Session 10.
     pub s10: Option<&'a mut SessionPart>,
+    /// Session 11.
     pub s11: Option<&'a mut SessionPart>,
+    /// Session 12.
     pub s12: Option<&'a mut SessionPart>,
+    /// Session 13.
     pub s13: Option<&'a mut SessionPart>,
+    /// Session 14.
     pub s14: Option<&'a mut SessionPart>,
+    /// Session 15.
     pub s15: Option<&'a mut SessionPart>,
+    /// The janitor, with its sweep.
     pub janitor: Option<&'a mut JanitorPart>,
+    /// The base clock.
     pub clock: Option<&'a mut ClockPart>,
+    /// The node of the event.
     pub node: Option<&'a mut NodePart>,
+    /// The rows.
     pub cells: Option<&'a mut CellsPart>,
+    /// The commit table.
     pub table: Option<&'a mut TablePart>,
+    /// The master record.
     pub master: Option<&'a mut MasterPart>,
+    /// The posted names.
     pub names: Option<&'a mut NamesPart>,
 }
 

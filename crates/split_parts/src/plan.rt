@@ -12,7 +12,9 @@ use std::alloc::Global;
 /// events are made, so no lock guards it.
 #[derive(Drop)]
 pub struct Plan {
+    /// The setup.
     pub setup: Setup,
+    /// The lead of each node's clock, in ticks, from node `a` on.
     pub leads: Vec<u64>,
     /// The store, the number of the call on it from 1 on, and its fate.
     pub faults: Vec<(Store, u64, Fate)>,
@@ -23,7 +25,7 @@ impl Plan {
     ghost use Rattle.std.specs.Prelude.{◌≤◌, All, IfOk};
     ghost use Rattle.split_parts.specs.Plans.{plan_data, planned_by};
 
-    /// What the script sets.
+    /// What the script sets. NoMemory where memory is refused.
     pub fn new(alloc: Global, script: &Script) -> Result<Plan, NoMemory>
         ensures { IfOk result (λ plan. plan_data plan ≡ planned_by script.now) }
     {

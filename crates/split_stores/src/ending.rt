@@ -15,7 +15,8 @@ impl Split {
     /// that rises in that order. Each entry kept the items that its event appends there, and the history is what they kept, in
     /// that order, each item once.
     ///
-    /// It stops where not all seats are handed in, at the first tick whose entry kept something else, or for want of memory.
+    /// Missing where not all seats are handed in, Torn at the first tick whose entry kept something else, NoMemory where memory is
+    /// refused.
     pub fn settle(self, alloc: Global, seats: Vec<ActorSeat>) -> Result<Cluster, SettleStop>
         requires { All (λ s. s.word ≡ self.id) seats.items }
         ensures settled { IfOk result (λ cluster. Settled self.plan (logs_of seats.items) cluster) }

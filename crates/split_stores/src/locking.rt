@@ -19,9 +19,9 @@ use std::sync::Wait;
 use tick_word::SEAT_LIMIT;
 
 impl Split {
-    /// Makes the event of its parts under their locks, which pass the gate, by what the script sets, and logs it under one tick with
-    /// the items that it appends. Where the parts do not agree it is logged alone. Where memory is refused, or the seat has drawn all its ticks, no
-    /// tick is drawn and all is as before.
+    /// Makes the event of its parts under their locks, which pass the gate, by what the script sets, and logs it under one tick
+    /// with the items that it appends. Where the parts do not agree it is logged alone. Where memory is refused, or the seat has
+    /// drawn all its ticks, no tick is drawn and all is as before.
     pub fn make<R: Wait, G: PartGate>(
         &self,
         rt: &R,

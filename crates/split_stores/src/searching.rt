@@ -10,8 +10,11 @@ use takeover_core::Post;
 /// A request, with the node that holds it and the place where it stands.
 #[derive(Clone, Copy, Debug, PartialEq, Eq)]
 pub struct HeldRequest {
+    /// The node that holds it.
     pub node: NodeNo,
+    /// The request.
     pub request: Request,
+    /// Where it stands.
     pub place: Place,
 }
 

@@ -13,8 +13,11 @@ use tick_word::{TickHandle, TickWord};
 /// An event, the tick that it drew, and the items that it appended.
 #[derive(Drop)]
 pub struct Entry {
+    /// The tick that it drew: its place in the order of all logs.
     pub tick: u64,
+    /// The event.
     pub event: Event,
+    /// The items that it appended, in order.
     pub kept: Vec<Item>,
 }
 

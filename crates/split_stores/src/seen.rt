@@ -9,8 +9,8 @@ use split_parts::{JanitorPart, SessionPart};
 use stamp_base::{NodeNo, SessionNo};
 use system_parts::State;
 
-/// What a session was doing when its part was looked at. The part of another session tells nothing of it: a lock does not tell whose
-/// part it holds.
+/// What a session was doing when its part was looked at. The part of another session tells nothing of it: a lock does not tell
+/// whose part it holds.
 #[derive(Clone, Copy, Debug, PartialEq, Eq)]
 pub struct SeenDoing {
     session: SessionNo,
@@ -67,6 +67,7 @@ impl SeenSweep {
         }
     }
 
+    /// Whether a sweep was open.
     pub fn is_open(&self) -> bool
         ensures { result ≡ self.now.is_open }
     {

@@ -28,7 +28,7 @@ use tick_word::TickWord;
 /// Why logs were not settled.
 #[derive(Clone, Copy, Debug, PartialEq, Eq)]
 pub enum SettleStop {
-    /// Not all seats were handed in.
+    /// Another number of seats was handed in (`given`) than was made.
     Missing {
         made: usize,
         given: usize,
@@ -90,7 +90,7 @@ fn replay(alloc: Global, plan: &Plan, merged: &[Entry]) -> Result<Cluster, Settl
     Ok(play.cluster.into_cluster())
 }
 
-/// The same in a cluster before its first event.
+/// Makes all events again, in this order, in a cluster before its first event.
 fn replay_all(play: &mut PlannedCluster, plan: &Plan, merged: &[Entry]) -> Result<(), SettleStop>
     requires opens { OpensFor (numbers_of plan.now.setup) plan.now.faults.items play.old.cluster play.old.clock (⟦<PlannedWeather as Weather>⟧.ahead play.old.weather) }
     requires risen { risen_by merged.now ≤ 26 * 2 ^ 40 }

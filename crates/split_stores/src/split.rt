@@ -19,8 +19,8 @@ use std::marker::Model;
 use std::sync::Mutex;
 use tick_word::TickWord;
 
-/// The parts of the system, each behind a lock of its own, what the script sets, and the word that gives ticks. A part is locked before
-/// those that stand below it here.
+/// The parts of the system, each behind a lock of its own, what the script sets, and the word that gives ticks. A part is locked
+/// before those that stand below it here.
 #[derive(Drop)]
 pub struct Split {
     pub(crate) sessions: Vec<Mutex<SessionPart>>,
@@ -49,7 +49,7 @@ impl Model for Split {
 }
 
 impl Split {
-    /// The parts at their beginning, what the script sets, and a seat for each actor.
+    /// The parts at their beginning, what the script sets, and a seat for each actor. NoMemory where memory is refused.
     pub fn open(
         alloc: Global,
         script: &Script,

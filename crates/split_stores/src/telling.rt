@@ -1,5 +1,5 @@
-// What the parts hold when their locks are taken. What each look sees is exact, and the part of another session or node tells nothing.
-// What stands there when a lock is taken no clause says: whoever chooses by it may find it changed.
+// What the parts hold when their locks are taken. What each look sees is exact, and the part of another session or node tells
+// nothing. What stands there when a lock is taken no clause says: whoever chooses by it may find it changed.
 ghost use Rattle.std.specs.Prelude.{◌≡◌};
 ghost use Rattle.split_stores.specs.Seen.{IsSearched};
 
@@ -17,8 +17,8 @@ impl Split {
         SeenDoing::at(session, &self.sessions[session.index()].lock(rt))
     }
 
-    /// The request of the session. It is looked for at this node first, if one is named, which holds it where the session has asked it
-    /// last; and else at all nodes in their order, up to the first that holds it.
+    /// The request of the session. It is looked for at this node first, if one is named, which holds it where the session has asked
+    /// it last; and else at all nodes in their order, up to the first that holds it.
     pub fn request_of<R: Wait>(
         &self,
         rt: &R,

@@ -54,7 +54,8 @@ impl BatchQueue {
         }
     }
 
-    /// Sends a batch, whose number is above all before it, and wakes a worker that waits for one. Err only where the queue was full at that step.
+    /// Sends a batch, whose number is above all before it, and wakes a worker that waits for one. Err only where the queue was full
+    /// at that step.
     pub fn send<R: Wait>(
         &self,
         rt: &R,

@@ -8,17 +8,17 @@ use std::sync::atomic::{AtomicBool, AtomicUsize, Ordering};
 use std::thread::Parker;
 use std::time::Duration;
 
-/// How often a thread looks at its bell before it parks. One stage hands a request to the next in some three microseconds, and a look
-/// takes less than one: with three times as many nothing was faster.
+/// How often a thread looks at its bell before it parks. One stage hands a request to the next in some three microseconds, and a
+/// look takes less than one: with three times as many nothing was faster.
 const LOOKS: u64 = 100;
 
-/// How many threads at once may look at their bells. A request goes through four, its session's and those of three stages: where two
-/// may look, a session alone takes twice the time. Where all may, they keep processors from those that work: sixteen sessions on a
-/// loaded machine took twice the time.
+/// How many threads at once may look at their bells. A request goes through four, its session's and those of three stages: where
+/// two may look, a session alone takes twice the time. Where all may, they keep processors from those that work: sixteen sessions
+/// on a loaded machine took twice the time.
 const MOST: usize = 4;
 
-/// A parker, and a mark that shows its thread whether it was rung for. The parker alone decides whether a wait lasts, and keeps a ring
-/// that comes before the wait. The mark only ends a look: where it is wrong, a thread parks too early, or looks in vain.
+/// A parker, and a mark that shows its thread whether it was rung for. The parker alone decides whether a wait lasts, and keeps a
+/// ring that comes before the wait. The mark only ends a look: where it is wrong, a thread parks too early, or looks in vain.
 #[derive(Drop)]
 pub struct Bell {
     spot: Spot,
@@ -51,7 +51,8 @@ impl Bell {
         self.spot
     }
 
-    /// Ends the present wait of the bell's thread, or else the next one. The mark is set last, so that who sees it finds the parker told.
+    /// Ends the present wait of the bell's thread, or else the next one. The mark is set last, so that who sees it finds the parker
+    /// told.
     pub fn ring(&self) -> Rung
         ensures { result.spot ≡ self.now.spot }
     {

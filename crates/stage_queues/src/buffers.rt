@@ -8,12 +8,14 @@ use std::alloc::Global;
 /// A pool whose batches have room for an entry.
 #[derive(Drop)]
 pub struct Buffers {
+    /// The pool.
     pub pool: Pool,
     pub ghost have_room: { 0 < pool.room },
 }
 
 impl Buffers {
-    /// A batch more than a node's workers can hold at once waits for them, and one is filled meanwhile.
+    /// A batch more than a node's workers can hold at once waits for them, and one is filled meanwhile. NoMemory where memory is
+    /// refused.
     pub fn open(alloc: Global, sizes: &Sizes) -> Result<Buffers, NoMemory>
         ensures count { IfOk result (λ buffers. buffers.pool.at_home ≡ replicate (sizes.now.workers + 2) true) }
         ensures room { IfOk result (λ buffers. buffers.pool.room ≡ sizes.now.batch) }

@@ -48,8 +48,8 @@ pub struct Opening {
 
 impl Queues {
     /// The queues of a setup's nodes, and all passes: node by node that of the request stage, of each persist worker and of the
-    /// reply stage, and then so many for threads of sessions, each of which reaches the request queue of every node. All
-    /// memory of the queues, pools and passes is taken here.
+    /// reply stage, and then so many for threads of sessions, each of which reaches the request queue of every node. All memory of
+    /// the queues, pools and passes is taken here. NoMemory where memory is refused.
     pub fn open(
         alloc: Global,
         setup: &Setup,

@@ -117,15 +117,16 @@ impl Queues {
         let _heard = queues.tell_home(home);
     }
 
-    /// For a request stage that found the pool out: it is woken once a batch comes back. Who asks is to try once more before it waits.
+    /// For a request stage that found the pool out: it is woken once a batch comes back. Who asks is to try once more before it
+    /// waits.
     pub fn ask_for_batch(&self, node: NodeNo) {
         if let Some(queues) = self.nodes.get(node.index()) {
             queues.requests.lacks_batch.ask();
         }
     }
 
-    /// Parks the waiter until it is woken, once it has looked for that in vain. It may be woken for no reason, and once the queues are
-    /// closed it does not wait.
+    /// Parks the waiter until it is woken, once it has looked for that in vain. It may be woken for no reason, and once the queues
+    /// are closed it does not wait.
     pub fn wait<R: Wait>(&self, rt: &R, waiter: Waiter) {
         self.wait_giving_way(rt, &KeepsProcessor, waiter);
     }
@@ -273,8 +274,8 @@ impl Queues {
         }
     }
 
-    /// For a persist worker that found no batch: it is going to wait for one. Whether it had told so already; otherwise it is to look
-    /// once more before it waits.
+    /// For a persist worker that found no batch: it is going to wait for one. Whether it had told so already; otherwise it is to
+    /// look once more before it waits.
     pub fn rest_for_batch(&self, node: NodeNo, worker: u64) -> bool {
         match self.nodes.get(node.index()) {
             Some(queues) => queues.batches.rest(worker),

@@ -72,6 +72,7 @@ pub struct Owed {
 }
 
 impl Owed {
+    /// A ring is owed to each of these.
     pub fn to(whom: Whom) -> Owed
         ensures { result.whom ≡ whom }
     {
@@ -97,6 +98,7 @@ pub struct OwedToOne {
 }
 
 impl OwedToOne {
+    /// A ring is owed to one of the node's workers, of which none was asked yet.
     pub fn of(node: usize) -> OwedToOne
         ensures { (result.node ≡ node) × (result.asked ≡ 0) }
     {

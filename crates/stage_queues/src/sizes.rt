@@ -8,10 +8,13 @@ pub const REQUEST_ROOM: usize = 64;
 /// How much is opened.
 #[derive(Clone, Copy)]
 pub struct Sizes {
+    /// How many nodes there are.
     pub nodes: usize,
+    /// How many persist workers each node has.
     pub workers: usize,
     /// How many entries a batch has room for.
     pub batch: usize,
+    /// How many actors send requests.
     pub senders: usize,
     /// Whether sessions place their commits.
     pub direct: bool,
@@ -20,6 +23,7 @@ pub struct Sizes {
 }
 
 impl Sizes {
+    /// The sizes by a setup, for so many senders.
     pub fn of(setup: &Setup, senders: usize) -> Sizes
         ensures nodes { result.nodes ≡ setup.now.nodes }
         ensures workers { result.workers ≡ setup.now.workers }

@@ -13,6 +13,7 @@ use std::sync::atomic::{AtomicBool, Ordering};
 /// Who may wait until another thread wakes it.
 #[derive(Clone, Copy, Debug, PartialEq, Eq)]
 pub enum Waiter {
+    /// The thread of an actor.
     Actor(Actor),
     /// A stage of a node. The number tells persist workers of one node apart, from 0 on.
     Stage(NodeNo, Stage, u64),
@@ -74,6 +75,7 @@ impl Crowd {
 /// Where a thread waits, and whether it has told that it does.
 #[derive(Drop)]
 pub struct Place {
+    /// The bell that wakes the thread.
     pub bell: Bell,
     waits: AtomicBool,
     // Of a session: whether its line waits for its stamp.
@@ -123,7 +125,7 @@ impl Place {
     }
 }
 
-/// So many places to wait at, in a row.
+/// So many places to wait at, in a row. NoMemory where memory is refused.
 pub fn places(alloc: Global, row: Row, count: usize) -> Result<Vec<Place>, NoMemory>
     ensures count { IfOk result (λ places. vec_len places ≡ count) }
     ensures row { IfOk result (λ places. StandIn row places.items) }

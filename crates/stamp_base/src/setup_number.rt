@@ -7,30 +7,45 @@ use crate::Stamp;
 /// A number of a setup.
 #[derive(Clone, Copy, Debug, PartialEq, Eq)]
 pub enum SetupNumber {
+    /// How many nodes there are.
     Nodes,
+    /// For how many ticks of the base clock a grant or a renewal lasts.
     Lease,
+    /// By how many ticks two nodes' clocks may differ.
     Skew,
+    /// How many stamps one grant or extension brings.
     Range,
+    /// How many buckets an instance keeps conflicts in.
     Buckets,
+    /// How many keys a bucket keeps.
     Width,
+    /// How many requests an instance holds at once.
     Slots,
+    /// How many entries a batch holds.
     Batch,
+    /// How many persist workers a node has.
     Workers,
+    /// How many decisions a session keeps.
     Cache,
 }
 
 /// What is off in a setup until a script turns it on.
 #[derive(Clone, Copy, Debug, PartialEq, Eq)]
 pub enum SetupFlag {
+    /// Sessions place their own commit records.
     Direct,
+    /// A commit is checked with the keys that its transaction read.
     Strict,
 }
 
 /// The range of a number, both ends included, and what it is where a script does not set it.
 #[derive(Clone, Copy, Debug, PartialEq, Eq)]
 pub struct Bounds {
+    /// The least that it may be.
     pub least: u64,
+    /// The most that it may be.
     pub most: u64,
+    /// What it is where a script does not set it.
     pub default: u64,
 }
 

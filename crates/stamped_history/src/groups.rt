@@ -7,7 +7,7 @@ ghost use Rattle.stamped_history.specs.Groups.{AreGroups};
 use std::alloc::{AllocError, Global};
 use trace_rules::Operation;
 
-/// The operations of each transaction, by its place, for so many of them.
+/// The operations of each transaction, by its place, for so many of them. AllocError where memory is refused.
 pub fn groups_of(
     alloc: Global,
     operations: &[Operation],

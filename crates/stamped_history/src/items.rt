@@ -20,7 +20,8 @@ use trace_reading::Recording;
 use trace_rules::{Level, Operation, Trace, Version};
 
 /// The history of the trace with stamps in the order of those that the numbers make: of each committed transaction the begin at its
-/// start, with its operations behind it, and the commit at its commit. Or which limit of histories is not met.
+/// start, with its operations behind it, and the commit at its commit. Past where a limit of histories is not met, and which;
+/// NoMemory where memory is refused.
 pub fn history_of(
     alloc: Global,
     level: Level,

@@ -5,7 +5,7 @@ ghost use Rattle.stamped_history.specs.Told.{Ascends, number_of};
 use std::alloc::{AllocError, Global};
 use trace_rules::Operation;
 
-/// The keys of the operations, each once, in their order.
+/// The keys of the operations, each once, in their order. AllocError where memory is refused.
 pub fn keys_of(alloc: Global, operations: &[Operation]) -> Result<Vec<u64>, AllocError> {
     let mut all = Vec::with_capacity(alloc, operations.len())?;
     for operation in operations {

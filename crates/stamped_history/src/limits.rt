@@ -19,7 +19,9 @@ pub enum Limit {
 /// Why there is no history.
 #[derive(Clone, Copy, Debug, PartialEq, Eq)]
 pub enum NoHistory {
+    /// A limit of histories is passed.
     Past(Limit),
+    /// Memory was refused.
     NoMemory,
 }
 

@@ -9,6 +9,7 @@ use std::alloc::{AllocError, Global};
 use trace_rules::{Level, Transaction};
 
 /// The nodes of committed transactions by their stamps: a start by its transaction's place, and behind all starts the commits.
+/// AllocError where memory is refused.
 pub fn nodes_of(
     alloc: Global,
     level: Level,
@@ -27,7 +28,7 @@ pub fn nodes_of(
     Ok(nodes)
 }
 
-/// For each node its place among these, counted from 1.
+/// For each node its place among these, counted from 1. AllocError where memory is refused.
 pub fn ranks_of(alloc: Global, count: usize, nodes: &[usize]) -> Result<Vec<usize>, AllocError> {
     let mut ranks = vec![in alloc; 0; count.saturating_add(count)]?;
     for place in 0..nodes.len() {
@@ -80,6 +81,7 @@ fn spread(number: usize, count: usize, place: usize) -> Option<usize>
     number.checked_mul(count)?.checked_add(place)
 }
 
+/// The number at the place; 0 past the end.
 pub fn number_at(numbers: &[usize], place: usize) -> usize
     ensures { result ≡ slice_index numbers.now place }
 {

@@ -9,7 +9,8 @@ ghost use Rattle.stamped_history.specs.Order.{ArePlaced, Has, HaveNodes, IsPlace
 use crate::order::{number_at, stamp_at};
 use trace_rules::{Level, Transaction};
 
-/// Whether each node is a committed transaction's, its rank its place, counted from 1, and its stamp above that of the one before it.
+/// Whether each node is a committed transaction's, its rank its place, counted from 1, and its stamp above that of the one before
+/// it.
 pub fn are_placed(
     level: Level,
     transactions: &[Transaction],

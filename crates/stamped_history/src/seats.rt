@@ -7,7 +7,7 @@ use std::alloc::{AllocError, Global};
 const SESSIONS: usize = 16;
 
 /// For each transaction a session that no other has between its start and its commit, as long as there is one. What a history means
-/// does not rest on it: each start is asked for just before its begin.
+/// does not rest on it: each start is asked for just before its begin. AllocError where memory is refused.
 pub fn seats_of(alloc: Global, count: usize, nodes: &[usize]) -> Result<Vec<usize>, AllocError> {
     let mut seats = vec![in alloc; 0; count]?;
     let mut taken = [false; SESSIONS];

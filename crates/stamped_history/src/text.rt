@@ -8,7 +8,7 @@ use history_text::{LineBuf, print_item};
 use stamp_base::BYTE_LIMIT;
 use std::alloc::{AllocError, Global};
 
-/// The text of the items, where a history may be so long.
+/// The text of the items. Past where it has more bytes than a history may; NoMemory where memory is refused.
 pub fn text_of(alloc: Global, items: &[Item]) -> Result<Vec<u8>, NoHistory>
     ensures { IfOk result (λ text. text.items ≡ printed items.now) }
 {

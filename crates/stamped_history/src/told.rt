@@ -11,17 +11,24 @@ use crate::seats::seats_of;
 use std::alloc::Global;
 use trace_rules::{Level, Trace};
 
-/// The nodes of a trace of so many transactions in the order of their stamps, each node's rank, each transaction's session, and the keys.
+/// The nodes of a trace of so many transactions in the order of their stamps, each node's rank, each transaction's session, and the
+/// keys.
 #[derive(Drop)]
 pub struct Told {
+    /// How many transactions the trace has.
     pub count: usize,
+    /// The nodes, in the order of their stamps.
     pub nodes: Vec<usize>,
+    /// The rank of each node.
     pub ranks: Vec<usize>,
+    /// The session of each transaction.
     pub seats: Vec<usize>,
+    /// The numbers of the keys.
     pub keys: Vec<u64>,
 }
 
-/// What the history of the trace is told by, with stamps in the order of those that the numbers make.
+/// What the history of the trace is told by, with stamps in the order of those that the numbers make. Past where a limit of
+/// histories is not met; NoMemory where memory is refused.
 pub fn told_of(
     alloc: Global,
     level: Level,

@@ -9,7 +9,9 @@ use stamp_base::{KeyNo, Stamp};
 /// A key and a commit that wrote it.
 #[derive(Clone, Copy, Debug, PartialEq, Eq)]
 pub struct Recorded {
+    /// The key.
     pub key: KeyNo,
+    /// The commit.
     pub commit: Stamp,
 }
 

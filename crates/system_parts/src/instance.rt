@@ -42,10 +42,13 @@ pub enum Settled {
 /// How far a request has come, with what was drawn for it.
 #[derive(Clone, Copy, Debug, PartialEq, Eq)]
 pub enum Progress {
+    /// It was asked, and waits to be accepted.
     Asked,
+    /// It was accepted, and waits for its stamp.
     Accepted,
     /// The stamp is the start of a begin, or the commit.
     Drawn { stamp: Stamp },
+    /// The placing of the commit's record has ended.
     Settled { commit: Stamp, how: Settled },
     /// The commit is drawn, and its session places it once it is answered.
     Handed { commit: Stamp },
@@ -54,7 +57,9 @@ pub enum Progress {
 /// A request that an instance holds.
 #[derive(Clone, Copy, Debug, PartialEq, Eq)]
 pub struct Held {
+    /// The request.
     pub request: Request,
+    /// How far it has come.
     pub progress: Progress,
     /// Whether its session was told that no stamp is left.
     pub told_no_stamp: bool,

@@ -18,7 +18,9 @@ pub struct Answer {
 pub enum Next {
     /// What is kept of this transaction decides the cell that the read has come to.
     Recall(TxnId),
+    /// It makes this call on a store.
     Ask(Ask),
+    /// It has its answer.
     Done(Answer),
 }
 

@@ -5,7 +5,9 @@ use stamp_base::Stamp;
 /// What a session remembers of another transaction: with which commit it committed, or that it never will.
 #[derive(Clone, Copy, Debug, PartialEq, Eq)]
 pub enum Known {
+    /// It committed, with this commit.
     Committed(Stamp),
+    /// It never commits.
     Dead,
 }
 

@@ -1,6 +1,6 @@
 //! What the parts of the system stand for: rows, entries of the commit table and the master record, and how calls stand to their
-//! weather; the states of a session and the step machines that ask the stores; the memory of conflicts, an instance with its requests,
-//! and the posts. Plain data and definitions, with laws.
+//! weather; the states of a session and the step machines that ask the stores; the memory of conflicts, an instance with its
+//! requests, and the posts. Plain data and definitions, with laws.
 #![tactic(auto)]
 
 mod asks;

@@ -4,6 +4,7 @@ use stamp_base::Term;
 /// its epoch up to its ceiling.
 #[derive(Clone, Copy, Debug, PartialEq, Eq)]
 pub struct Grant {
+    /// The term of the instance.
     pub term: Term,
     /// The greatest stamp that earlier terms may draw.
     pub epoch: u64,
@@ -13,7 +14,7 @@ pub struct Grant {
     pub ceiling: u64,
 }
 
-/// Why a take was not granted, the first cause that holds.
+/// Why a take was not granted, the first cause that holds. `reading` and `until` are in ticks of the base clock.
 #[derive(Clone, Copy, Debug, PartialEq, Eq)]
 pub enum TakeRefused {
     /// The store failed. The take took effect when it was made, or never will.

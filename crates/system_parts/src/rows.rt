@@ -11,6 +11,7 @@ use stamp_base::{Stamp, Value};
 pub struct Cell {
     /// The transaction that wrote it.
     pub version: Stamp,
+    /// What it wrote.
     pub value: Value,
     /// The transaction's commit, where it was filled in.
     pub shadow: Option<Stamp>,

@@ -13,6 +13,7 @@ use std::marker::Model;
 /// need no more of the system than its post.
 #[derive(Drop)]
 pub struct Post {
+    /// The instance that serves. None where nobody does.
     pub instance: Option<Instance>,
 }
 

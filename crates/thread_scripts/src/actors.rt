@@ -11,7 +11,7 @@ use session_script::Script;
 use stamp_base::{NoMemory, NodeNo, SessionNo};
 use std::alloc::Global;
 
-/// The actors with lines, in the order clock, janitor, nodes, sessions.
+/// The actors with lines, in the order clock, janitor, nodes, sessions. NoMemory where memory is refused.
 pub fn actors_with_lines(alloc: Global, script: &Script) -> Result<Vec<Actor>, NoMemory>
     ensures actors { IfOk result (λ actors. actors.items ≡ actors_of (data_of script.now)) }
     ensures few { IfOk result (λ actors. vec_len actors ≤ 26) }
@@ -28,7 +28,8 @@ pub fn actors_with_lines(alloc: Global, script: &Script) -> Result<Vec<Actor>, N
     Ok(actors)
 }
 
-/// So many parts a ledger has for the script's actors with lines; it has one where there is no such actor.
+/// So many parts a ledger has for the script's actors with lines; it has one where there is no such actor. NoMemory where memory is
+/// refused.
 pub fn parts_of(alloc: Global, script: &Script) -> Result<u64, NoMemory>
     ensures parts { IfOk result (λ n. n ≡ parts_for (actors_of (data_of script.now))) }
     ensures some { IfOk result (λ n. 0 < n) }

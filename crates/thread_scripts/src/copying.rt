@@ -8,7 +8,7 @@ use session_script::{Line, Script};
 use stamp_base::{NoMemory, Setup, Store};
 use std::alloc::Global;
 
-/// The same script once more.
+/// A copy that says what the script says. NoMemory where memory is refused.
 pub fn copied(alloc: Global, script: &Script) -> Result<Script, NoMemory>
     ensures { IfOk result (λ copy. data_of copy ≡ data_of script.now) }
 {

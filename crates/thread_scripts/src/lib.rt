@@ -1,5 +1,5 @@
-//! Scripts for threads: what their reader's mode keeps out, which actors have lines, how far cursors have come with those lines, and
-//! a script once more.
+//! Scripts for threads: what their reader's mode keeps out, which actors have lines, how far cursors have come with those lines,
+//! and a script once more.
 #![tactic(auto)]
 
 mod actors;

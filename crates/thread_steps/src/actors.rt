@@ -24,8 +24,8 @@ pub trait ActorSteps<L: Ledger> {
     fn actor_step<R: Wait>(&self, rt: &R, mine: &mut ActorShare<L>) -> ActorStep
         ensures { GoesOn mine.old mine.new };
 
-    /// Makes events of the actor's lines one after the other, for a while, and those by which stages serve what it asks, where nothing
-    /// is in the way. By default, one step.
+    /// Makes events of the actor's lines one after the other, for a while, and those by which stages serve what it asks, where
+    /// nothing is in the way. By default, one step.
     fn actor_stretch<R: Wait>(&self, rt: &R, mine: &mut ActorShare<L>) -> ActorStep
         ensures { GoesOn mine.old mine.new }
     {

@@ -8,7 +8,9 @@ use std::alloc::Global;
 /// So many lines of the actor are done.
 #[derive(Clone, Copy, Debug, PartialEq, Eq)]
 pub struct Cursor {
+    /// The actor.
     pub actor: Actor,
+    /// How many of its lines are done.
     pub done: u64,
 }
 

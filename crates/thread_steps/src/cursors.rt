@@ -36,6 +36,7 @@ impl<L: Ledger> Model for Cursors<L> {
 
 impl<L: Ledger> Cursors<L> {
     /// One cursor and one share for each actor, and no line is done. The blank has as many parts, or one where there is no actor.
+    /// NoMemory where memory is refused.
     pub fn open(
         alloc: Global,
         actors: &[Actor],

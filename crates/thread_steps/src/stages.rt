@@ -46,6 +46,7 @@ pub trait Steps {
     /// How many turns were made so far, by stages and actors.
     fn turns_made<R: Wait>(&self, rt: &R) -> usize;
 
-    /// Whether a thread that finds the steps taken by another may give its processor away, from now on. Until it is told, it keeps it.
+    /// Whether a thread that finds the steps taken by another may give its processor away, from now on. Until it is told, it keeps
+    /// it.
     fn let_yield(&self, _may: bool) {}
 }

@@ -5,12 +5,16 @@ use std::collections::LinkedList;
 
 /// What a handle has drawn, and its parts of the right to know all that was drawn. No value of it is made.
 pub struct TickView {
+    /// How many parts it has.
     pub parts: u64,
+    /// The numbers that it drew.
     pub drawn: LinkedList<u64>,
 }
 
+/// The number that was drawn last, under the rule; 0 before the first.
 pub type Word = Table<u64, TickView, u64, Drawn, Global>;
 
+/// A handle's seat at the word, with its view.
 pub type WordSeat = Seat<u64, TickView>;
 
 /// All handles together have drawn the numbers from 1 to the word's, each once. The key is the number of parts.

@@ -49,7 +49,7 @@ impl Model for TickHandle {
 }
 
 impl TickWord {
-    /// A word of which nothing was drawn, and a handle with all its parts, at most `PART_LIMIT`.
+    /// A word of which nothing was drawn, and a handle with all its parts, at most `PART_LIMIT`. NoMemory where memory is refused.
     pub fn open(alloc: Global, seats: u64) -> Result<(TickWord, TickHandle), NoMemory>
         requires { seats ≤ PART_LIMIT }
         ensures word { IfOk result (λ made. made.0.seats ≡ seats) }

@@ -25,8 +25,8 @@ pub struct Hint {
 }
 
 /// The edges that hold in all stamps: of each transaction's own start and commit, where there are starts; from what was read to the
-/// reader; from the reader to the next version's writer, where this read the same version or the reader read none; and from
-/// the reader's commit to that writer's start, where the reader wrote the key too.
+/// reader; from the reader to the next version's writer, where this read the same version or the reader read none; and from the
+/// reader's commit to that writer's start, where the reader wrote the key too. AllocError where memory is refused.
 pub fn forced_edges(
     alloc: Global,
     transactions: &[Transaction],
@@ -308,7 +308,7 @@ fn is_of(answer: Option<Version>, from: usize) -> bool
     }
 }
 
-/// Lays an edge behind the others, where it is between nodes.
+/// Lays an edge behind the others, where it is between nodes. AllocError where memory is refused.
 pub fn lay(edges: &mut Vec<Edge>, nodes: usize, edge: Edge) -> Result<(), AllocError>
     ensures { OnOk result (MayLay nodes edge edges.old.items edges.new.items) }
 {
@@ -319,7 +319,7 @@ pub fn lay(edges: &mut Vec<Edge>, nodes: usize, edge: Edge) -> Result<(), AllocE
 }
 
 /// Lays, behind the others, the edges of this order of the versions: from the commit of each version to the start of the next one's
-/// writer, and from each reader to the writer of the next version.
+/// writer, and from each reader to the writer of the next version. AllocError where memory is refused.
 pub fn lay_tried(
     edges: &mut Vec<Edge>,
     readings: &[Reading],

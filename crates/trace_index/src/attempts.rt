@@ -11,7 +11,9 @@ use trace_rules::Times;
 /// What became of a transaction.
 #[derive(Clone, Copy, Debug, PartialEq, Eq)]
 pub enum Fate {
+    /// It committed.
     Committed,
+    /// It did not commit.
     Aborted,
     /// Nobody knows.
     Open,
@@ -22,9 +24,11 @@ pub enum Fate {
 pub struct Attempt {
     /// The number of its process's name.
     pub process: u64,
+    /// What became of it.
     pub fate: Fate,
     /// The line, or the number of the object in an array, at which its operations stand.
     pub line: u64,
+    /// The moments that are known of it.
     pub times: Times,
     /// Its operations are those from this place
     pub first: u64,
@@ -32,7 +36,8 @@ pub struct Attempt {
     pub end: u64,
 }
 
-/// The transactions of the events: each event but an invocation is one, and so is an invocation that is left unanswered.
+/// The transactions of the events: each event but an invocation is one, and so is an invocation that is left unanswered. NoMemory
+/// where memory is refused.
 pub fn attempts_of(alloc: Global, events: &[Event]) -> Result<Vec<Attempt>, NoMemory>
     ensures { IfOk result (λ attempts. attempts.items ≡ attempts_of events.now) }
 {

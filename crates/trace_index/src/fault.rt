@@ -26,6 +26,7 @@ pub enum Fault {
         value: u64,
         what: Unclear,
     },
+    /// Memory was refused.
     NoMemory,
 }
 

@@ -7,7 +7,8 @@ use stamp_base::NoMemory;
 use std::alloc::Global;
 use trace_rules::{Operation, Version};
 
-/// Whether each transaction counts as committed: it was, or it is open and one that counts read from it.
+/// Whether each transaction counts as committed: it was, or it is open and one that counts read from it. NoMemory where memory is
+/// refused.
 pub fn flags_of(
     alloc: Global,
     attempts: &[Attempt],

@@ -22,8 +22,11 @@ use version_ranks::Rank;
 /// that is told.
 #[derive(Drop)]
 pub struct Indexed {
+    /// The transactions as they were recorded.
     pub attempts: Vec<Attempt>,
+    /// The trace.
     pub trace: Trace,
+    /// The moments that are known of each transaction.
     pub times: Vec<Times>,
     pub ranks: Vec<Rank>,
 }
@@ -43,7 +46,8 @@ impl Model for Steps {
     ghost view = { λ s. record { writers = s.writers; operations = s.operations.items } };
 }
 
-/// The trace that the recording is judged by, or the first operation of which it is not clear who wrote what.
+/// The trace that the recording is judged by. At, with the first operation of which it is not clear who wrote what; NoMemory where
+/// memory is refused.
 pub fn index(alloc: Global, recording: &Recording) -> Result<Indexed, Fault>
     ensures indexed { IfOk result (λ found. IsIndexOf recording.now found.attempts.items found.trace found.times.items found.ranks.items) }
     ensures done { IfOk result (λ found. AreDone found.trace.transactions found.ranks.items) }

@@ -25,7 +25,7 @@ impl Model for Latest {
 impl Latest {
     ghost use Rattle.trace_index.specs.Attempts.{latest_of, with_latest};
 
-    /// Of no events.
+    /// The latest of no events.
     pub fn new(alloc: Global) -> Latest
         ensures { result ≡ [] }
     {
@@ -41,7 +41,7 @@ impl Latest {
         self.events.get(&process).copied()
     }
 
-    /// Notes the event as the latest of its process.
+    /// Notes the event as the latest of its process. NoMemory where memory is refused.
     pub fn note(&mut self, event: Event) -> Result<(), NoMemory>
         ensures { OnOk result (self.new ≡ with_latest event self.old) }
     {

@@ -10,8 +10,11 @@ use trace_reading::Operation;
 /// An operation of the transaction at this place, by its own place among the transaction's.
 #[derive(Clone, Copy, Debug, PartialEq, Eq)]
 pub struct Said {
+    /// The transaction's place.
     pub txn: usize,
+    /// Its place among the transaction's.
     pub member: u64,
+    /// The operation.
     pub operation: Operation,
 }
 

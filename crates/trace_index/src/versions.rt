@@ -9,7 +9,8 @@ use crate::writers::{Writers, lists};
 use std::alloc::Global;
 use trace_rules::{Operation, Version};
 
-/// The operations, where each value that was read was written.
+/// The operations, each read with the version that it found. At, with the first of which it is not clear who wrote what; NoMemory
+/// where memory is refused.
 pub fn operations_of(
     alloc: Global,
     writers: &Writers,

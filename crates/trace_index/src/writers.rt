@@ -91,7 +91,8 @@ pub fn lists(txn: usize, member: u64, key: u64, value: u64) -> Fault
     }
 }
 
-/// The writers of the operations. Each value is written at most once at a key.
+/// The writers of the operations. At, with the first that writes a value a second time at a key or is of a list; NoMemory where
+/// memory is refused.
 pub fn writers_of(alloc: Global, said: &[Said]) -> Result<Writers, Fault>
     ensures { Makes (writers_from [] said.now) result }
 {

@@ -18,6 +18,7 @@ pub struct Hints {
     pub heirs: Vec<Hint>,
 }
 
+/// The hints for these reads and these versions, which are sorted by key. AllocError where memory is refused.
 pub fn hints_of(
     alloc: Global,
     readings: &[Reading],
@@ -175,7 +176,7 @@ fn places_of_readings(
     Ok(places)
 }
 
-/// For each reading the place of what was read, as in the hints.
+/// For each reading the place of what was read, as in the hints. AllocError where memory is refused.
 pub fn places_of(
     alloc: Global,
     readings: &[Reading],
@@ -232,6 +233,7 @@ fn first_at(order: &[Writing], key: u64) -> usize {
     low
 }
 
+/// The number at the place; 0 past the end.
 pub fn number_at(numbers: &[usize], place: usize) -> usize {
     match numbers.get(place) {
         None => 0,

@@ -46,7 +46,7 @@ pub enum Verdict {
 const ROUNDS: usize = 8;
 
 /// Judges a trace: whether there are stamps for the transactions that make it isolated, at the level. For n operations it takes a
-/// time in proportion to n log n, and memory in proportion to n.
+/// time in proportion to n log n, and memory in proportion to n. AllocError where memory is refused.
 pub fn judge(
     alloc: Global,
     level: Level,
@@ -58,8 +58,8 @@ pub fn judge(
     judge_wanted(alloc, level, Wanted::Nothing, transactions, &[], operations)
 }
 
-/// Judges a trace as `judge` does, where the stamps are to keep an order besides: the moments that are known of each
-/// transaction are given by its place.
+/// Judges a trace as `judge` does, where the stamps are to keep an order besides: the moments that are known of each transaction
+/// are given by its place. AllocError where memory is refused.
 pub fn judge_wanted(
     alloc: Global,
     level: Level,
@@ -74,7 +74,7 @@ pub fn judge_wanted(
 }
 
 /// Judges a trace as `judge_wanted` does, where an order of versions is told besides: the ranks of committed transactions, by key
-/// and version.
+/// and version. AllocError where memory is refused.
 pub fn judge_told(
     alloc: Global,
     level: Level,

@@ -41,9 +41,11 @@ pub struct Moments {
 pub struct Event {
     /// The number of its line, or of its object in an array, from 1 on.
     pub line: u64,
+    /// What it tells of its transaction.
     pub kind: Kind,
     /// The number of the process's name.
     pub process: u64,
+    /// The moments that it tells.
     pub moments: Moments,
     /// Its operations are those from this place
     pub first: u64,

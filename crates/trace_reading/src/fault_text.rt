@@ -7,7 +7,8 @@ use crate::want::Want;
 use stamp_base::NoMemory;
 use std::alloc::Global;
 
-/// The line, with its line feed, that says what the line of this number wants and in which member.
+/// The line, with its line feed, that says what the line of this number wants and in which member. NoMemory where memory is
+/// refused.
 pub fn fault_line(alloc: Global, line: u64, want: Want) -> Result<Vec<u8>, NoMemory>
     ensures { IfOk result (λ text. text.items ≡ fault_text line want) }
 {

@@ -32,7 +32,7 @@ impl Names {
         }
     }
 
-    /// The name's number, which it gets where it has none.
+    /// The name's number, which it gets where it has none. NoMemory where memory is refused.
     pub fn number_of(&mut self, alloc: Global, name: &[u8]) -> Result<u64, NoMemory>
         ensures number { IfOk result (λ number. number ≡ number_of name.now self.old) }
         ensures names { OnOk result (self.new ≡ names_with name.now self.old) }

@@ -43,8 +43,11 @@ pub enum Operation {
 /// Which kind of operation it is.
 #[derive(Clone, Copy, Debug, PartialEq, Eq)]
 pub enum Form {
+    /// A key is read.
     Read,
+    /// A value is written.
     Write,
+    /// A value is appended to a list.
     Append,
 }
 

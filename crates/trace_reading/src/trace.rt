@@ -20,11 +20,13 @@ pub enum TraceFault {
     /// The line, or the object of an array, of this number, counted from 1, wants this first. Line 0 stands for bytes that
     /// begin with a bracket and are no array.
     At { line: u64, want: Want },
+    /// Memory was refused.
     NoMemory,
 }
 
-/// What the bytes tell: lines of JSON, each an event, or one array of events where they begin with a bracket. A line of no
-/// bytes tells nothing, and the last line may end without a line feed.
+/// What the bytes tell: lines of JSON, each an event, or one array of events where they begin with a bracket. A line of no bytes
+/// tells nothing, and the last line may end without a line feed. At, with the number of the first line or object that is no event,
+/// from 1, and what it wants first, or with line 0 where the array is none; NoMemory where memory is refused.
 pub fn read_trace(alloc: Global, bytes: &[u8]) -> Result<Recording, TraceFault>
     ensures read { IfOk result (λ recorded. trace_of bytes.now ≡ Ok recorded) }
     ensures bad { IfErr result (IsFaultOf (trace_of bytes.now)) }

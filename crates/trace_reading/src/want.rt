@@ -38,7 +38,9 @@ pub enum Want {
 /// Why something was not read.
 #[derive(Clone, Copy, Debug, PartialEq, Eq)]
 pub enum Stop {
+    /// The line wants this first.
     Wants(Want),
+    /// Memory was refused.
     NoMemory,
 }
 

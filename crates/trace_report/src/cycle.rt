@@ -10,6 +10,7 @@ use trace_index::Attempt;
 use trace_reading::{Recording, push_words};
 
 /// Adds the cycle: for each step the two transactions by their lines, what each did, and why the first comes before the other.
+/// NoMemory where memory is refused.
 pub fn push_cycle(
     text: &mut Vec<u8>,
     recording: &Recording,

@@ -131,7 +131,8 @@ fn misses_meet(steps: &[Step]) -> bool
     }
 }
 
-/// The same of the last steps of a cycle that begins with a step of this way.
+/// Whether a read that missed something stands just behind another among the last steps of a cycle that begins with a step of
+/// this way.
 fn meet_from(first: Way, steps: &[Step]) -> bool
     ensures { result ≡ meet_from first steps.now }
 {

@@ -6,7 +6,7 @@ use stamp_base::NoMemory;
 use trace_index::Attempt;
 use trace_reading::{Recording, push_number};
 
-/// Adds the name of this number.
+/// Adds the name of this number. NoMemory where memory is refused.
 pub fn push_name(text: &mut Vec<u8>, recording: &Recording, number: u64) -> Result<(), NoMemory>
     ensures { OnOk result (text.new.items ≡ text.old.items ++ name_at recording.now.names number) }
 {
@@ -16,7 +16,7 @@ pub fn push_name(text: &mut Vec<u8>, recording: &Recording, number: u64) -> Resu
     Ok(())
 }
 
-/// Adds the number of the line of the transaction at this place.
+/// Adds the number of the line of the transaction at this place. NoMemory where memory is refused.
 pub fn push_line(text: &mut Vec<u8>, attempts: &[Attempt], txn: usize) -> Result<(), NoMemory>
     ensures { OnOk result (text.new.items ≡ text.old.items ++ decimal (line_at attempts.now txn)) }
 {

@@ -17,8 +17,12 @@ pub enum Way {
 /// says nothing.
 #[derive(Clone, Copy, Debug, PartialEq, Eq)]
 pub struct Step {
+    /// The place of the transaction that comes before.
     pub from: usize,
+    /// The place of the one that comes behind.
     pub to: usize,
+    /// Why it comes before.
     pub way: Way,
+    /// The key's number.
     pub key: u64,
 }

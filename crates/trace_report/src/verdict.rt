@@ -8,7 +8,7 @@ use trace_index::{Attempt, Unclear};
 use trace_reading::{Recording, push_number, push_words};
 use trace_rules::{Level, Wanted};
 
-/// Adds that the trace is as asked, and how many transactions it has.
+/// Adds that the trace is as asked, and how many transactions it has. NoMemory where memory is refused.
 pub fn push_holds(
     text: &mut Vec<u8>,
     level: Level,
@@ -24,7 +24,7 @@ pub fn push_holds(
     push_words(text, "\n")
 }
 
-/// Adds that the trace is not as asked, with the name of what is wrong.
+/// Adds that the trace is not as asked, with the name of what is wrong. NoMemory where memory is refused.
 pub fn push_refused(
     text: &mut Vec<u8>,
     level: Level,
@@ -41,7 +41,7 @@ pub fn push_refused(
     push_words(text, "\n")
 }
 
-/// Adds a wrong read of the transaction at the key.
+/// Adds a wrong read of the transaction at the key. NoMemory where memory is refused.
 pub fn push_wrong_read(
     text: &mut Vec<u8>,
     recording: &Recording,
@@ -58,7 +58,7 @@ pub fn push_wrong_read(
     push_words(text, "\n")
 }
 
-/// Adds that the order of the key's writers is not decided.
+/// Adds that the order of the key's writers is not decided. NoMemory where memory is refused.
 pub fn push_undecided(text: &mut Vec<u8>, recording: &Recording, key: u64) -> Result<(), NoMemory>
     ensures { OnOk result (text.new.items ≡ text.old.items ++ undecided_text recording.now.names key) }
 {
@@ -67,7 +67,7 @@ pub fn push_undecided(text: &mut Vec<u8>, recording: &Recording, key: u64) -> Re
     push_words(text, "\n")
 }
 
-/// Adds of which operation it is not clear who wrote what.
+/// Adds of which operation it is not clear who wrote what. NoMemory where memory is refused.
 pub fn push_unclear(
     text: &mut Vec<u8>,
     recording: &Recording,

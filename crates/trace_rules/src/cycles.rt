@@ -62,14 +62,14 @@ pub fn graph_orders_stamp()
     ensures { (st : Stamping) (asked : Asked) (trace : Trace) (orders : ℕ → List ℕ) → Numbered st trace → Sourced trace → Listed trace orders → ((x y : Point) → Edge asked trace orders x y → stamp_of st x < stamp_of st y) → Stampable Snapshot asked trace }
 {}
 
-/// The same of a serial order: where stamps of one transaction after another, each at a place of its own, rise along all these
+/// In a serial order, where stamps of one transaction after another, each at a place of its own, rise along all these
 /// edges, they are stamps of the trace, whether the orders are forced or not.
 pub fn serial_graph_orders_stamp()
     ensures { (at : ℕ → ℕ) (asked : Asked) (trace : Trace) (orders : ℕ → List ℕ) → PlacesDiffer at trace → Sourced trace → Listed trace orders → ((x y : Point) → Edge asked trace orders x y → stamp_of (one_by_one at) x < stamp_of (one_by_one at) y) → Stampable Serializable asked trace }
 {}
 
-/// And in a serial order what is forced between points of two transactions is forced of them whole. So a cycle of transactions, each of
-/// which has a point that is forced below one of the next, refuses the trace.
+/// And in a serial order what is forced between points of two transactions is forced of them whole. So a cycle of transactions,
+/// each of which has a point that is forced below one of the next, refuses the trace.
 pub fn serial_points_order_wholes()
     ensures { (asked : Asked) (trace : Trace) (x y : Point) → Done trace (owner x) → Done trace (owner y) → owner x ≢ owner y → Below Serializable asked trace x y → Below Serializable asked trace (Commit (owner x)) (Start (owner y)) }
 {}

@@ -5,7 +5,9 @@ use std::marker::Model;
 /// A version of a key: the place of the transaction that wrote it, and the value's number.
 #[derive(Clone, Copy, Debug, PartialEq, Eq)]
 pub struct Version {
+    /// The place of the transaction that wrote it.
     pub from: usize,
+    /// The value's number.
     pub value: u64,
 }
 
@@ -19,6 +21,7 @@ pub enum Operation {
         key: u64,
         answer: Option<Version>,
     },
+    /// What the transaction wrote at the key.
     Write {
         txn: usize,
         key: u64,
@@ -29,14 +32,18 @@ pub enum Operation {
 /// A transaction of a process.
 #[derive(Clone, Copy, Debug, PartialEq, Eq)]
 pub struct Transaction {
+    /// The process's number.
     pub process: u64,
+    /// Whether it committed.
     pub committed: bool,
 }
 
 /// A trace as it is judged: keys, values and processes are numbers, and a transaction is named by its place.
 #[derive(Drop)]
 pub struct Trace {
+    /// The transactions, each at its place.
     pub transactions: Vec<Transaction>,
+    /// The operations of all transactions.
     pub operations: Vec<Operation>,
 }
 

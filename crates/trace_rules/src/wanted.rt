@@ -22,8 +22,12 @@ pub enum Wanted {
 /// was asked for and before it had begun, its commit after it was asked for and before it was completed.
 #[derive(Clone, Copy, Debug, PartialEq, Eq)]
 pub struct Times {
+    /// When its start was asked for.
     pub asked: Option<u64>,
+    /// When it had begun.
     pub began: Option<u64>,
+    /// When its commit was asked for.
     pub committing: Option<u64>,
+    /// When it was completed.
     pub completed: Option<u64>,
 }

@@ -10,6 +10,7 @@ use stamp_base::Stage;
 /// How far an actor has come with its lines.
 #[derive(Clone, Copy, Debug, PartialEq, Eq)]
 pub struct Seat {
+    /// The actor.
     pub actor: Actor,
     /// So many of the actor's lines are passed.
     pub place: usize,
@@ -57,8 +58,11 @@ fn is_ask(item: &Item) -> bool
 /// Which stages of a node are held.
 #[derive(Clone, Copy, Debug, PartialEq, Eq)]
 pub struct Holds {
+    /// Whether the request stage is.
     pub request: bool,
+    /// Whether the persist stage is.
     pub persist: bool,
+    /// Whether the reply stage is.
     pub reply: bool,
 }
 
@@ -74,6 +78,7 @@ impl Holds {
         }
     }
 
+    /// Whether the stage is held.
     pub fn is_held(&self, stage: Stage) -> bool
         ensures { result ≡ is_held self.now stage }
     {

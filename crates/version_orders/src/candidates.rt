@@ -8,32 +8,42 @@ use outer_reads::{Reading, Writing};
 /// The nodes of a transaction's start and of its commit: one and the same where a transaction is one node.
 #[derive(Clone, Copy, Debug, PartialEq, Eq)]
 pub struct Ends {
+    /// The node of its start.
     pub start: usize,
+    /// The node of its commit.
     pub commit: usize,
 }
 
 /// Two writers of a key.
 #[derive(Clone, Copy, Debug, PartialEq, Eq)]
 pub struct Writers {
+    /// The writer of the version at the first place.
     pub first: Ends,
+    /// The writer of the version at the second place.
     pub second: Ends,
 }
 
 /// A reader that found nothing, and a writer of the key.
 #[derive(Clone, Copy, Debug, PartialEq, Eq)]
 pub struct Unread {
+    /// The node of the reader's start.
     pub reader: usize,
+    /// The nodes of the writer.
     pub writer: Ends,
 }
 
 /// A reader, whom it read from, and another writer of the key.
 #[derive(Clone, Copy, Debug, PartialEq, Eq)]
 pub struct Other {
+    /// The node of the reader's start.
     pub reader: usize,
+    /// The nodes of whom it read from.
     pub source: Ends,
+    /// The nodes of the other writer.
     pub writer: Ends,
 }
 
+/// The writers of the versions at two places, where both are of one key, by two transactions. None otherwise.
 pub fn writers_at(order: &[Writing], i: usize, j: usize, nodes: Nodes) -> Option<Writers>
     ensures { IfSome result (λ w. AreWriters order.now nodes w.first w.second) }
 {
@@ -47,6 +57,7 @@ pub fn writers_at(order: &[Writing], i: usize, j: usize, nodes: Nodes) -> Option
     Some(Writers { first, second })
 }
 
+/// The reader at place `i`, which found nothing, and another that wrote the version at place `j`, of that key. None otherwise.
 pub fn unread_at(
     readings: &[Reading],
     order: &[Writing],
@@ -68,6 +79,7 @@ pub fn unread_at(
     })
 }
 
+/// The reader at place `i`, whom it read from, and a third that wrote the version at place `j`, of that key. None otherwise.
 pub fn other_at(
     readings: &[Reading],
     order: &[Writing],

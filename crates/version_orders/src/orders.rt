@@ -68,9 +68,10 @@ impl Laid {
 }
 
 /// Adds edges that follow of those which are sure: between neighbours of the order that a path leads between, and between readers
-/// and versions near what they read. The numbers rise along the edges; the order has the versions of each key by their
-/// writers' numbers; and for each reading the place is given of what was read. Numbers, order and places are hints. It
-/// takes a time in proportion to n log n, and leaves out what it does not find in it. Once the rounds are over it adds none.
+/// and versions near what they read. The numbers rise along the edges; the order has the versions of each key by their writers'
+/// numbers; and for each reading the place is given of what was read. Numbers, order and places are hints. It takes a time in
+/// proportion to n log n, and leaves out what it does not find in it. Once the rounds are over it adds none. AllocError where
+/// memory is refused.
 pub fn add_orders(
     alloc: Global,
     readings: &[Reading],

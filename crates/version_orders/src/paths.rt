@@ -30,6 +30,8 @@ pub struct Paths {
 }
 
 impl Paths {
+    /// Paths of these edges between so many nodes, where searches may look at `left` edges in all. AllocError where memory is
+    /// refused.
     pub fn new(
         alloc: Global,
         nodes: usize,
@@ -54,7 +56,7 @@ impl Paths {
         Ok(paths)
     }
 
-    /// Whether a path was found from one node to another, along which these numbers rise.
+    /// Whether a path was found from one node to another, along which these numbers rise. AllocError where memory is refused.
     pub fn lead(
         &mut self,
         edges: &[Edge],
@@ -183,6 +185,7 @@ fn end_of(edges: &[Edge], place: usize) -> usize {
     }
 }
 
+/// The number at the place; 0 past the end.
 pub fn number_at(numbers: &[usize], place: usize) -> usize {
     match numbers.get(place) {
         None => 0,

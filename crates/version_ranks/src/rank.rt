@@ -5,8 +5,11 @@ ghost use Rattle.version_ranks.specs.Ranks.{rank_behind, runs_of};
 /// A transaction's version of a key, by its number in the order that is told: a lower one comes before.
 #[derive(Clone, Copy, Debug, PartialEq, Eq)]
 pub struct Rank {
+    /// The key's number.
     pub key: u64,
+    /// The version's number in the order.
     pub version: u64,
+    /// The place of the transaction that wrote it.
     pub txn: usize,
 }
 

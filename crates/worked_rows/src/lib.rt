@@ -1,5 +1,5 @@
-//! Calls of the program over bytes in memory, for tests of the whole program, and the worked examples as tables: words, input, output
-//! and status, but for those on threads.
+//! Calls of the program over bytes in memory, for tests of the whole program, and the worked examples as tables: words, input,
+//! output and status, but for those on threads.
 #![tactic(auto)]
 
 #[cfg(test)]

@@ -49,8 +49,8 @@ sN await r5
 sN begin a
 ";
 
-/// Thirteen sessions, each of which asks five times for a begin at a held request stage, and loses the request to a crash: more tickets
-/// than the queue has room for.
+/// Thirteen sessions, each of which asks five times for a begin at a held request stage, and loses the request to a crash: more
+/// tickets than the queue has room for.
 pub fn crowd(alloc: Global) -> Result<String, AllocError> {
     let crashes = numbered(alloc, CRASH, 1..6)?;
     let sessions = numbered(alloc, ASKS, 0..13)?;
@@ -87,7 +87,8 @@ a await r
 a free request
 ";
 
-/// A request that is drawn is answered though its stage is held behind it, while fifteen sessions want a range of their own each time.
+/// A request that is drawn is answered though its stage is held behind it, while fifteen sessions want a range of their own each
+/// time.
 pub fn drawn_in_a_crowd(alloc: Global) -> Result<String, AllocError> {
     let sessions = numbered(alloc, COMMITS, 1..16)?;
     format!(in alloc; "range 1\nbatch 256\na take\na post t\n{sessions}{DRAWN}")

@@ -1,5 +1,5 @@
-// Scripts over split stores whose lines wait for each other by names, so that threads have one order to carry them out in: that of the
-// file.
+// Scripts over split stores whose lines wait for each other by names, so that threads have one order to carry them out in: that of
+// the file.
 use std::alloc::{AllocError, Global};
 use std::sync::Wait;
 use std::test::Fail;

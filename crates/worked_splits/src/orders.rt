@@ -16,8 +16,8 @@ const TURNS: usize = 8;
 
 const SPINS: usize = 500;
 
-/// A gate at which each event gives way to others, which come to their locks meanwhile. It takes its time too, since nobody is given
-/// way to where there are processors enough.
+/// A gate at which each event gives way to others, which come to their locks meanwhile. It takes its time too, since nobody is
+/// given way to where there are processors enough.
 struct GivingGate;
 
 impl PartGate for GivingGate {
@@ -42,9 +42,10 @@ s1 await p1
 s2 await p1
 ";
 
-/// Five actors, whose events have these pairs of parts in common, by two kinds of event each: the session and a node, the clock and the
-/// node, and the node and the master record. Four of them lock node `a` again and again: while one holds it, a renewal and an extension
-/// come to wait for it side by side. No session stays with a request that nobody goes on with, but for `s0`, which asks all the same.
+/// Five actors, whose events have these pairs of parts in common, by two kinds of event each: the session and a node, the clock and
+/// the node, and the node and the master record. Four of them lock node `a` again and again: while one holds it, a renewal and an
+/// extension come to wait for it side by side. No session stays with a request that nobody goes on with, but for `s0`, which asks
+/// all the same.
 const ROUND: &str = "\
 a accept s0
 a renew

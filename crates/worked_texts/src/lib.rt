@@ -1,5 +1,5 @@
-//! The worked examples of the whole program, as texts: scripts, the histories that replays of them must write, byte for byte, by topic,
-//! and what they share: pieces of histories, and a place at which two threads meet.
+//! The worked examples of the whole program, as texts: scripts, the histories that replays of them must write, byte for byte, by
+//! topic, and what they share: pieces of histories, and a place at which two threads meet.
 #![tactic(auto)]
 
 pub mod answers;

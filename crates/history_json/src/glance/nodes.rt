@@ -2,6 +2,7 @@
 use history_book::Item;
 use history_reading::{after, field, letter, node_of, term_of};
 
+/// An item `tick` of the bytes behind its kind. None where they are not such members, in this order.
 pub fn tick(bytes: &[u8]) -> Option<Item> {
     let (to, _) = field(b",\"to\":", bytes)?;
     Some(Item::Tick { to })
@@ -46,6 +47,7 @@ fn extend(ceiling: u64, bytes: &[u8]) -> Option<Item> {
     })
 }
 
+/// An item `renew` of the bytes behind its kind. None where they are not such members, in this order.
 pub fn renew(bytes: &[u8]) -> Option<Item> {
     let (node, rest) = named(bytes)?;
     let (reading, rest) = field(b"\",\"reading\":", rest)?;
@@ -61,6 +63,7 @@ pub fn renew(bytes: &[u8]) -> Option<Item> {
     })
 }
 
+/// An item `crash` of the bytes behind its kind. None where they are not such members, in this order.
 pub fn crash(bytes: &[u8]) -> Option<Item> {
     let (node, rest) = named(bytes)?;
     let (term, _) = field(b"\",\"term\":", rest)?;

@@ -4,6 +4,7 @@ use history_book::Item;
 use history_reading::{field, node_of, session_of, stamp_of, term_of};
 use stamp_base::Stamp;
 
+/// An item `ask-begin` of the bytes behind its kind. None where they are not such members, in this order.
 pub fn ask_begin(bytes: &[u8]) -> Option<Item> {
     let (node, session, _) = asked(bytes)?;
     let session = session_of(session)?;
@@ -11,6 +12,7 @@ pub fn ask_begin(bytes: &[u8]) -> Option<Item> {
     Some(Item::AskBegin { session, node })
 }
 
+/// An item `ask-commit` of the bytes behind its kind. None where they are not such members, in this order.
 pub fn ask_commit(bytes: &[u8]) -> Option<Item> {
     let (node, session, rest) = asked(bytes)?;
     let (start, _) = field(b"\",\"start\":", rest)?;
@@ -24,6 +26,7 @@ pub fn ask_commit(bytes: &[u8]) -> Option<Item> {
     })
 }
 
+/// An item `accept` of the bytes behind its kind. None where they are not such members, in this order.
 pub fn accept(bytes: &[u8]) -> Option<Item> {
     let (node, rest) = named(bytes)?;
     let (reading, rest) = field(b"\",\"reading\":", rest)?;
@@ -40,10 +43,13 @@ pub fn accept(bytes: &[u8]) -> Option<Item> {
     })
 }
 
+/// An item `draw` of a begin, of the bytes behind its kind. None where they are not such members, in this order.
 pub fn begin_draw(bytes: &[u8]) -> Option<Item> {
     drawn(None, bytes)
 }
 
+/// An item `draw` of this commit, of the bytes behind its kind. None where the number is no stamp, or they are not such members, in
+/// this order.
 pub fn commit_draw(commit: u64, bytes: &[u8]) -> Option<Item> {
     let commit = stamp_of(commit)?;
     drawn(Some(commit), bytes)
@@ -66,6 +72,8 @@ fn drawn(commit: Option<Stamp>, bytes: &[u8]) -> Option<Item> {
     })
 }
 
+/// An item `placed` of this commit, of the bytes behind its kind. None where the number is no stamp, or they are not such members,
+/// in this order.
 pub fn placed(commit: u64, bytes: &[u8]) -> Option<Item> {
     let (start, _) = field(b",\"start\":", bytes)?;
     let start = stamp_of(start)?;

@@ -6,6 +6,7 @@ use history_reading::{
 };
 use stamp_base::KeyNo;
 
+/// An item `begin` of the bytes behind its kind. None where they are not such members, in this order.
 pub fn begin(bytes: &[u8]) -> Option<Item> {
     let (session, start, _) = started(bytes)?;
     let session = session_of(session)?;
@@ -53,6 +54,8 @@ fn read_none(key: KeyNo, bytes: &[u8]) -> Option<Item> {
     })
 }
 
+/// An item `read` that found a value, of the bytes behind the first letter of `from`. None where they are not such members, in this
+/// order.
 pub fn read_some(bytes: &[u8]) -> Option<Item> {
     let (from, rest) = field(b"rom\":", bytes)?;
     let (key, rest) = field(b",\"key\":\"k", rest)?;
@@ -71,6 +74,8 @@ pub fn read_some(bytes: &[u8]) -> Option<Item> {
     })
 }
 
+/// An item `committed` with this commit, of the bytes behind its kind. None where the number is no stamp, or they are not such
+/// members, in this order.
 pub fn committed(commit: u64, bytes: &[u8]) -> Option<Item> {
     let (session, start, _) = started(bytes)?;
     let commit = stamp_of(commit)?;
@@ -83,6 +88,7 @@ pub fn committed(commit: u64, bytes: &[u8]) -> Option<Item> {
     })
 }
 
+/// An item `end` of the bytes behind the first letter of `how`. None where they are not such members, in this order.
 pub fn end(bytes: &[u8]) -> Option<Item> {
     let (how, rest) = quoted(after(b"ow\":\"", bytes)?)?;
     let (session, start, _) = started(after(b",\"kind\":\"end\"", rest)?)?;
@@ -96,6 +102,7 @@ pub fn end(bytes: &[u8]) -> Option<Item> {
     })
 }
 
+/// An item `vanish` of the bytes behind its kind. None where they are not such members, in this order.
 pub fn vanish(bytes: &[u8]) -> Option<Item> {
     let (session, _) = field(b",\"session\":\"s", bytes)?;
     let session = session_of(session)?;

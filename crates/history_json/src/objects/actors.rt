@@ -9,6 +9,7 @@ use crate::texts::{name_text, stage_name, store_name};
 use history_book::{Actor, Cause, Note, StoreStep};
 use stamp_base::{Stamp, Store};
 
+/// The members of an item `note`, in the order of their names.
 pub fn note(actor: Actor, note: &Note) -> [Member<'_>; 4]
     ensures { expected_members result ≡ members_of (item.Note actor note.now) }
 {
@@ -42,6 +43,7 @@ fn noted_of(note: &Note) -> &str
     }
 }
 
+/// The members of an item `mark`, in the order of their names.
 pub fn mark(actor: Actor, start: Stamp) -> [Member<'static>; 3]
     ensures { expected_members result ≡ members_of (item.Mark actor start) }
 {
@@ -52,18 +54,21 @@ pub fn mark(actor: Actor, start: Stamp) -> [Member<'static>; 3]
     ]
 }
 
+/// The members of an item `step`, in the order of their names.
 pub fn step(actor: Actor, what: &StoreStep) -> [Member<'_>; 3]
     ensures { expected_members result ≡ members_of (item.Step actor what.now) }
 {
     [actor_member(actor), kind("step"), step_member(what)]
 }
 
+/// The members of an item `refused`, in the order of their names.
 pub fn refused(actor: Actor, cause: &Cause) -> [Member<'_>; 3]
     ensures { expected_members result ≡ members_of (item.Refused actor cause.now) }
 {
     [actor_member(actor), kind("refused"), cause_member(cause)]
 }
 
+/// The members of an item `fault`, in the order of their names.
 pub fn fault(actor: Actor, store: Store) -> [Member<'static>; 3]
     ensures { expected_members result ≡ members_of (item.Fault actor store) }
 {

@@ -7,12 +7,14 @@ ghost use Rattle.history_json.specs.Members.{members_of};
 use crate::members::{Member, kind, node_member, whole};
 use stamp_base::{NodeNo, Term};
 
+/// The members of an item `tick`, in the order of their names.
 pub fn tick(to: u64) -> [Member<'static>; 2]
     ensures { expected_members result ≡ members_of (item.Tick to) }
 {
     [kind("tick"), whole("to", to)]
 }
 
+/// The members of an item `take`, in the order of their names.
 pub fn take(
     node: NodeNo,
     reading: u64,
@@ -34,6 +36,7 @@ pub fn take(
     ]
 }
 
+/// The members of an item `renew`, in the order of their names.
 pub fn renew(node: NodeNo, reading: u64, term: Term, until: u64) -> [Member<'static>; 5]
     ensures { expected_members result ≡ members_of (item.Renew node reading term until) }
 {
@@ -46,6 +49,7 @@ pub fn renew(node: NodeNo, reading: u64, term: Term, until: u64) -> [Member<'sta
     ]
 }
 
+/// The members of an item `extend`, in the order of their names.
 pub fn extend(node: NodeNo, term: Term, ceiling: u64) -> [Member<'static>; 4]
     ensures { expected_members result ≡ members_of (item.Extend node term ceiling) }
 {
@@ -57,6 +61,7 @@ pub fn extend(node: NodeNo, term: Term, ceiling: u64) -> [Member<'static>; 4]
     ]
 }
 
+/// The members of an item `crash`, in the order of their names.
 pub fn crash(node: NodeNo, term: Term) -> [Member<'static>; 3]
     ensures { expected_members result ≡ members_of (item.Crash node term) }
 {

@@ -7,6 +7,7 @@ ghost use Rattle.history_json.specs.Members.{members_of};
 use crate::members::{Member, kind, node_member, session_member, whole};
 use stamp_base::{NodeNo, SessionNo, Stamp, Term};
 
+/// The members of an item `ask-begin`, in the order of their names.
 pub fn ask_begin(session: SessionNo, node: NodeNo) -> [Member<'static>; 3]
     ensures { expected_members result ≡ members_of (item.AskBegin session node) }
 {
@@ -17,6 +18,7 @@ pub fn ask_begin(session: SessionNo, node: NodeNo) -> [Member<'static>; 3]
     ]
 }
 
+/// The members of an item `ask-commit`, in the order of their names.
 pub fn ask_commit(session: SessionNo, node: NodeNo, start: Stamp) -> [Member<'static>; 4]
     ensures { expected_members result ≡ members_of (item.AskCommit session node start) }
 {
@@ -28,6 +30,7 @@ pub fn ask_commit(session: SessionNo, node: NodeNo, start: Stamp) -> [Member<'st
     ]
 }
 
+/// The members of an item `accept`, in the order of their names.
 pub fn accept(session: SessionNo, node: NodeNo, term: Term, reading: u64) -> [Member<'static>; 5]
     ensures { expected_members result ≡ members_of (item.Accept session node term reading) }
 {
@@ -40,6 +43,7 @@ pub fn accept(session: SessionNo, node: NodeNo, term: Term, reading: u64) -> [Me
     ]
 }
 
+/// The members of an item `draw` of a begin, in the order of their names.
 pub fn begin_draw(
     session: SessionNo,
     node: NodeNo,
@@ -57,6 +61,7 @@ pub fn begin_draw(
     ]
 }
 
+/// The members of an item `draw` of a commit, in the order of their names.
 pub fn commit_draw(
     session: SessionNo,
     node: NodeNo,
@@ -76,6 +81,7 @@ pub fn commit_draw(
     ]
 }
 
+/// The members of an item `placed`, in the order of their names.
 pub fn placed(start: Stamp, commit: Stamp) -> [Member<'static>; 3]
     ensures { expected_members result ≡ members_of (item.Placed start commit) }
 {

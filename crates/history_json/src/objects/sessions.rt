@@ -9,6 +9,7 @@ use crate::texts::{ending_name, value_text};
 use history_book::{Ending, Found};
 use stamp_base::{KeyNo, SessionNo, Stamp, Value};
 
+/// The members of an item `begin`, in the order of their names.
 pub fn begin(session: SessionNo, start: Stamp) -> [Member<'static>; 3]
     ensures { expected_members result ≡ members_of (item.Begin session start) }
 {
@@ -19,6 +20,7 @@ pub fn begin(session: SessionNo, start: Stamp) -> [Member<'static>; 3]
     ]
 }
 
+/// The members of an item `write`, in the order of their names.
 pub fn write(session: SessionNo, start: Stamp, key: KeyNo, value: &Value) -> [Member<'_>; 5]
     ensures { expected_members result ≡ members_of (item.Write session start key value.now) }
 {
@@ -31,6 +33,7 @@ pub fn write(session: SessionNo, start: Stamp, key: KeyNo, value: &Value) -> [Me
     ]
 }
 
+/// The members of an item `read` that found nothing, in the order of their names.
 pub fn read_none(session: SessionNo, start: Stamp, key: KeyNo) -> [Member<'static>; 4]
     ensures { expected_members result ≡ members_of (item.Read session start key None) }
 {
@@ -42,6 +45,7 @@ pub fn read_none(session: SessionNo, start: Stamp, key: KeyNo) -> [Member<'stati
     ]
 }
 
+/// The members of an item `read` that found a value, in the order of their names.
 pub fn read_some(session: SessionNo, start: Stamp, key: KeyNo, answer: &Found) -> [Member<'_>; 6]
     ensures { expected_members result ≡ members_of (item.Read session start key (Some answer.now)) }
 {
@@ -55,6 +59,7 @@ pub fn read_some(session: SessionNo, start: Stamp, key: KeyNo, answer: &Found) -
     ]
 }
 
+/// The members of an item `committed`, in the order of their names.
 pub fn committed(session: SessionNo, start: Stamp, commit: Stamp) -> [Member<'static>; 4]
     ensures { expected_members result ≡ members_of (item.Committed session start commit) }
 {
@@ -66,6 +71,7 @@ pub fn committed(session: SessionNo, start: Stamp, commit: Stamp) -> [Member<'st
     ]
 }
 
+/// The members of an item `end`, in the order of their names.
 pub fn end(session: SessionNo, start: Stamp, how: Ending) -> [Member<'static>; 4]
     ensures { expected_members result ≡ members_of (item.End session start how) }
 {
@@ -77,6 +83,7 @@ pub fn end(session: SessionNo, start: Stamp, how: Ending) -> [Member<'static>; 4
     ]
 }
 
+/// The members of an item `vanish`, in the order of their names.
 pub fn vanish(session: SessionNo) -> [Member<'static>; 2]
     ensures { expected_members result ≡ members_of (item.Vanish session) }
 {

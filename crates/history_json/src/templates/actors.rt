@@ -9,6 +9,7 @@ use history_book::{Actor, Cause, Note, StoreStep};
 use history_text::{LineBuf, push_actor, push_cause, push_stage, push_step, push_store};
 use stamp_base::{Stamp, Store};
 
+/// Leaves the line of an item `note`, without its line feed, in the buffer, and nothing else.
 pub fn print_note(actor: Actor, note: &Note, line: &mut LineBuf)
     ensures text { line.new ≡ json_line (item.Note actor note.now) }
     ensures fits { FitsItem (item.Note actor note.now) }
@@ -50,6 +51,7 @@ fn push_note_word(note: &Note, line: &mut LineBuf)
     }
 }
 
+/// Leaves the line of an item `mark`, without its line feed, in the buffer, and nothing else.
 pub fn print_mark(actor: Actor, start: Stamp, line: &mut LineBuf)
     ensures text { line.new ≡ json_line (item.Mark actor start) }
     ensures fits { FitsItem (item.Mark actor start) }
@@ -61,6 +63,7 @@ pub fn print_mark(actor: Actor, start: Stamp, line: &mut LineBuf)
     line.push_text(b"}");
 }
 
+/// Leaves the line of an item `step`, without its line feed, in the buffer, and nothing else.
 pub fn print_step(actor: Actor, what: StoreStep, line: &mut LineBuf)
     ensures text { line.new ≡ json_line (item.Step actor what) }
     ensures fits { FitsItem (item.Step actor what) }
@@ -73,6 +76,7 @@ pub fn print_step(actor: Actor, what: StoreStep, line: &mut LineBuf)
     line.push_text(b"\"}");
 }
 
+/// Leaves the line of an item `refused`, without its line feed, in the buffer, and nothing else.
 pub fn print_refused(actor: Actor, cause: Cause, line: &mut LineBuf)
     ensures text { line.new ≡ json_line (item.Refused actor cause) }
     ensures fits { FitsItem (item.Refused actor cause) }
@@ -85,6 +89,7 @@ pub fn print_refused(actor: Actor, cause: Cause, line: &mut LineBuf)
     line.push_text(b"\"}");
 }
 
+/// Leaves the line of an item `fault`, without its line feed, in the buffer, and nothing else.
 pub fn print_fault(actor: Actor, store: Store, line: &mut LineBuf)
     ensures text { line.new ≡ json_line (item.Fault actor store) }
     ensures fits { FitsItem (item.Fault actor store) }

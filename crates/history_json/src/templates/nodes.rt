@@ -7,6 +7,7 @@ ghost use Rattle.history_json.specs.Object.{json_line};
 use history_text::{LineBuf, push_node};
 use stamp_base::{NodeNo, Term};
 
+/// Leaves the line of an item `tick`, without its line feed, in the buffer, and nothing else.
 pub fn print_tick(to: u64, line: &mut LineBuf)
     ensures text { line.new ≡ json_line (item.Tick to) }
     ensures fits { FitsItem (item.Tick to) }
@@ -17,6 +18,7 @@ pub fn print_tick(to: u64, line: &mut LineBuf)
     line.push_text(b"}");
 }
 
+/// Leaves the line of an item `take`, without its line feed, in the buffer, and nothing else.
 pub fn print_take(
     node: NodeNo,
     reading: u64,
@@ -41,6 +43,7 @@ pub fn print_take(
     line.push_text(b"}");
 }
 
+/// Leaves the line of an item `renew`, without its line feed, in the buffer, and nothing else.
 pub fn print_renew(node: NodeNo, reading: u64, term: Term, until: u64, line: &mut LineBuf)
     ensures text { line.new ≡ json_line (item.Renew node reading term until) }
     ensures fits { FitsItem (item.Renew node reading term until) }
@@ -54,6 +57,7 @@ pub fn print_renew(node: NodeNo, reading: u64, term: Term, until: u64, line: &mu
     line.push_text(b"}");
 }
 
+/// Leaves the line of an item `extend`, without its line feed, in the buffer, and nothing else.
 pub fn print_extend(node: NodeNo, term: Term, ceiling: u64, line: &mut LineBuf)
     ensures text { line.new ≡ json_line (item.Extend node term ceiling) }
     ensures fits { FitsItem (item.Extend node term ceiling) }
@@ -67,6 +71,7 @@ pub fn print_extend(node: NodeNo, term: Term, ceiling: u64, line: &mut LineBuf)
     line.push_text(b"}");
 }
 
+/// Leaves the line of an item `crash`, without its line feed, in the buffer, and nothing else.
 pub fn print_crash(node: NodeNo, term: Term, line: &mut LineBuf)
     ensures text { line.new ≡ json_line (item.Crash node term) }
     ensures fits { FitsItem (item.Crash node term) }

@@ -7,6 +7,7 @@ ghost use Rattle.history_json.specs.Object.{json_line};
 use history_text::{LineBuf, push_node, push_session};
 use stamp_base::{NodeNo, SessionNo, Stamp, Term};
 
+/// Leaves the line of an item `ask-begin`, without its line feed, in the buffer, and nothing else.
 pub fn print_ask_begin(session: SessionNo, node: NodeNo, line: &mut LineBuf)
     ensures text { line.new ≡ json_line (item.AskBegin session node) }
     ensures fits { FitsItem (item.AskBegin session node) }
@@ -19,6 +20,7 @@ pub fn print_ask_begin(session: SessionNo, node: NodeNo, line: &mut LineBuf)
     line.push_text(b"\"}");
 }
 
+/// Leaves the line of an item `ask-commit`, without its line feed, in the buffer, and nothing else.
 pub fn print_ask_commit(session: SessionNo, node: NodeNo, start: Stamp, line: &mut LineBuf)
     ensures text { line.new ≡ json_line (item.AskCommit session node start) }
     ensures fits { FitsItem (item.AskCommit session node start) }
@@ -32,6 +34,7 @@ pub fn print_ask_commit(session: SessionNo, node: NodeNo, start: Stamp, line: &m
     line.push_text(b"}");
 }
 
+/// Leaves the line of an item `accept`, without its line feed, in the buffer, and nothing else.
 pub fn print_accept(session: SessionNo, node: NodeNo, term: Term, reading: u64, line: &mut LineBuf)
     ensures text { line.new ≡ json_line (item.Accept session node term reading) }
     ensures fits { FitsItem (item.Accept session node term reading) }
@@ -46,6 +49,7 @@ pub fn print_accept(session: SessionNo, node: NodeNo, term: Term, reading: u64, 
     line.push_text(b"}");
 }
 
+/// Leaves the line of an item `draw` of a begin, without its line feed, in the buffer, and nothing else.
 pub fn print_begin_draw(
     session: SessionNo,
     node: NodeNo,
@@ -66,6 +70,7 @@ pub fn print_begin_draw(
     line.push_text(b"}");
 }
 
+/// Leaves the line of an item `draw` of a commit, without its line feed, in the buffer, and nothing else.
 pub fn print_commit_draw(
     session: SessionNo,
     node: NodeNo,
@@ -89,6 +94,7 @@ pub fn print_commit_draw(
     line.push_text(b"}");
 }
 
+/// Leaves the line of an item `placed`, without its line feed, in the buffer, and nothing else.
 pub fn print_placed(start: Stamp, commit: Stamp, line: &mut LineBuf)
     ensures text { line.new ≡ json_line (item.Placed start commit) }
     ensures fits { FitsItem (item.Placed start commit) }

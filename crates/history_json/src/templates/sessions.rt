@@ -10,6 +10,7 @@ use history_book::{Ending, Found};
 use history_text::{LineBuf, push_ending, push_key, push_session};
 use stamp_base::{KeyNo, SessionNo, Stamp, Value};
 
+/// Leaves the line of an item `begin`, without its line feed, in the buffer, and nothing else.
 pub fn print_begin(session: SessionNo, start: Stamp, line: &mut LineBuf)
     ensures text { line.new ≡ json_line (item.Begin session start) }
     ensures fits { FitsItem (item.Begin session start) }
@@ -21,6 +22,7 @@ pub fn print_begin(session: SessionNo, start: Stamp, line: &mut LineBuf)
     line.push_text(b"}");
 }
 
+/// Leaves the line of an item `write`, without its line feed, in the buffer, and nothing else.
 pub fn print_write(session: SessionNo, start: Stamp, key: KeyNo, value: Value, line: &mut LineBuf)
     ensures text { line.new ≡ json_line (item.Write session start key value) }
     ensures fits { FitsItem (item.Write session start key value) }
@@ -36,6 +38,7 @@ pub fn print_write(session: SessionNo, start: Stamp, key: KeyNo, value: Value, l
     line.push_text(b"\"}");
 }
 
+/// Leaves the line of an item `read` that found nothing, without its line feed, in the buffer, and nothing else.
 pub fn print_read_none(session: SessionNo, start: Stamp, key: KeyNo, line: &mut LineBuf)
     ensures text { line.new ≡ json_line (item.Read session start key None) }
     ensures fits { FitsItem (item.Read session start key None) }
@@ -49,6 +52,7 @@ pub fn print_read_none(session: SessionNo, start: Stamp, key: KeyNo, line: &mut 
     line.push_text(b"}");
 }
 
+/// Leaves the line of an item `read` that found a value, without its line feed, in the buffer, and nothing else.
 pub fn print_read_some(
     session: SessionNo,
     start: Stamp,
@@ -72,6 +76,7 @@ pub fn print_read_some(
     line.push_text(b"\"}");
 }
 
+/// Leaves the line of an item `committed`, without its line feed, in the buffer, and nothing else.
 pub fn print_committed(session: SessionNo, start: Stamp, commit: Stamp, line: &mut LineBuf)
     ensures text { line.new ≡ json_line (item.Committed session start commit) }
     ensures fits { FitsItem (item.Committed session start commit) }
@@ -85,6 +90,7 @@ pub fn print_committed(session: SessionNo, start: Stamp, commit: Stamp, line: &m
     line.push_text(b"}");
 }
 
+/// Leaves the line of an item `end`, without its line feed, in the buffer, and nothing else.
 pub fn print_end(session: SessionNo, start: Stamp, how: Ending, line: &mut LineBuf)
     ensures text { line.new ≡ json_line (item.End session start how) }
     ensures fits { FitsItem (item.End session start how) }
@@ -98,6 +104,7 @@ pub fn print_end(session: SessionNo, start: Stamp, how: Ending, line: &mut LineB
     line.push_text(b"}");
 }
 
+/// Leaves the line of an item `vanish`, without its line feed, in the buffer, and nothing else.
 pub fn print_vanish(session: SessionNo, line: &mut LineBuf)
     ensures text { line.new ≡ json_line (item.Vanish session) }
     ensures fits { FitsItem (item.Vanish session) }

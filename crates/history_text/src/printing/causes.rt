@@ -9,6 +9,7 @@ use crate::line::LineBuf;
 use history_book::{Actor, Cause};
 use stamp_base::{NodeNo, Term};
 
+/// Leaves the words of an item `refused`, without its line feed, in the buffer, and nothing else.
 pub fn print_refused(actor: Actor, cause: Cause, line: &mut LineBuf)
     ensures text { line.new ≡ body_of (Refused actor cause) }
     ensures fits { FitsItem (Refused actor cause) }

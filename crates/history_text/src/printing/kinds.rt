@@ -11,6 +11,7 @@ use crate::line::LineBuf;
 use history_book::{Actor, Ending, Found, Note};
 use stamp_base::{KeyNo, NodeNo, SessionNo, Stamp, Store, Term, Value};
 
+/// Leaves the words of an item `note`, without its line feed, in the buffer, and nothing else.
 pub fn print_note(actor: Actor, note: Note, line: &mut LineBuf)
     ensures text { line.new ≡ body_of (item.Note actor note) }
     ensures fits { FitsItem (item.Note actor note) }
@@ -48,6 +49,7 @@ fn print_note_text(note: Note, line: &mut LineBuf)
     }
 }
 
+/// Leaves the words of an item `take`, without its line feed, in the buffer, and nothing else.
 pub fn print_take(
     node: NodeNo,
     reading: u64,
@@ -70,6 +72,7 @@ pub fn print_take(
     line.push_field(b" ceiling=", ceiling);
 }
 
+/// Leaves the words of an item `renew`, without its line feed, in the buffer, and nothing else.
 pub fn print_renew(node: NodeNo, reading: u64, term: Term, until: u64, line: &mut LineBuf)
     ensures text { line.new ≡ body_of (item.Renew node reading term until) }
     ensures fits { FitsItem (item.Renew node reading term until) }
@@ -82,6 +85,7 @@ pub fn print_renew(node: NodeNo, reading: u64, term: Term, until: u64, line: &mu
     line.push_field(b" until=", until);
 }
 
+/// Leaves the words of an item `extend`, without its line feed, in the buffer, and nothing else.
 pub fn print_extend(node: NodeNo, term: Term, ceiling: u64, line: &mut LineBuf)
     ensures text { line.new ≡ body_of (item.Extend node term ceiling) }
     ensures fits { FitsItem (item.Extend node term ceiling) }
@@ -93,6 +97,7 @@ pub fn print_extend(node: NodeNo, term: Term, ceiling: u64, line: &mut LineBuf)
     line.push_field(b" ceiling=", ceiling);
 }
 
+/// Leaves the words of an item `ask-begin`, without its line feed, in the buffer, and nothing else.
 pub fn print_ask_begin(session: SessionNo, node: NodeNo, line: &mut LineBuf)
     ensures text { line.new ≡ body_of (item.AskBegin session node) }
     ensures fits { FitsItem (item.AskBegin session node) }
@@ -104,6 +109,7 @@ pub fn print_ask_begin(session: SessionNo, node: NodeNo, line: &mut LineBuf)
     push_node(node, line);
 }
 
+/// Leaves the words of an item `ask-commit`, without its line feed, in the buffer, and nothing else.
 pub fn print_ask_commit(session: SessionNo, node: NodeNo, start: Stamp, line: &mut LineBuf)
     ensures text { line.new ≡ body_of (item.AskCommit session node start) }
     ensures fits { FitsItem (item.AskCommit session node start) }
@@ -116,6 +122,7 @@ pub fn print_ask_commit(session: SessionNo, node: NodeNo, start: Stamp, line: &m
     line.push_field(b" start=", start.value());
 }
 
+/// Leaves the words of an item `accept`, without its line feed, in the buffer, and nothing else.
 pub fn print_accept(session: SessionNo, node: NodeNo, term: Term, reading: u64, line: &mut LineBuf)
     ensures text { line.new ≡ body_of (item.Accept session node term reading) }
     ensures fits { FitsItem (item.Accept session node term reading) }
@@ -129,6 +136,7 @@ pub fn print_accept(session: SessionNo, node: NodeNo, term: Term, reading: u64, 
     line.push_field(b" reading=", reading);
 }
 
+/// Leaves the words of an item `draw`, without its line feed, in the buffer, and nothing else.
 pub fn print_draw(
     session: SessionNo,
     node: NodeNo,
@@ -162,6 +170,7 @@ fn print_commit(commit: Option<Stamp>, line: &mut LineBuf)
     }
 }
 
+/// Leaves the words of an item `begin`, without its line feed, in the buffer, and nothing else.
 pub fn print_begin(session: SessionNo, start: Stamp, line: &mut LineBuf)
     ensures text { line.new ≡ body_of (item.Begin session start) }
     ensures fits { FitsItem (item.Begin session start) }
@@ -172,6 +181,7 @@ pub fn print_begin(session: SessionNo, start: Stamp, line: &mut LineBuf)
     line.push_field(b" start=", start.value());
 }
 
+/// Leaves the words of an item `write`, without its line feed, in the buffer, and nothing else.
 pub fn print_write(session: SessionNo, start: Stamp, key: KeyNo, value: Value, line: &mut LineBuf)
     ensures text { line.new ≡ body_of (item.Write session start key value) }
     ensures fits { FitsItem (item.Write session start key value) }
@@ -186,6 +196,7 @@ pub fn print_write(session: SessionNo, start: Stamp, key: KeyNo, value: Value, l
     line.push_text(value.as_slice());
 }
 
+/// Leaves the words of an item `read`, without its line feed, in the buffer, and nothing else.
 pub fn print_read(
     session: SessionNo,
     start: Stamp,
@@ -229,6 +240,7 @@ fn print_found(found: Found, line: &mut LineBuf)
     line.push_text(found.value.as_slice());
 }
 
+/// Leaves the words of an item `placed`, without its line feed, in the buffer, and nothing else.
 pub fn print_placed(start: Stamp, commit: Stamp, line: &mut LineBuf)
     ensures text { line.new ≡ body_of (item.Placed start commit) }
     ensures fits { FitsItem (item.Placed start commit) }
@@ -239,6 +251,7 @@ pub fn print_placed(start: Stamp, commit: Stamp, line: &mut LineBuf)
     line.push_field(b" commit=", commit.value());
 }
 
+/// Leaves the words of an item `committed`, without its line feed, in the buffer, and nothing else.
 pub fn print_committed(session: SessionNo, start: Stamp, commit: Stamp, line: &mut LineBuf)
     ensures text { line.new ≡ body_of (item.Committed session start commit) }
     ensures fits { FitsItem (item.Committed session start commit) }
@@ -250,6 +263,7 @@ pub fn print_committed(session: SessionNo, start: Stamp, commit: Stamp, line: &m
     line.push_field(b" commit=", commit.value());
 }
 
+/// Leaves the words of an item `mark`, without its line feed, in the buffer, and nothing else.
 pub fn print_mark(actor: Actor, start: Stamp, line: &mut LineBuf)
     ensures text { line.new ≡ body_of (item.Mark actor start) }
     ensures fits { FitsItem (item.Mark actor start) }
@@ -260,6 +274,7 @@ pub fn print_mark(actor: Actor, start: Stamp, line: &mut LineBuf)
     line.push_field(b" start=", start.value());
 }
 
+/// Leaves the words of an item `end`, without its line feed, in the buffer, and nothing else.
 pub fn print_end(session: SessionNo, start: Stamp, how: Ending, line: &mut LineBuf)
     ensures text { line.new ≡ body_of (item.End session start how) }
     ensures fits { FitsItem (item.End session start how) }
@@ -285,6 +300,7 @@ pub fn push_ending(how: Ending, line: &mut LineBuf)
     }
 }
 
+/// Leaves the words of an item `fault`, without its line feed, in the buffer, and nothing else.
 pub fn print_fault(actor: Actor, store: Store, line: &mut LineBuf)
     ensures text { line.new ≡ body_of (item.Fault actor store) }
     ensures fits { FitsItem (item.Fault actor store) }
@@ -296,6 +312,7 @@ pub fn print_fault(actor: Actor, store: Store, line: &mut LineBuf)
     push_store(store, line);
 }
 
+/// Leaves the words of an item `crash`, without its line feed, in the buffer, and nothing else.
 pub fn print_crash(node: NodeNo, term: Term, line: &mut LineBuf)
     ensures text { line.new ≡ body_of (item.Crash node term) }
     ensures fits { FitsItem (item.Crash node term) }
@@ -306,6 +323,7 @@ pub fn print_crash(node: NodeNo, term: Term, line: &mut LineBuf)
     line.push_field(b" term=", term.value());
 }
 
+/// Leaves the words of an item `vanish`, without its line feed, in the buffer, and nothing else.
 pub fn print_vanish(session: SessionNo, line: &mut LineBuf)
     ensures text { line.new ≡ body_of (item.Vanish session) }
     ensures fits { FitsItem (item.Vanish session) }

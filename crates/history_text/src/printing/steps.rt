@@ -10,6 +10,7 @@ use crate::line::LineBuf;
 use history_book::{Actor, Seen, StoreStep};
 use stamp_base::{KeyNo, Mark, Stamp, TxnId};
 
+/// Leaves the words of an item `step`, without its line feed, in the buffer, and nothing else.
 pub fn print_step(actor: Actor, what: StoreStep, line: &mut LineBuf)
     ensures text { line.new ≡ body_of (Step actor what) }
     ensures fits { FitsItem (Step actor what) }
