@@ -1,4 +1,6 @@
 mod ReadingLemmas
+mod TemplateTexts
+mod TemplateKinds
 mod NumberLemmas
 mod WordTexts
 mod NodeTexts

@@ -29,7 +29,7 @@ pub value_at-in : (bs : List ℕ) → IsValue bs → value_at bs ≡ Some bs
 unfolding value_at
 value_at-in bs h = rw (le-leb 1 (length bs) h.0, le-leb (length bs) 64 h.1, all_pass _ _ visible_test bs h.2) refl
 
-value_back : (bs : List ℕ) → ((nat_le 1 (length bs) && nat_le (length bs) 64) && list_all (λ b. nat_le 33 b && nat_le b 126) bs) ≡ true → IsValue bs
+pub value_back : (bs : List ℕ) → ((nat_le 1 (length bs) && nat_le (length bs) 64) && list_all (λ b. nat_le 33 b && nat_le b 126) bs) ≡ true → IsValue bs
 value_back bs e =
     let p = and_parts (nat_le 1 (length bs) && nat_le (length bs) 64) _ e in
     let q = and_parts (nat_le 1 (length bs)) (nat_le (length bs) 64) p.0 in

@@ -49,8 +49,11 @@ item_again (item.Fault actor store) h = rw (after_name (codes "fault") actor [] 
 item_again (item.Crash node term) h = rw (crash_again node term h.0 h.1) refl
 item_again (item.Vanish session) h = rw (last-field (codes "s") session (omega arith), session-in session h) refl
 
+-- two items of the same words are one item
+pub one_body : (one other : Item) → FitsItem one → FitsItem other → body_of one ≡ body_of other → one ≡ other
+one_body one other a b words = same_Some one other (sym (item_again one a) ∙ ap item_at words ∙ item_again other b)
+
 -- two items of one text are one item
 pub one_text : (one other : Item) → FitsItem one → FitsItem other → text_of one ≡ text_of other → one ≡ other
 one_text one other a b same =
-    let words : body_of one ≡ body_of other = append_cancel_right (body_of one) (body_of other) (10 ∷ []) same in
-    same_Some one other (sym (item_again one a) ∙ ap item_at words ∙ item_again other b)
+    one_body one other a b (append_cancel_right (body_of one) (body_of other) (10 ∷ []) same)

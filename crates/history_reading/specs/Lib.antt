@@ -7,6 +7,7 @@ pub mod ReadSessions
 pub mod ReadSteps
 pub mod ReadWords
 pub mod Reading
+pub mod Templates
 pub mod TextLaw
 pub use Rattle.history_text.specs.Fits
 pub use Rattle.history_text.specs.Text

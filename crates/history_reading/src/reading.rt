@@ -10,6 +10,7 @@ mod nodes;
 mod requests;
 mod sessions;
 mod steps;
+mod templates;
 mod words;
 
 use actors::actor_kind;
@@ -22,6 +23,7 @@ use requests::request_kind;
 pub use sessions::ending;
 use sessions::session_kind;
 pub use steps::step;
+use templates::template;
 use words::split_word;
 pub use words::{
     actor, after, field, is_word, key_of, letter, name, node_of, number, session_of, stamp_of,
@@ -30,6 +32,27 @@ pub use words::{
 
 /// The item whose line, without its line feed, the bytes are. It takes no memory.
 pub fn read_item(line: &[u8]) -> Option<Item>
+    ensures found { IfSome result (λ item. line.now ≡ body_of item) }
+    ensures fits { IfSome result FitsItem }
+    ensures only { (item : Item) → FitsItem item → line.now ≡ body_of item → result ≡ Some item }
+{
+    match by_template(line) {
+        Some(item) => Some(item),
+        None => otherwise(line),
+    }
+}
+
+/// The item whose line the bytes are, where a template has it.
+fn by_template(line: &[u8]) -> Option<Item>
+    ensures found { IfSome result (λ item. line.now ≡ body_of item) }
+    ensures fits { IfSome result FitsItem }
+{
+    template(line)
+}
+
+/// The same of a line that no template has. It stands apart, so that the others do not pay for its locals.
+#[inline(never)]
+fn otherwise(line: &[u8]) -> Option<Item>
     ensures found { IfSome result (λ item. line.now ≡ body_of item) }
     ensures fits { IfSome result FitsItem }
     ensures only { (item : Item) → FitsItem item → line.now ≡ body_of item → result ≡ Some item }
