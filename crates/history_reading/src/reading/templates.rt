@@ -1,5 +1,6 @@
 // The lines that most of a history is, each read by the template of its kind. A line that is read here is its item's as it is printed,
-// so it is not printed again. One of another kind, or that is written otherwise, is left to the other readers.
+// so it is not printed again. One of another kind, or that is written otherwise, is left to the other readers. The reader
+// of each kind stands apart, so that no line pays for the locals of another kind's.
 ghost use Rattle.std.specs.Prelude.{◌≡◌};
 ghost use Rattle.history_reading.specs.Templates.{template_at};
 

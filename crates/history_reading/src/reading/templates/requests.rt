@@ -20,6 +20,7 @@ pub fn request(bytes: &[u8]) -> Option<Item>
     ask_commit(bytes)
 }
 
+#[inline(never)]
 #[tactic(auto, unfolding(crate::specs::Templates::ask_begin_line))]
 fn ask_begin(bytes: &[u8]) -> Option<Item>
     ensures { result ≡ ask_begin_line bytes.now }
@@ -31,6 +32,7 @@ fn ask_begin(bytes: &[u8]) -> Option<Item>
     Some(Item::AskBegin { session, node })
 }
 
+#[inline(never)]
 #[tactic(auto, unfolding(crate::specs::Templates::ask_commit_line))]
 fn ask_commit(bytes: &[u8]) -> Option<Item>
     ensures { result ≡ ask_commit_line bytes.now }
@@ -47,6 +49,7 @@ fn ask_commit(bytes: &[u8]) -> Option<Item>
     })
 }
 
+#[inline(never)]
 #[tactic(auto, unfolding(crate::specs::Templates::accept_line))]
 fn accept(bytes: &[u8]) -> Option<Item>
     ensures { result ≡ accept_line bytes.now }
@@ -78,6 +81,7 @@ fn commit(bytes: &[u8]) -> Option<Option<Stamp>>
     Some(Some(commit))
 }
 
+#[inline(never)]
 #[tactic(auto, unfolding(crate::specs::Templates::draw_line))]
 pub fn draw(bytes: &[u8]) -> Option<Item>
     ensures { result ≡ draw_line bytes.now }
@@ -99,6 +103,7 @@ pub fn draw(bytes: &[u8]) -> Option<Item>
     })
 }
 
+#[inline(never)]
 #[tactic(auto, unfolding(crate::specs::Templates::placed_line))]
 pub fn placed(bytes: &[u8]) -> Option<Item>
     ensures { result ≡ placed_line bytes.now }

@@ -6,6 +6,7 @@ use super::exact::{exact_end, exact_field, exact_started};
 use crate::reading::words::{after, is_word, key_of, session_of, stamp_of, value};
 use history_book::{Found, Item};
 
+#[inline(never)]
 #[tactic(auto, unfolding(crate::specs::Templates::begin_line))]
 pub fn begin(bytes: &[u8]) -> Option<Item>
     ensures { result ≡ begin_line bytes.now }
@@ -17,6 +18,7 @@ pub fn begin(bytes: &[u8]) -> Option<Item>
     Some(Item::Begin { session, start })
 }
 
+#[inline(never)]
 #[tactic(auto, unfolding(crate::specs::Templates::committed_line))]
 pub fn committed(bytes: &[u8]) -> Option<Item>
     ensures { result ≡ committed_line bytes.now }
@@ -33,6 +35,7 @@ pub fn committed(bytes: &[u8]) -> Option<Item>
     })
 }
 
+#[inline(never)]
 #[tactic(auto, unfolding(crate::specs::Templates::write_line))]
 pub fn write(bytes: &[u8]) -> Option<Item>
     ensures { result ≡ write_line bytes.now }
@@ -52,6 +55,7 @@ pub fn write(bytes: &[u8]) -> Option<Item>
     })
 }
 
+#[inline(never)]
 #[tactic(auto, unfolding(crate::specs::Templates::read_line))]
 pub fn read(bytes: &[u8]) -> Option<Item>
     ensures { result ≡ read_line bytes.now }

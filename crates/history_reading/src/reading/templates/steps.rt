@@ -7,6 +7,7 @@ use crate::reading::words::{after, is_word, key_of, session_of, stamp_of};
 use history_book::{Actor, Item, Seen, StoreStep};
 use stamp_base::Mark;
 
+#[inline(never)]
 #[tactic(auto, unfolding(crate::specs::Templates::step_line))]
 pub fn step(bytes: &[u8]) -> Option<Item>
     ensures { result ≡ step_line bytes.now }
