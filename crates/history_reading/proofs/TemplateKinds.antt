@@ -1,6 +1,5 @@
 -- What the template of a kind reads is the text of its item.
-use Rattle.std.proofs.Common.{◌≡◌, ℕ, ◌+◌, ◌==◌, List, [], ◌∷◌, ◌++◌, Option, None, Some, IfSome, decimal, codes, refl, sym, ap, ◌∙◌, inl, inr}
-use Rattle.std.specs.Option.{option_map}
+use Rattle.std.proofs.Common.{◌≡◌, ℕ, ◌+◌, ◌==◌, List, [], ◌∷◌, IfSome, decimal, codes, refl, sym, ◌∙◌, inl, inr}
 use Rattle.std.proofs.lemmas.Bool.{cases_Bool}
 use Rattle.history_text.specs.Text.{body_of, answer_text, commit_text}
 use Rattle.history_text.specs.StepText.{step_text, mark_text, entry_text, seen_text}

@@ -1,5 +1,5 @@
 -- What a template reads is printed as it was read.
-use Rattle.std.proofs.Common.{◌≡◌, ℕ, ◌+◌, ◌-◌, ◌*◌, ◌/◌, ◌%◌, ◌<◌, ◌≤◌, ◌^◌, ◌==◌, nat_eq, nat_le, true, ◌&&◌, List, [], ◌∷◌, ◌++◌, append_assoc, append-nil, length, Option, None, Some, IfSome, decimal, codes, refl, sym, ap, ◌∙◌, inl, inr, arith}
+use Rattle.std.proofs.Common.{◌≡◌, ℕ, ◌+◌, ◌-◌, ◌*◌, ◌/◌, ◌%◌, ◌<◌, ◌≤◌, ◌==◌, nat_eq, nat_le, true, ◌&&◌, List, [], ◌∷◌, ◌++◌, append_assoc, append-nil, length, Option, None, Some, IfSome, decimal, codes, refl, sym, ap, ◌∙◌, inl, inr, arith}
 use Rattle.std.specs.Option.{option_map, option_or}
 use Rattle.std.specs.List.{list_all}
 use Rattle.std.specs.Cmp.Lexicographic.{pointwise}
@@ -8,7 +8,7 @@ use Rattle.std.proofs.lemmas.Option.{IfSome_then}
 use Rattle.std.proofs.lemmas.Fmt.{decimal_digit, decimal_step}
 use Rattle.stamp_base.specs.Ranges.{IsNumber, IsStamp, IsTerm, IsNode, IsSession, IsKey}
 use Rattle.stamp_base.specs.Words.{IsValue}
-use Rattle.history_reading.specs.ReadWords.{◌>>=◌, is_word, after_text, letter_at, ranged, node_of, session_of, key_of, stamp_of, term_of, value_at}
+use Rattle.history_reading.specs.ReadWords.{◌>>=◌, after_text, letter_at, ranged, node_of, session_of, key_of, stamp_of, term_of, value_at}
 use Rattle.history_reading.specs.Templates.{digits_from, exact_number_at, exact_field_at, alone, exact_end_at, exact_asked_at, exact_started_at, exact_cell_at}
 use Rattle.history_reading.proofs.ReadingLemmas.{value_back}
 
