@@ -19,7 +19,3 @@ returns-in-Ok-print_in-clause-replayed g c = λ _. (
       (c.scripts_keep_service.ensures (data_of c.args.script.now) c.args.script.now.sound.setup (playable_at_first (data_of c.args.script.now) c.args.script.now.sound (omega (arith, c.requires, c.args.script.now.lines.ok.0)))),
   subst (λ (h : List Item). Gains (g.K.Sink.held c.args.sink.now) (g.K.Sink.held c.print_in.new.sink) (text_in c.args.form h)) (c.history.ensures.value ∙ c.in-Ok.ensures.history) c.in-Ok-print_in.ensures.all,
 )
-
-pub returns-in-Err-Failed-clause-cut : goal.returns-in-Err-Failed-clause-cut
-returns-in-Err-Failed-clause-cut g c = λ _.
-    subst (λ (h : List Item). GainsFront (g.K.Sink.held c.args.sink.now) (g.K.Sink.held c.print_in.new.sink) (text_in c.args.form h)) (c.history.ensures.value ∙ c.in-Ok.ensures.history) c.in-Err-Failed.ensures.front
