@@ -1,6 +1,6 @@
 -- A history that goes out line by line, and lines that did not.
 use Rattle.std.proofs.Common.{◌≡◌, ℕ, ◌+◌, ◌≤◌, ◌<◌, List, [], ◌∷◌, ◌++◌, append_assoc, append-nil, Option, Some, None, Result, Ok, Err, take, drop, length, get_or, inl, inr, refl, sym, ap, ◌∙◌, subst, add-one, arith}
-use Rattle.std.specs.Prelude.{IfSome, OnErr}
+use Rattle.std.specs.Prelude.{OnErr}
 use Rattle.std.specs.List.{flat_map}
 use Rattle.std.proofs.lemmas.Bool.{cases_lt}
 use Rattle.std.proofs.Math.Seq.{drop-cons, take-append-add}
@@ -8,9 +8,7 @@ use Rattle.std.proofs.lemmas.List.{take-append-drop, take-append-le, take_more, 
 use Rattle.std.proofs.lemmas.List.Concat.{flat_map-append}
 use Rattle.history_book.specs.declared.item.Item.{Item}
 use Rattle.port_io.specs.Ports.{Gains}
-use Rattle.session_script.specs.declared.mode.Mode.TheVariants.{Replay}
-use Rattle.session_script.specs.Script.{script_of}
-use Rattle.omid_top.specs.Promise.{GainsFront, GainsLines, history_of}
+use Rattle.omid_top.specs.Promise.{GainsFront}
 
 line_between : (text : Item → List ℕ) (items : List Item) (i : ℕ) (d : Item) → i < length items → flat_map text items ≡ flat_map text (take i items) ++ (text (get_or items i d) ++ flat_map text (drop (i + 1) items))
 line_between text items i d within =
@@ -82,13 +80,3 @@ module _ (a b c d : Option (List ℕ)) (xs ys zs one two three : List ℕ) (one_
 pub on_err_more : {T E : Type 0} (r : Result T E) (P Q : Type 0) → (P → Q) → OnErr r P → OnErr r Q
 on_err_more (Ok x) P Q more holds = tt
 on_err_more (Err e) P Q more holds = more holds
-
--- ---- nothing
--- no line went out
-pub no_lines : (held : Option (List ℕ)) (history : List Item) → GainsLines held held history
-no_lines None history = (0, refl)
-no_lines (Some bytes) history = (0, ap Some (sym (append-nil bytes)))
-
-pub no_lines_of_left : (left held : Option (List ℕ)) → IfSome left (λ bytes. GainsLines held held (history_of (script_of bytes Replay)))
-no_lines_of_left None held = tt
-no_lines_of_left (Some bytes) held = no_lines held (history_of (script_of bytes Replay))

@@ -12,7 +12,7 @@ use Rattle.command_semantics.specs.Runs.{replayed}
 use Rattle.replay_driver.specs.Storm.{storm_data}
 use Rattle.omid_top.specs.Audit.{IsVerdict, Reported, ReportedFront, IsFairTo}
 use Rattle.omid_top.specs.Compaction.{KeepsCompaction, compact_text, compact_told}
-use Rattle.omid_top.specs.Promise.{KeepsPromise, GainsFront, GainsLines, history_of, WritesRun, IsCutRun, WritesSplit, WritesTorn, IsCutSplit}
+use Rattle.omid_top.specs.Promise.{KeepsPromise, GainsFront, WritesRun, IsCutRun, WritesSplit, WritesTorn, IsCutSplit}
 use Rattle.omid_top.specs.declared.standard.Standard.{Standard}
 use Rattle.omid_top.specs.Texts.{usage_text, bad_line_text, replay_text, spent_text}
 
@@ -24,12 +24,6 @@ pub record Replays (text : List Item → List ℕ) (code : ℕ) (left rest held 
   pub bad_line : code ≡ 3 → IfSome left (λ bytes. IsErrAnd (script_of bytes Replay) (λ bad. Gains held now (bad_line_text bad)))
   pub cut : code ≡ 5 → IfSome left (λ bytes. GainsFront held now (replay_text text (script_of bytes Replay)))
   pub codes : (code ≡ 0) ⊎ ((3 ≤ code) × (code ≤ 6))
-
--- The same, and the text of the history is its lines of JSON. They take memory as they are made: where it was refused, those of a
--- front of the history went out, each of them whole, and none where the bytes are no script.
-pub record ReplaysJson (code : ℕ) (left rest held now : Option (List ℕ)) : Type 0 where
-  pub replays : Replays json_printed code left rest held now
-  pub lines : code ≡ 6 → IfSome left (λ bytes. GainsLines held now (history_of (script_of bytes Replay)))
 
 -- A script was read and carried out in file order, its stores were compacted to the water, and what a reader at the water finds
 -- there was written with the numbers of rows; or the bytes are no script, and the first bad line was named; or a front of either

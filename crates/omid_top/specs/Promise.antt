@@ -1,7 +1,6 @@
 -- What is promised of the history of a script.
 use Rattle.std.specs.Prelude.{ℕ, List, [], ◌⊎◌, Option, Result, Ok, Err, take}
 use Rattle.history_book.specs.declared.item.Item.{Item}
-use Rattle.history_json.specs.Json.{json_printed}
 use Rattle.port_io.specs.Ports.{Gains}
 use Rattle.script_data.specs.Data.{ScriptData}
 use Rattle.session_script.specs.Script.{BadLine}
@@ -24,15 +23,6 @@ pub record KeepsPromise (script : ScriptData) : Type 0 where
 -- the sink got a front of the text
 abbrev pub GainsFront : Option (List ℕ) → Option (List ℕ) → List ℕ → Type 0
 GainsFront old new text = (n : ℕ) × Gains old new (take n text)
-
--- the sink got the JSON lines of a front of the history, each of them whole
-abbrev pub GainsLines : Option (List ℕ) → Option (List ℕ) → List Item → Type 0
-GainsLines old new history = (n : ℕ) × Gains old new (json_printed (take n history))
-
--- the history of what was read, which has no items where it is no script
-abbrev pub history_of : Result ScriptData BadLine → List Item
-history_of (Ok script) = replayed script
-history_of (Err bad) = []
 
 -- ---- on threads
 -- the text of a history was written that some turns of the script make, which are lawful and whole; with the same promise

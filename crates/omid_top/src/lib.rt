@@ -3,9 +3,10 @@
 
 ghost use Rattle.std.specs.Prelude.{◌≡◌, ◌≢◌, ℕ, ◌≤◌, ◌⊎◌, map, string_bytes};
 ghost use Rattle.port_io.specs.Ports.{Risen};
+ghost use Rattle.history_json.specs.Json.{json_printed};
 ghost use Rattle.history_text.specs.Summary.{summarized};
 ghost use Rattle.history_text.specs.Text.{printed};
-ghost use Rattle.omid_top.specs.Commands.{Replays, ReplaysJson, Compacts, Runs, RunsSplit, Audits, Storms, SaysUsage};
+ghost use Rattle.omid_top.specs.Commands.{Replays, Compacts, Runs, RunsSplit, Audits, Storms, SaysUsage};
 ghost use Rattle.omid_top.specs.Texts.{IsReplay, IsReplaySummary, IsReplayJson, IsReplayCompact, IsRun, IsRunSplit, IsAudit, IsAuditStrict, IsAnyAudit, IsStorm, IsAnyStorm, IsKnown};
 
 pub use session_script as script;
@@ -59,8 +60,7 @@ use words::Command;
 /// where the history that was audited is not as asked, and the first broken rule and two items that break it are
 /// written; 8 where over split stores something else was kept of an event than comes of it, and the first two items that
 /// differ are written, and 9 where an actor has drawn all its ticks there. On 2 the source is not read, and on 3 nothing is carried
-/// out. No error of memory comes from judging, and none once the first byte is written, but for `replay json`: its lines take
-/// memory as they are made, and on 6 whole lines of a front of the history may have gone out.
+/// out. No error of memory comes from judging, and none once the first byte is written.
 ///
 /// The words are text. A caller that has a word which is none hands in an empty one in its place, as `words_behind` does:
 /// no command has either.
@@ -79,7 +79,7 @@ pub fn omid<R: Threads + Wait + Sync, S: Source, K: Sink, G: Gate>(
     ensures summary { IsReplaySummary (map string_bytes words.now) →
         Replays summarized result.code (S.left source.old) (S.left source.new) (K.held sink.old) (K.held sink.new) }
     ensures json { IsReplayJson (map string_bytes words.now) →
-        ReplaysJson result.code (S.left source.old) (S.left source.new) (K.held sink.old) (K.held sink.new) }
+        Replays json_printed result.code (S.left source.old) (S.left source.new) (K.held sink.old) (K.held sink.new) }
     ensures compact { (water : ℕ) → IsReplayCompact water (map string_bytes words.now) →
         Compacts water result.code (S.left source.old) (S.left source.new) (K.held sink.old) (K.held sink.new) }
     ensures run { IsRun (map string_bytes words.now) →
@@ -106,7 +106,7 @@ pub fn omid<R: Threads + Wait + Sync, S: Source, K: Sink, G: Gate>(
     ensures source_worked { result.code ≢ 4 → S.faults source.new ≡ S.faults source.old }
     ensures sink_failed { result.code ≡ 5 → Risen (K.faults sink.old) (K.faults sink.new) }
     ensures sink_worked { result.code ≢ 5 → K.faults sink.new ≡ K.faults sink.old }
-    ensures no_memory { result.code ≡ 6 → (sink.new ≡ sink.old) ⊎ IsReplayJson (map string_bytes words.now) }
+    ensures no_memory { result.code ≡ 6 → sink.new ≡ sink.old }
 {
     match words::command_of(words) {
         Some(Command::Replay) => replay::replay_source(alloc, Form::History, source, sink, gate),

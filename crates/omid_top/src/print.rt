@@ -1,11 +1,11 @@
 // Writing texts and histories, which takes no memory.
-ghost use Rattle.std.specs.Prelude.{◌≡◌, ◌<◌, ◌≤◌, OnOk, OnErr, IsErrOf, length};
+ghost use Rattle.std.specs.Prelude.{◌≡◌, ◌<◌, ◌≤◌, OnOk, OnErr, length};
 ghost use Rattle.port_io.specs.Ports.{Risen, Gains};
 ghost use Rattle.history_text.specs.Text.{printed};
 ghost use Rattle.history_text.specs.Summary.{summarized};
 ghost use Rattle.history_json.specs.Json.{json_printed};
 ghost use Rattle.omid_top.specs.Texts.{usage_text, bad_line_text, text_in, spent_text, tick_line, told_line, told_text, torn_text};
-ghost use Rattle.omid_top.specs.Promise.{GainsFront, GainsLines};
+ghost use Rattle.omid_top.specs.Promise.{GainsFront};
 ghost use Rattle.omid_top.specs.Audit.{report_text};
 
 use crate::Status;
@@ -16,51 +16,18 @@ use history_book::Item;
 use history_json::print_line;
 use history_text::{LineBuf, Summary, print_body, print_item};
 use port_io::{Failed, Sink, write_all_of};
-use stamp_base::NoMemory;
 
-/// Why a text of a history was not written to its end.
-#[derive(Clone, Copy, Debug, PartialEq, Eq)]
-pub enum PrintStop {
-    /// The sink failed.
-    Failed,
-    /// Memory was refused.
-    NoMemory,
-}
-
-impl From<Failed> for PrintStop {
-    ghost use Rattle.omid_top.specs.declared.print.PrintStop.TheVariants.{Failed};
-
-    ghost from_gives = { λ _ stop. stop ≡ Failed };
-
-    fn from(_: Failed) -> PrintStop {
-        PrintStop::Failed
-    }
-}
-
-impl From<NoMemory> for PrintStop {
-    ghost use Rattle.omid_top.specs.declared.print.PrintStop.TheVariants.{NoMemory};
-
-    ghost from_gives = { λ _ stop. stop ≡ NoMemory };
-
-    fn from(_: NoMemory) -> PrintStop {
-        PrintStop::NoMemory
-    }
-}
-
-/// Writes this text of the history. Failed where the sink fails, with a front of the text written. NoMemory at JSON alone, with the
-/// lines of the first items written; the other forms take no memory.
-pub fn print_in<K: Sink>(form: Form, sink: &mut K, items: &[Item]) -> Result<(), PrintStop>
+/// Writes this text of the history. Failed where the sink fails, with a front of the text written. No form takes memory.
+pub fn print_in<K: Sink>(form: Form, sink: &mut K, items: &[Item]) -> Result<(), Failed>
     ensures all { OnOk result (Gains (K.held sink.old) (K.held sink.new) (text_in form items.now)) }
-    ensures front { IsErrOf result PrintStop.Failed → GainsFront (K.held sink.old) (K.held sink.new) (text_in form items.now) }
-    ensures lines { IsErrOf result PrintStop.NoMemory → GainsLines (K.held sink.old) (K.held sink.new) items.now }
-    ensures json_alone { IsErrOf result PrintStop.NoMemory → form ≡ Form.Json }
-    ensures failed { IsErrOf result PrintStop.Failed → Risen (K.faults sink.old) (K.faults sink.new) }
-    ensures worked { (IsErrOf result PrintStop.Failed → ⊥) → K.faults sink.new ≡ K.faults sink.old }
+    ensures front { OnErr result (GainsFront (K.held sink.old) (K.held sink.new) (text_in form items.now)) }
+    ensures failed { OnErr result (Risen (K.faults sink.old) (K.faults sink.new)) }
+    ensures worked { OnOk result (K.faults sink.new ≡ K.faults sink.old) }
 {
     match form {
-        Form::History => Ok(print_history(sink, items)?),
+        Form::History => print_history(sink, items),
         Form::Json => print_json(sink, items),
-        Form::Summary => Ok(print_summary(sink, items)?),
+        Form::Summary => print_summary(sink, items),
     }
 }
 
@@ -80,20 +47,16 @@ fn print_history<K: Sink>(sink: &mut K, items: &[Item]) -> Result<(), Failed>
 }
 
 /// Writes the items as JSON, each by one write of its line.
-fn print_json<K: Sink>(sink: &mut K, items: &[Item]) -> Result<(), PrintStop>
+fn print_json<K: Sink>(sink: &mut K, items: &[Item]) -> Result<(), Failed>
     ensures all { OnOk result (Gains (K.held sink.old) (K.held sink.new) (json_printed items.now)) }
-    ensures front { IsErrOf result PrintStop.Failed → GainsFront (K.held sink.old) (K.held sink.new) (json_printed items.now) }
-    ensures lines { IsErrOf result PrintStop.NoMemory → GainsLines (K.held sink.old) (K.held sink.new) items.now }
-    ensures failed { IsErrOf result PrintStop.Failed → Risen (K.faults sink.old) (K.faults sink.new) }
-    ensures worked { (IsErrOf result PrintStop.Failed → ⊥) → K.faults sink.new ≡ K.faults sink.old }
+    ensures front { OnErr result (GainsFront (K.held sink.old) (K.held sink.new) (json_printed items.now)) }
+    ensures failed { OnErr result (Risen (K.faults sink.old) (K.faults sink.new)) }
+    ensures worked { OnOk result (K.faults sink.new ≡ K.faults sink.old) }
 {
     let mut line = LineBuf::new();
     for item in items {
         print_line(item, &mut line);
-        match write_all_of(sink, line.as_slice()) {
-            Ok(()) => {}
-            Err(_) => return Err(PrintStop::Failed),
-        }
+        print_text(sink, line.as_slice())?;
     }
     Ok(())
 }

@@ -7,16 +7,15 @@ ghost use Rattle.session_script.specs.Script.{script_of, data_of};
 ghost use Rattle.session_script.specs.declared.mode.Mode.TheVariants.{Replay};
 ghost use Rattle.command_semantics.specs.Runs.{replayed};
 ghost use Rattle.omid_top.specs.Commands.{Replays, Storms};
-ghost use Rattle.omid_top.specs.Promise.{KeepsPromise, GainsFront, GainsLines, history_of};
+ghost use Rattle.omid_top.specs.Promise.{KeepsPromise, GainsFront};
 ghost use Rattle.omid_top.specs.Texts.{bad_line_text, replay_text, text_in};
 
 use crate::bad_line::named;
 use crate::form::Form;
-use crate::print::PrintStop;
 use crate::progress::TellsGate;
 use crate::script::{Mode, Script, ScriptCause, ScriptFault, read_script};
 use crate::{Status, print};
-use port_io::{ReadStop, Sink, Source, read_up_to};
+use port_io::{Failed, ReadStop, Sink, Source, read_up_to};
 use replay_driver::{replay_told, storm_script};
 use run_driver::Gate;
 use script_service::scripts_keep_service;
@@ -36,8 +35,7 @@ pub fn replay_source<S: Source, K: Sink, G: Gate>(
     ensures source_worked { result.code ≢ 4 → S.faults source.new ≡ S.faults source.old }
     ensures sink_failed { result.code ≡ 5 → Risen (K.faults sink.old) (K.faults sink.new) }
     ensures sink_worked { result.code ≢ 5 → K.faults sink.new ≡ K.faults sink.old }
-    ensures no_memory { form ≢ Form.Json → result.code ≡ 6 → sink.new ≡ sink.old }
-    ensures lines { result.code ≡ 6 → IfSome (S.left source.old) (λ bytes. GainsLines (K.held sink.old) (K.held sink.new) (history_of (script_of bytes Replay))) }
+    ensures no_memory { result.code ≡ 6 → sink.new ≡ sink.old }
 {
     match read_up_to(alloc, source, BYTE_LIMIT) {
         Ok(bytes) => replay_bytes(alloc, form, &bytes, sink, gate),
@@ -48,7 +46,6 @@ pub fn replay_source<S: Source, K: Sink, G: Gate>(
 }
 
 /// Carries out the script that the bytes are.
-#[tactic(auto, using(crate::proofs::PrintLemmas::no_lines))]
 fn replay_bytes<K: Sink, G: Gate>(
     alloc: Global,
     form: Form,
@@ -63,8 +60,7 @@ fn replay_bytes<K: Sink, G: Gate>(
     ensures sink_failed { result.code ≡ 5 → Risen (K.faults sink.old) (K.faults sink.new) }
     ensures sink_worked { result.code ≢ 5 → K.faults sink.new ≡ K.faults sink.old }
     ensures cut { result.code ≡ 5 → GainsFront (K.held sink.old) (K.held sink.new) (replay_text (text_in form) (script_of bytes.now Replay)) }
-    ensures no_memory { form ≢ Form.Json → result.code ≡ 6 → sink.new ≡ sink.old }
-    ensures lines { result.code ≡ 6 → GainsLines (K.held sink.old) (K.held sink.new) (history_of (script_of bytes.now Replay)) }
+    ensures no_memory { result.code ≡ 6 → sink.new ≡ sink.old }
     ensures codes { (result.code ≡ 0) ⊎ (result.code ≡ 3) ⊎ (result.code ≡ 5) ⊎ (result.code ≡ 6) }
 {
     match read_script(alloc, bytes, Mode::Replay) {
@@ -75,7 +71,7 @@ fn replay_bytes<K: Sink, G: Gate>(
 }
 
 /// Carries the script out and writes its history.
-#[tactic(auto, using(crate::proofs::PromiseLemmas::promise_kept, crate::proofs::PrintLemmas::no_lines))]
+#[tactic(auto, using(crate::proofs::PromiseLemmas::promise_kept))]
 fn replay_script<K: Sink, G: Gate>(
     alloc: Global,
     form: Form,
@@ -88,16 +84,14 @@ fn replay_script<K: Sink, G: Gate>(
     ensures sink_failed { result.code ≡ 5 → Risen (K.faults sink.old) (K.faults sink.new) }
     ensures sink_worked { result.code ≢ 5 → K.faults sink.new ≡ K.faults sink.old }
     ensures cut { result.code ≡ 5 → GainsFront (K.held sink.old) (K.held sink.new) (text_in form (replayed (data_of script.now))) }
-    ensures no_memory { form ≢ Form.Json → result.code ≡ 6 → sink.new ≡ sink.old }
-    ensures lines { result.code ≡ 6 → GainsLines (K.held sink.old) (K.held sink.new) (replayed (data_of script.now)) }
+    ensures no_memory { result.code ≡ 6 → sink.new ≡ sink.old }
     ensures codes { (result.code ≡ 0) ⊎ (result.code ≡ 5) ⊎ (result.code ≡ 6) }
 {
     scripts_keep_service();
     match replay_told(alloc, script, &TellsGate { gate }) {
         Ok(cluster) => match print::print_in(form, sink, cluster.history()) {
             Ok(()) => Status::DONE,
-            Err(PrintStop::Failed) => Status::SINK_FAILED,
-            Err(PrintStop::NoMemory) => Status::NO_MEMORY,
+            Err(Failed) => Status::SINK_FAILED,
         },
         Err(NoMemory) => Status::NO_MEMORY,
     }

@@ -11,10 +11,9 @@ ghost use Rattle.omid_top.specs.Texts.{bad_line_text};
 
 use crate::bad_line::named;
 use crate::form::Form;
-use crate::print::PrintStop;
 use crate::script::{Mode, Script, ScriptCause, ScriptFault, read_script};
 use crate::{Status, print};
-use port_io::{ReadStop, Sink, Source, read_up_to};
+use port_io::{Failed, ReadStop, Sink, Source, read_up_to};
 use run_driver::Gate;
 use stamp_base::{BYTE_LIMIT, NoMemory};
 use std::alloc::Global;
@@ -89,8 +88,7 @@ fn run_script<R: Threads + Wait + Sync, K: Sink, G: Gate>(
     match run_driver::run(rt, alloc, script, gate) {
         Ok((cluster, _turns)) => match print::print_in(Form::History, sink, cluster.history()) {
             Ok(()) => Status::DONE,
-            Err(PrintStop::Failed) => Status::SINK_FAILED,
-            Err(PrintStop::NoMemory) => Status::NO_MEMORY,
+            Err(Failed) => Status::SINK_FAILED,
         },
         Err(NoMemory) => Status::NO_MEMORY,
     }

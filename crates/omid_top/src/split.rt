@@ -16,7 +16,6 @@ ghost use Rattle.omid_top.specs.Texts.{bad_line_text, spent_text};
 
 use crate::bad_line::named;
 use crate::form::Form;
-use crate::print::PrintStop;
 use crate::script::{Mode, Script, ScriptCause, ScriptFault, read_script};
 use crate::{Status, print};
 use cluster_core::Cluster;
@@ -116,8 +115,7 @@ fn told<K: Sink>(script: &Script, cluster: &Cluster, sink: &mut K) -> Status
 {
     match print::print_in(Form::History, sink, cluster.history()) {
         Ok(()) => Status::DONE,
-        Err(PrintStop::Failed) => Status::SINK_FAILED,
-        Err(PrintStop::NoMemory) => Status::NO_MEMORY,
+        Err(Failed) => Status::SINK_FAILED,
     }
 }
 

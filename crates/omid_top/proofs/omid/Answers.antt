@@ -8,12 +8,6 @@ returns-in-Some-Storm-clause-storm g c = λ transactions named.
     subst (λ (n : ℕ). Storms n c.storm.result.code (g.K.Sink.held c.args.sink.now) (g.K.Sink.held c.storm.new.sink))
     (one_storm _ transactions _ (names_storm _ _ _ c.in-Some-Storm.field-0-is c.in-Some-Storm.ensures) named) c.storm.ensures.storm
 
-pub returns-in-Some-ReplayJson-clause-json : goal.returns-in-Some-ReplayJson-clause-json
-returns-in-Some-ReplayJson-clause-json g c = λ _. record {
-  replays = c.replay_source-in-Some-ReplayJson.ensures.replay;
-  lines = c.replay_source-in-Some-ReplayJson.ensures.lines;
-}
-
 pub returns-in-Some-ReplayCompact-clause-compact : goal.returns-in-Some-ReplayCompact-clause-compact
 returns-in-Some-ReplayCompact-clause-compact g c = λ water named.
     subst (λ (n : ℕ). Compacts n c.compact_source.result.code (g.S.Source.left c.args.source.now) (g.S.Source.left c.compact_source.new.source) (g.K.Sink.held c.args.sink.now) (g.K.Sink.held c.compact_source.new.sink))

@@ -1,4 +1,4 @@
-use Rattle.std.proofs.Common.{List, Err, ap, arith, subst, ◌∙◌}
+use Rattle.std.proofs.Common.{List, arith, subst, ◌∙◌}
 use Rattle.stamp_base.specs.SetupNumbers.{SetupNumbers}
 use Rattle.history_book.specs.declared.item.Item.{Item}
 use Rattle.cause_rules.specs.Explained.{Explained}
@@ -6,7 +6,7 @@ use Rattle.cause_rules.specs.Strict.{SerialIfStrict}
 use Rattle.port_io.specs.Ports.{Gains}
 use Rattle.session_script.specs.Script.{data_of}
 use Rattle.planned_cluster.proofs.Playable.{playable_at_first}
-use Rattle.omid_top.specs.Promise.{GainsFront, GainsLines}
+use Rattle.omid_top.specs.Promise.{GainsFront}
 use Rattle.omid_top.specs.Texts.{text_in}
 use Rattle.omid_top.proofs.PromiseLemmas.{promise_kept}
 use Rattle.omid_top.proofs.replay.replay_script.Goals as goal
@@ -19,14 +19,3 @@ returns-in-Ok-print_in-clause-replayed g c = λ _. (
       (c.scripts_keep_service.ensures (data_of c.args.script.now) c.args.script.now.sound.setup (playable_at_first (data_of c.args.script.now) c.args.script.now.sound (omega (arith, c.requires, c.args.script.now.lines.ok.0)))),
   subst (λ (h : List Item). Gains (g.K.Sink.held c.args.sink.now) (g.K.Sink.held c.print_in.new.sink) (text_in c.args.form h)) (c.history.ensures.value ∙ c.in-Ok.ensures.history) c.in-Ok-print_in.ensures.all,
 )
-
-pub returns-in-Err-Failed-clause-cut : goal.returns-in-Err-Failed-clause-cut
-returns-in-Err-Failed-clause-cut g c = λ _.
-    subst (λ (h : List Item). GainsFront (g.K.Sink.held c.args.sink.now) (g.K.Sink.held c.print_in.new.sink) (text_in c.args.form h)) (c.history.ensures.value ∙ c.in-Ok.ensures.history) (c.in-Err-Failed.ensures.front (ap Err c.in-Err-Failed.field-0-is))
-
-pub returns-in-Ok-clause-lines : goal.returns-in-Ok-clause-lines
-returns-in-Ok-clause-lines g c = λ _.
-    subst (λ (h : List Item). GainsLines (g.K.Sink.held c.args.sink.now) (g.K.Sink.held c.print_in.new.sink) h) (c.history.ensures.value ∙ c.in-Ok.ensures.history) (c.in-Err-NoMemory.ensures.lines (ap Err c.in-Err-NoMemory.field-0-is))
-
-pub returns-in-Err-Failed-clause-sink_failed : goal.returns-in-Err-Failed-clause-sink_failed
-returns-in-Err-Failed-clause-sink_failed g c = λ _. c.in-Err-Failed.ensures.failed (ap Err c.in-Err-Failed.field-0-is)

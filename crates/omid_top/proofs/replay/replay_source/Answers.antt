@@ -4,10 +4,9 @@ use Rattle.port_io.specs.Ports.{Gains}
 use Rattle.session_script.specs.Script.{script_of}
 use Rattle.session_script.specs.declared.mode.Mode.TheVariants.{Replay}
 use Rattle.command_semantics.specs.Runs.{replayed}
-use Rattle.omid_top.specs.Promise.{KeepsPromise, GainsFront, GainsLines, history_of}
+use Rattle.omid_top.specs.Promise.{KeepsPromise, GainsFront}
 use Rattle.omid_top.specs.Texts.{bad_line_text, replay_text, text_in}
 use Rattle.omid_top.proofs.CommandLemmas.{replay_codes, named_codes, named_is_not_done, replays_silently, of_too_long}
-use Rattle.omid_top.proofs.PrintLemmas.{no_lines_of_left}
 use Rattle.omid_top.proofs.ReportLemmas.{of_all_left}
 use Rattle.omid_top.proofs.replay.replay_source.Goals as goal
 
@@ -25,11 +24,6 @@ returns-in-Ok-clause-replay g c = record {
       (rw (sym c.deref.ensures.value) (c.replay_bytes.ensures.cut five));
   codes = replay_codes _ c.replay_bytes.ensures.codes;
 }
-
-pub returns-in-Ok-clause-lines : goal.returns-in-Ok-clause-lines
-returns-in-Ok-clause-lines g c = λ six.
-    of_all_left _ _ c.in-Ok.bytes.items (λ bytes. GainsLines (g.K.Sink.held c.args.sink.now) (g.K.Sink.held c.replay_bytes.new.sink) (history_of (script_of bytes Replay))) c.in-Ok.ensures.all c.in-Ok.ensures.end
-    (rw (sym c.deref.ensures.value) (c.replay_bytes.ensures.lines six))
 
 pub returns-in-Err-TooLong-clause-replay : goal.returns-in-Err-TooLong-clause-replay
 returns-in-Err-TooLong-clause-replay g c = record {
@@ -51,6 +45,3 @@ returns-in-Err-Failed-clause-replay g c = replays_silently _ 4 _ _ _ _ (omega ar
 
 pub returns-in-Err-NoMemory-clause-replay : goal.returns-in-Err-NoMemory-clause-replay
 returns-in-Err-NoMemory-clause-replay g c = replays_silently _ 6 _ _ _ _ (omega arith) (omega arith) (λ five. omega (arith, five))
-
-pub returns-in-Err-NoMemory-clause-lines : goal.returns-in-Err-NoMemory-clause-lines
-returns-in-Err-NoMemory-clause-lines g c = λ _. no_lines_of_left _ _
