@@ -1,6 +1,7 @@
 //! plain_replay replay [summary | json] < SCRIPT: what `omid` prints for these words, by a plain program of std alone. It is here to be
 //! timed beside omid (bench.py --plain), and is not proved. It has one node, makes its checks, and knows scripts alone in which nothing
-//! is refused, no store fails and no read meets a cell without its shadow, as those of whole lines, single steps and a hot key.
+//! is refused, no store fails, no read meets a cell without its shadow and no value has a quote, as those of whole lines, single steps
+//! and a hot key.
 
 use std::collections::BTreeMap;
 use std::io::{self, Read, Write};
@@ -9,7 +10,6 @@ use std::{env, process};
 const KEYS: usize = 4096;
 const BUCKETS: usize = 64;
 const WIDTH: usize = 4;
-/// How many bytes are written at once.
 const ROOM: usize = 1 << 16;
 
 fn fail(line: usize, why: &str) -> ! {
@@ -20,16 +20,15 @@ fn fail(line: usize, why: &str) -> ! {
 /// A value, by where it stands in the script's bytes.
 #[derive(Clone, Copy, Default)]
 struct Text { at: u32, len: u8 }
-
-impl Text {
-    fn of(self, bytes: &[u8]) -> &[u8] {
-        &bytes[self.at as usize..][..self.len as usize]
-    }
-}
+impl Text { fn of(self, bytes: &[u8]) -> &[u8] { &bytes[self.at as usize..][..self.len as usize] } }
 
 /// What a session's line does: the session writes or reads a key, or these events are made in turn.
 #[derive(Clone, Copy)]
-enum Verb { Take, Write(u16, Text), Read(u16), Does(&'static [fn(&mut System, u8) -> Made]) }
+enum Verb { Take, Write(u16, Text), Read(u16), Does(&'static [Event]) }
+
+type Event = fn(&mut System, u8) -> Made;
+const BEGIN: [Event; 4] = [System::ask::<false>, System::accept, System::decide, System::answer];
+const COMMIT: [Event; 6] = [System::ask::<true>, System::accept, System::decide, System::put, System::answer, System::finish];
 
 /// A node's line names its request's session.
 struct Line { number: usize, session: u8, verb: Verb }
@@ -39,8 +38,6 @@ enum Kind { Take, AskBegin, AskCommit, Accept, DrawStart, DrawCommit, Begin, Wri
 
 /// An item: whose, of which key, two numbers and a value, as far as its kind has them.
 struct Item { kind: Kind, session: u8, key: u16, a: u64, b: u64, value: Text }
-
-// ---- reading
 
 struct Script { lease: u64, range: u64, lines: Vec<Line> }
 
@@ -56,27 +53,23 @@ fn numbered(word: &[u8], letter: u8, bound: u64) -> Option<u16> {
     (*first == letter).then(|| number(rest)).flatten().filter(|it| *it < bound).map(|it| it as u16)
 }
 
-fn session(word: &[u8]) -> Option<u8> {
-    numbered(word, b's', 16).map(|it| it as u8)
-}
-
 fn action_of(words: &[&[u8]], bytes: &[u8]) -> Option<(u8, Verb)> {
-    let key = |word| numbered(word, b'k', KEYS as u64);
-    let text = |word: &[u8]| Text { at: (word.as_ptr() as usize - bytes.as_ptr() as usize) as u32, len: word.len() as u8 };
+    let (key, session) = (|word| numbered(word, b'k', KEYS as u64), |word| numbered(word, b's', 16).map(|it| it as u8));
+    let place = |word: &[u8]| (word.as_ptr() as usize - bytes.as_ptr() as usize) as u32;
+    let plain = |word: &[u8]| word.len() <= 64 && !word.iter().any(|it| b"\"\\".contains(it));
+    let text = |word| plain(word).then(|| Text { at: place(word), len: word.len() as u8 });
     Some(match *words {
         [b"a", b"take"] => (0, Verb::Take),
         [b"a", b"accept", of] => (session(of)?, Verb::Does(&[System::accept])),
         [b"a", b"decide", of] => (session(of)?, Verb::Does(&[System::decide])),
         [b"a", b"put", of] => (session(of)?, Verb::Does(&[System::put])),
         [b"a", b"answer", of] => (session(of)?, Verb::Does(&[System::answer])),
-        [by, b"ask-begin", b"a"] => (session(by)?, Verb::Does(&[System::ask_begin])),
-        [by, b"ask-commit", b"a"] => (session(by)?, Verb::Does(&[System::ask_commit])),
-        [by, b"begin", b"a"] => (session(by)?, Verb::Does(&[System::ask_begin, System::accept, System::decide, System::answer])),
-        [by, b"commit", b"a"] => {
-            (session(by)?, Verb::Does(&[System::ask_commit, System::accept, System::decide, System::put, System::answer, System::finish]))
-        }
+        [by, b"ask-begin", b"a"] => (session(by)?, Verb::Does(&[System::ask::<false>])),
+        [by, b"ask-commit", b"a"] => (session(by)?, Verb::Does(&[System::ask::<true>])),
+        [by, b"begin", b"a"] => (session(by)?, Verb::Does(&BEGIN)),
+        [by, b"commit", b"a"] => (session(by)?, Verb::Does(&COMMIT)),
         [by, b"read" | b"fetch", at] => (session(by)?, Verb::Read(key(at)?)),
-        [by, b"write", at, what] if what.len() <= 64 => (session(by)?, Verb::Write(key(at)?, text(what))),
+        [by, b"write", at, what] => (session(by)?, Verb::Write(key(at)?, text(what)?)),
         [by, b"step"] => (session(by)?, Verb::Does(&[System::step])),
         _ => return None,
     })
@@ -85,10 +78,6 @@ fn action_of(words: &[&[u8]], bytes: &[u8]) -> Option<(u8, Verb)> {
 fn script_of(bytes: &[u8]) -> Script {
     let mut script = Script { lease: 10, range: 100, lines: Vec::new() };
     for (place, line) in bytes.split(|it| *it == b'\n').enumerate() {
-        let line = line.strip_suffix(b"\r").unwrap_or(line);
-        if line.first() == Some(&b'#') {
-            continue;
-        }
         let (mut words, mut count) = ([&line[..0]; 5], 0);
         for word in line.split(|it| matches!(it, b' ' | b'\t')).filter(|it| !it.is_empty()) {
             if count == words.len() || !word.iter().all(u8::is_ascii_graphic) {
@@ -110,22 +99,16 @@ fn script_of(bytes: &[u8]) -> Script {
     script
 }
 
-// ---- the system
-
 struct Cell { version: u64, shadow: Option<u64>, value: Text }
 
 #[derive(Default)]
 struct Bucket { kept: Vec<(u64, u16)>, water: u64 }
 
-/// A request is that of a commit where it says so.
 #[derive(Clone, Copy, PartialEq)]
 enum State { Free, Asked(bool), Accepted(bool), Drawn(bool, u64), Settled(u64), Open, Finishing(u64, usize) }
 
 struct Session { state: State, start: u64, keys: Vec<u16> }
-
-/// The oracle of the one node, once it has its term.
 struct Oracle { epoch: u64, until: u64, last: u64, ceiling: u64, buckets: Vec<Bucket> }
-
 struct System { sessions: Vec<Session>, oracle: Option<Oracle>, cells: Vec<Vec<Cell>>, table: BTreeMap<u64, u64>, items: Vec<Item> }
 
 /// Why the event can't be made as one that is granted.
@@ -177,31 +160,19 @@ impl System {
     }
 
     fn take(&mut self, script: &Script) -> Made {
-        if self.oracle.is_some() {
-            return Err("holding");
-        }
         let buckets = (0..BUCKETS).map(|_| Bucket::default()).collect();
         self.oracle = Some(Oracle { epoch: 0, until: script.lease, last: 0, ceiling: script.range, buckets });
         self.tell_plain(Kind::Take, 0, script.lease, script.range)
     }
 
-    fn ask_begin(&mut self, s: u8) -> Made {
+    fn ask<const COMMITS: bool>(&mut self, s: u8) -> Made {
         let (_, session) = self.parts(s)?;
-        if session.state != State::Free {
-            return Err("busy");
-        }
-        session.state = State::Asked(false);
-        self.tell_plain(Kind::AskBegin, s, 0, 0)
-    }
-
-    fn ask_commit(&mut self, s: u8) -> Made {
-        let (_, session) = self.parts(s)?;
-        if session.state != State::Open || session.keys.is_empty() {
+        if session.state != if COMMITS { State::Open } else { State::Free } || (COMMITS && session.keys.is_empty()) {
             return Err("busy, or nothing to commit");
         }
-        session.state = State::Asked(true);
-        let start = session.start;
-        self.tell_plain(Kind::AskCommit, s, start, 0)
+        session.state = State::Asked(COMMITS);
+        let (kind, start) = if COMMITS { (Kind::AskCommit, session.start) } else { (Kind::AskBegin, 0) };
+        self.tell_plain(kind, s, start, 0)
     }
 
     fn accept(&mut self, s: u8) -> Made {
@@ -330,25 +301,20 @@ impl System {
     }
 }
 
-// ---- printing
-
 macro_rules! put { ($out:ident, $($part:expr),*) => {{ $($part.put($out);)* }} }
 
 trait Part { fn put(&self, out: &mut Vec<u8>); }
-
 impl Part for &str { fn put(&self, out: &mut Vec<u8>) { out.extend_from_slice(self.as_bytes()) } }
 impl Part for &[u8] { fn put(&self, out: &mut Vec<u8>) { out.extend_from_slice(self) } }
-impl Part for u64 { fn put(&self, out: &mut Vec<u8>) { push_number(out, *self) } }
-
-fn push_number(out: &mut Vec<u8>, number: u64) {
-    let (mut digits, mut at, mut rest) = ([0; 20], 20, number);
-    loop {
-        at -= 1;
-        digits[at] = b'0' + (rest % 10) as u8;
-        rest /= 10;
-        if rest == 0 {
-            return out.extend_from_slice(&digits[at..]);
+impl Part for u64 {
+    fn put(&self, out: &mut Vec<u8>) {
+        let (mut digits, mut at, mut rest) = ([0; 20], 20, *self);
+        while at == 20 || rest > 0 {
+            at -= 1;
+            digits[at] = b'0' + (rest % 10) as u8;
+            rest /= 10;
         }
+        out.extend_from_slice(&digits[at..])
     }
 }
 
@@ -373,22 +339,8 @@ fn print_text(out: &mut Vec<u8>, item: &Item, bytes: &[u8]) {
     }
 }
 
-/// In JSON a quote or a backslash has a backslash before it.
-struct Quoted<'a>(&'a [u8]);
-
-impl Part for Quoted<'_> {
-    fn put(&self, out: &mut Vec<u8>) {
-        for byte in self.0 {
-            if matches!(byte, b'"' | b'\\') {
-                out.push(b'\\')
-            }
-            out.push(*byte)
-        }
-    }
-}
-
 fn print_json(out: &mut Vec<u8>, item: &Item, bytes: &[u8]) {
-    let (s, k, a, b, text) = (item.session as u64, item.key as u64, item.a, item.b, Quoted(item.value.of(bytes)));
+    let (s, k, a, b, text) = (item.session as u64, item.key as u64, item.a, item.b, item.value.of(bytes));
     match item.kind {
         Kind::Take => put!(out, r#"{"ceiling":"#, b, r#","epoch":0,"kind":"take","node":"a","reading":0,"term":1,"until":"#, a),
         Kind::AskBegin => put!(out, r#"{"kind":"ask-begin","node":"a","session":"s"#, s, "\""),
@@ -411,12 +363,6 @@ fn print_json(out: &mut Vec<u8>, item: &Item, bytes: &[u8]) {
     put!(out, "}\n")
 }
 
-fn summary(items: &[Item]) -> String {
-    let count = |is: fn(&Item) -> bool| items.iter().filter(|it| is(it)).count();
-    let (begun, committed) = (count(|it| matches!(it.kind, Kind::Begin)), count(|it| matches!(it.kind, Kind::Committed)));
-    format!("transactions={begun} committed={committed} conflict=0 hidden=0 other=0 items={}\n", items.len())
-}
-
 fn main() -> io::Result<()> {
     let words: Vec<String> = env::args().skip(1).collect();
     let mut bytes = Vec::new();
@@ -433,7 +379,12 @@ fn main() -> io::Result<()> {
     let print = match words.iter().map(String::as_str).collect::<Vec<_>>()[..] {
         ["replay"] => print_text,
         ["replay", "json"] => print_json,
-        ["replay", "summary"] => return io::stdout().write_all(summary(&system.items).as_bytes()),
+        ["replay", "summary"] => {
+            let count = |kind: Kind| system.items.iter().filter(|it| it.kind as u8 == kind as u8).count();
+            let (begun, committed) = (count(Kind::Begin), count(Kind::Committed));
+            println!("transactions={begun} committed={committed} conflict=0 hidden=0 other=0 items={}", system.items.len());
+            return Ok(());
+        }
         _ => fail(0, "usage: plain_replay replay [json | summary]"),
     };
     let mut out = Vec::with_capacity(ROOM + 1024);
