@@ -3,7 +3,7 @@
 compactions and its threads beside its replay, and prints one table of each. Over split stores the last table tells what a committed
 transaction costs, on one processor and on more.
 
-usage: bench/bench.py [--program PATH] [--runs N] [--only WORD] [--quick] [--ordinary | --instructions]
+usage: bench/bench.py [--program PATH] [--runs N] [--only WORD] [--quick] [--ordinary | --instructions | --plain]
 
 The program is crates/omid/out/omid, which stands there behind a green gate. Every figure is a median of N runs that
 take turns with the runs they are compared with, so that a loaded machine slows both. User and system time are the kernel's
@@ -15,8 +15,11 @@ since a run beside others may take many times as long.
 
 With `--instructions` one table of instructions an item is printed in their place, counted by valgrind's callgrind over an eighth of the
 lines. It is the same on a busy machine, and from one run to the next but for some thousands in all.
+
+With `--plain` one table is printed in their place too: replays beside those of bench/plain_replay.rs, a plain program that prints the
+same, built by `rustc -O`. It has user time, and where valgrind is installed instructions a line, over an eighth of the lines.
 """
-import argparse, contextlib, os, random, re, shutil, statistics, subprocess, sys, tempfile, time
+import argparse, contextlib, filecmp, os, random, re, shutil, statistics, subprocess, sys, tempfile, time
 from dataclasses import dataclass
 
 ROOT = os.path.dirname(os.path.dirname(os.path.abspath(__file__)))
@@ -255,6 +258,31 @@ def counted(program, work, loads):
         with open(text, "rb") as it:
             items = sum(1 for _ in it)
         print(f"{name:28} {items:9} " + " ".join(f"{it / items:{wide}.0f}" for it, wide in zip(took, (8, 8, 8, 8, 10))), flush=True)
+
+
+def beside_plain(program, work, runs, loads):
+    """What replays cost, and how often as much as a plain program's that prints the same."""
+    plain = os.path.join(work, "plain_replay")
+    subprocess.run(["rustc", "-O", os.path.join(ROOT, "bench/plain_replay.rs"), "-o", plain], check=True)
+    print(f"{'beside a plain program':28} {'words':>15} {'time':>8} {'of plain':>8} {'a line':>8} {'of plain':>8}")
+    for name, script in loads:
+        given, few, text, other = (os.path.join(work, it) for it in ("script", "few", "text", "other"))
+        for file, lines in ((given, script), (few, script[:len(script) // 8])):
+            with open(file, "w") as it:
+                it.write("\n".join(lines) + "\n")
+        for words in (["replay"], ["replay", "summary"], ["replay", "json"]):
+            costs = {it: [] for it in (program, plain)}
+            for _ in range(runs):
+                for it, taken in ((program, text), (plain, other)):
+                    costs[it].append(ran([it, *words], given, taken))
+            if not filecmp.cmp(text, other, shallow=False):
+                sys.exit(f"bench: {plain} prints something else than {program} at {words} of {name}")
+            time, of = median(costs[program]), median(costs[plain]) or 1e-6
+            line = f"{name:28} {' '.join(words):>15} {time:8.3f} {time / of:8.2f}"
+            if shutil.which("valgrind"):
+                count, least = (instructions([it, *words], few, other) for it in (program, plain))
+                line += f" {count / (len(script) // 8):8.0f} {count / least:8.2f}"
+            print(line, flush=True)
 
 
 def compactions(program, work, runs, loads):
@@ -570,6 +598,7 @@ def main():
     words.add_argument("--quick", action="store_true", help="an eighth of the lines, for a look")
     words.add_argument("--ordinary", action="store_true", help="replays and runs at ordinary priority alone, at rest and beside busy processes")
     words.add_argument("--instructions", action="store_true", help="instructions an item alone, counted by callgrind")
+    words.add_argument("--plain", action="store_true", help="replays beside those of a plain program alone")
     said = words.parse_args()
     if not os.access(said.program, os.X_OK):
         sys.exit(f"bench: {said.program} is not there: run `rt ci` first, or name one by --program")
@@ -583,6 +612,9 @@ def main():
     with tempfile.TemporaryDirectory(prefix="omid-bench-") as work:
         if said.ordinary:
             ordinary(said.program, work, max(3, said.runs // 3), [load for load in on_threads(lines // 8) if said.only in load[0]])
+            return
+        if said.plain:
+            beside_plain(said.program, work, said.runs, [load for load in files[:3] if said.only in load[0]])
             return
         if said.instructions:
             counted(said.program, work, picked[0])
