@@ -12,13 +12,17 @@ use crate::play::{make, seen};
 use crate::progress::{Progress, Silent};
 use cluster_core::Cluster;
 use command_semantics::{
-    Point, events_lower_what_is_left, follows, lines_are_answered, next_event, scripts_are_planned,
+    Interruption, Point, events_lower_what_is_left, follows, lines_are_answered, next_event,
+    scripts_are_planned,
 };
+use history_book::Actor;
+use machine::{Doing, Event};
 use planned_cluster::{PlannedCluster, see_session};
 use port_io::{PlannedWeather, Weather};
-use session_script::Script;
-use stamp_base::{LINE_LIMIT, NoMemory};
+use session_script::{Line, Script, Verb};
+use stamp_base::{LINE_LIMIT, NoMemory, NodeNo, SessionNo};
 use std::alloc::Global;
+use system_parts::Place;
 
 /// The cluster once all the script's lines were carried out, each to its end. A refused line ends nothing: its refusal stands in
 /// the history. NoMemory where memory is refused.
@@ -78,10 +82,114 @@ fn play_line(play: &mut PlannedCluster, script: &Script, place: usize) -> Result
         &seen(play, line, point),
     ) {
         let halt = make(play, event)?;
+        let opens = point == Point::Opens && halt.is_none();
         point = follows(&line.verb, point, halt);
+        if opens {
+            point = go_on(play, script, line, point)?;
+        }
         if let Point::Over = point {
             return Ok(());
         }
     }
     Ok(())
+}
+
+/// Goes on behind a first event that met nothing in its way, as far as the kind of the line tells what is next. It gives the point
+/// from which on the run looks again what is left.
+fn go_on(
+    play: &mut PlannedCluster,
+    script: &Script,
+    line: &Line,
+    point: Point,
+) -> Result<Point, NoMemory> {
+    match (line.actor, &line.verb) {
+        (Actor::Session(session), Verb::Begin { .. } | Verb::Commit { .. }) => {
+            serve(play, script, &line.verb, session)
+        }
+        (Actor::Session(session), Verb::Read { .. }) => Ok(point_of_read(play, session)),
+        _ => Ok(point),
+    }
+}
+
+/// A read that has its answer is over.
+fn point_of_read(play: &PlannedCluster, session: SessionNo) -> Point {
+    match play.cluster.doing(session) {
+        Doing::Reading => Point::Reads,
+        _ => Point::Over,
+    }
+}
+
+/// Serves the request that the session has just asked: each event is the one behind that before it, up to the first that stops.
+/// A commit without writes has asked nothing.
+fn serve(
+    play: &mut PlannedCluster,
+    script: &Script,
+    verb: &Verb,
+    session: SessionNo,
+) -> Result<Point, NoMemory> {
+    let (Some((node, Place::Asked)), commits) = play.cluster.in_flight(session) else {
+        return Ok(Point::Drives);
+    };
+    let halt = serve_asked(play, script, session, node, commits)?;
+    match halt {
+        None if commits => complete(play, verb, session),
+        None => Ok(Point::Over),
+        Some(_) => Ok(follows(verb, Point::Drives, halt)),
+    }
+}
+
+/// The events of a request from its acceptance to its answer, or to the first that stops, and how that stopped. Where sessions
+/// place their commits the node places none.
+fn serve_asked(
+    play: &mut PlannedCluster,
+    script: &Script,
+    session: SessionNo,
+    node: NodeNo,
+    commits: bool,
+) -> Result<Option<Interruption>, NoMemory> {
+    let reading = play.clock + lead_of(script, node);
+    let accept = Event::Accept {
+        node,
+        session,
+        reading,
+    };
+    let halt = make(play, &accept)?;
+    if halt.is_some() {
+        return Ok(halt);
+    }
+    let halt = make(play, &Event::Decide { node, session })?;
+    if halt.is_some() {
+        return Ok(halt);
+    }
+    if commits && !script.setup.direct {
+        let halt = make(play, &Event::Put { node, session })?;
+        if halt.is_some() {
+            return Ok(halt);
+        }
+    }
+    make(play, &Event::Answer { node, session })
+}
+
+/// A commit that was handed over is placed, and completed as far as no step stops.
+fn complete(
+    play: &mut PlannedCluster,
+    verb: &Verb,
+    session: SessionNo,
+) -> Result<Point, NoMemory> {
+    while let Doing::Placing | Doing::Completing = play.cluster.doing(session) {
+        let halt = make(play, &Event::Step { session })?;
+        if halt.is_some() {
+            return Ok(follows(verb, Point::Drives, halt));
+        }
+    }
+    Ok(Point::Over)
+}
+
+/// By how much the node's clock is ahead.
+fn lead_of(script: &Script, node: NodeNo) -> u64 {
+    if node.index() < script.leads.len() {
+        script.leads[node.index()]
+    } else {
+        0
+    }
 }
