@@ -22,7 +22,6 @@ use port_io::{PlannedWeather, Weather};
 use session_script::{Line, Script, Verb};
 use stamp_base::{LINE_LIMIT, NoMemory, NodeNo, SessionNo};
 use std::alloc::Global;
-use system_parts::Place;
 
 /// The cluster once all the script's lines were carried out, each to its end. A refused line ends nothing: its refusal stands in
 /// the history. NoMemory where memory is refused.
@@ -127,14 +126,16 @@ fn serve(
     verb: &Verb,
     session: SessionNo,
 ) -> Result<Point, NoMemory> {
-    let (Some((node, Place::Asked)), commits) = play.cluster.in_flight(session) else {
-        return Ok(Point::Drives);
-    };
-    let halt = serve_asked(play, script, session, node, commits)?;
-    match halt {
-        None if commits => complete(play, verb, session),
-        None => Ok(Point::Over),
-        Some(_) => Ok(follows(verb, Point::Drives, halt)),
+    match play.cluster.in_flight(session) {
+        (Some((node, _)), commits) => {
+            let halt = serve_asked(play, script, session, node, commits)?;
+            match halt {
+                None if commits => complete(play, verb, session),
+                None => Ok(Point::Over),
+                Some(_) => Ok(follows(verb, Point::Drives, halt)),
+            }
+        }
+        (None, _) => Ok(Point::Over),
     }
 }
 
@@ -176,7 +177,10 @@ fn complete(
     verb: &Verb,
     session: SessionNo,
 ) -> Result<Point, NoMemory> {
-    while let Doing::Placing | Doing::Completing = play.cluster.doing(session) {
+    while matches!(
+        play.cluster.doing(session),
+        Doing::Placing | Doing::Completing
+    ) {
         let halt = make(play, &Event::Step { session })?;
         if halt.is_some() {
             return Ok(follows(verb, Point::Drives, halt));
