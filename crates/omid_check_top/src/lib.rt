@@ -5,6 +5,7 @@
 mod anomaly_tests;
 mod check;
 mod committed;
+mod finding;
 mod judged;
 mod levels;
 mod limit;
