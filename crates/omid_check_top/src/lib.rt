@@ -9,6 +9,8 @@ mod finding;
 mod judged;
 mod levels;
 mod limit;
+#[cfg(test)]
+mod list_tests;
 mod made;
 #[cfg(test)]
 mod order_tests;
