@@ -200,6 +200,7 @@ module _ (trace : Trace) (listed : List ℕ) (lists : List Listing) (versions : 
       none_seen (Some o) some empty right = absurd (cc)
 
       some_seen : (found : Version) (last : IsLast trace hints l.key Mine found) (own : Option ℕ) → Own ≡ own → RightAnswer st trace l.txn l.key (Some found) own → SeesValues st trace l.place l.txn l.key Mine
+      unfolding tells
       some_seen found last own is_own right =
           let end = last.end in
           let b = this.begun (omega (arith, end)) in
@@ -255,3 +256,6 @@ none_tell trace listed versions ranks same = subst (λ (rs : List Rank). AreTold
   where
     nobody : (i : ℕ) (l : Listing) → slice_get [] i ≡ Some l → ⊥
     nobody i l at = absurd (cc)
+
+pub told_ranks : (trace : Trace) (listed : List ℕ) (lists : List Listing) (versions : List Rank) (hints : Hints) (ranks : List Rank) → AreCertified trace listed lists versions hints → ranks ≡ versions ++ hints.ranks → AreTold trace listed lists versions ranks
+told_ranks trace listed lists versions hints ranks c same = subst (λ (rs : List Rank). AreTold trace listed lists versions rs) (sym same) (certified_tell trace listed lists versions hints c)

@@ -1,5 +1,5 @@
 // Whether lists have members of committed transactions alone.
-ghost use Rattle.std.specs.Prelude.{◌≡◌, ◌<◌, ℕ, IfNone, IfOk, IfSome, MatchOption, Some, length, slice_get, false, true};
+ghost use Rattle.std.specs.Prelude.{◌≡◌, ℕ, IfNone, IfOk, IfSome, MatchOption, Some, slice_get, false, true};
 ghost use Rattle.trace_rules.specs.Trace.{Done};
 ghost use Rattle.list_orders.specs.declared.listing.Listing.{Listing as ListingOf};
 ghost use Rattle.list_orders.specs.Lists.{WriteAt};
@@ -74,14 +74,31 @@ fn dirty_member(
     values: &[u64],
 ) -> Option<usize>
     ensures none { IfNone result ((j v : ℕ) → slice_get values.now j ≡ Some v → HasDone trace.now key v) }
-    ensures some { IfSome result (λ j. (j < length values.now) × ((v : ℕ) → slice_get values.now j ≡ Some v → HasDone trace.now key v → ⊥)) }
+    ensures some { IfSome result (λ j. (v : ℕ) × (slice_get values.now j ≡ Some v) × (HasDone trace.now key v → ⊥)) }
 {
     for place in 0..values.len() {
-        if !is_done_member(trace, homes, key, values[place]) {
+        if !is_done_at(trace, homes, key, values, place) {
             return Some(place);
         }
     }
     None
+}
+
+/// Whether a committed transaction wrote the member at the place, where one stands there.
+fn is_done_at(
+    trace: &Trace,
+    homes: &IndexMap<(u64, u64), usize>,
+    key: u64,
+    values: &[u64],
+    place: usize,
+) -> bool
+    ensures yes { result ≡ true → (v : ℕ) → slice_get values.now place ≡ Some v → HasDone trace.now key v }
+    ensures no { result ≡ false → (v : ℕ) × (slice_get values.now place ≡ Some v) × (HasDone trace.now key v → ⊥) }
+{
+    match values.get(place) {
+        None => true,
+        Some(value) => is_done_member(trace, homes, key, *value),
+    }
 }
 
 /// Whether a committed transaction wrote the value: where the hint has it, or anywhere.

@@ -56,6 +56,7 @@ fn versions_alone(alloc: Global, versions: &[Rank]) -> Result<Told, NoMemory>
     Ok(Told::Ranks(ranks))
 }
 
+#[tactic(auto, using(crate::proofs::TellLemmas::told_ranks))]
 fn told_by_hints(
     alloc: Global,
     trace: &Trace,
