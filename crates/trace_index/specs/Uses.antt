@@ -21,11 +21,11 @@ is_same OfValues OfLists = false
 is_same OfValues OfValues = true
 
 abbrev pub unless_used : Uses → ℕ → ℕ → ℕ → Use → Option Use → Result Uses Blame
-unless_used uses txn member key use None = Ok (insert_entry nat_eq uses key use)
-unless_used uses txn member key use (Some other) = if is_same use other then Ok uses else Err (record { txn = txn; member = member; key = key; value = 0; what = unclear.BothWays })
+unless_used uses txn member key kind None = Ok (insert_entry nat_eq uses key kind)
+unless_used uses txn member key kind (Some other) = if is_same kind other then Ok uses else Err (record { txn = txn; member = member; key = key; value = 0; what = unclear.BothWays })
 
 abbrev pub used : Uses → ℕ → ℕ → ℕ → Use → Result Uses Blame
-used uses txn member key use = unless_used uses txn member key use (lookup (nat_eq key) uses)
+used uses txn member key kind = unless_used uses txn member key kind (lookup (nat_eq key) uses)
 
 -- a read that found nothing is of either
 abbrev pub read_used : Uses → ℕ → ℕ → ℕ → Option ℕ → Result Uses Blame

@@ -17,7 +17,7 @@ pub fn listings_of(alloc: Global, said: &[Said]) -> Result<Vec<Listing>, NoMemor
 {
     let mut lists = Vec::new(alloc);
     for place in 0..said.len() {
-        add_listing(&mut lists, place, said[place].txn, said[place].operation)?;
+        add_listing(&mut lists, place, said[place])?;
     }
     Ok(lists)
 }
@@ -25,12 +25,12 @@ pub fn listings_of(alloc: Global, said: &[Said]) -> Result<Vec<Listing>, NoMemor
 fn add_listing(
     lists: &mut Vec<Listing>,
     place: usize,
-    txn: usize,
-    operation: trace_reading::Operation,
+    said: Said,
 ) -> Result<(), NoMemory>
-    ensures { OnOk result (lists.new.items ≡ lists.old.items ++ listing_of place txn operation) }
+    ensures { OnOk result (lists.new.items ≡ lists.old.items ++ listing_of place said.txn said.operation) }
 {
-    match operation {
+    let txn = said.txn;
+    match said.operation {
         trace_reading::Operation::ReadList { key, first, end } => {
             lists.extend_from_slice(&[Listing {
                 place,
