@@ -46,12 +46,7 @@ fn members(alloc: Global, recording: &Recording, indexed: &Indexed) -> Result<Ma
     ensures found { IfOk result (λ made. IsCommitted (subject_of recording.now indexed.now.attempts.items indexed.now.trace indexed.now.times.items indexed.now.ranks.items indexed.now.lists.items) made.code made.text.items) }
     ensures codes { IfOk result (λ made. IsVerdict made.code) }
 {
-    match dirty_list(
-        alloc,
-        &indexed.trace,
-        recording.listed(),
-        &indexed.lists,
-    )? {
+    match dirty_list(alloc, &indexed.trace, recording.listed(), &indexed.lists)? {
         None => holds(alloc, indexed.trace.transactions.len()),
         Some(list) => dirty(alloc, recording, indexed, list),
     }

@@ -170,12 +170,7 @@ fn members_status(alloc: Global, recording: &Recording, indexed: &Indexed) -> Re
     requires { CommittedReads indexed.now.trace }
     ensures { IfOk result (λ code. IsStatus OfReads (subject_of recording.now indexed.now.attempts.items indexed.now.trace indexed.now.times.items indexed.now.ranks.items indexed.now.lists.items) code) }
 {
-    match dirty_list(
-        alloc,
-        &indexed.trace,
-        recording.listed(),
-        &indexed.lists,
-    )? {
+    match dirty_list(alloc, &indexed.trace, recording.listed(), &indexed.lists)? {
         None => Ok(status::DONE),
         Some(_) => Ok(status::REFUSED),
     }

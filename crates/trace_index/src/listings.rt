@@ -22,11 +22,7 @@ pub fn listings_of(alloc: Global, said: &[Said]) -> Result<Vec<Listing>, NoMemor
     Ok(lists)
 }
 
-fn add_listing(
-    lists: &mut Vec<Listing>,
-    place: usize,
-    said: Said,
-) -> Result<(), NoMemory>
+fn add_listing(lists: &mut Vec<Listing>, place: usize, said: Said) -> Result<(), NoMemory>
     ensures { OnOk result (lists.new.items ≡ lists.old.items ++ listing_of place said.txn said.operation) }
 {
     let txn = said.txn;
