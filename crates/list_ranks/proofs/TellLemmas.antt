@@ -1,5 +1,5 @@
 -- Why certified ranks tell what lists do.
-use Rattle.std.proofs.Common.{◌≡◌, ℕ, zero, suc, ◌+◌, ◌<◌, ◌≤◌, ◌⊎◌, List, [], ◌∷◌, ◌++◌, Option, Some, None, length, get_or, slice_get, take, inl, inr, refl, sym, subst, ap, ◌∙◌, arith}
+use Rattle.std.proofs.Common.{◌≡◌, ℕ, zero, suc, ◌+◌, ◌<◌, ◌≤◌, ◌⊎◌, List, ◌++◌, Option, Some, None, length, get_or, slice_get, take, inl, inr, refl, sym, subst, ap, ◌∙◌, arith}
 use Rattle.std.proofs.lemmas.Option.{same_Some, slice_get_within, slice_get-get_or}
 use Rattle.std.specs.Map.{lookup}
 use Rattle.trace_rules.specs.declared.trace.Operation.TheVariants.{Read}
@@ -18,7 +18,7 @@ use Rattle.list_orders.proofs.SeesLemmas.{sees_nothing, sees_others, sees_own}
 use Rattle.list_ranks.specs.declared.homes.Append.{Append}
 use Rattle.list_ranks.specs.Hints.{Hints, IsHome, longest_of, pair_eq, place_at, rank_among, rank_of, version_in, version_of, writer_at}
 use Rattle.list_ranks.specs.Certified.{AreCertified, AreMembers, AreSteps, IsChosen, IsFine, IsLast, IsLastOf, IsLeft, IsPlaced, IsRest}
-use Rattle.list_ranks.specs.Told.{AreTold}
+use Rattle.list_ranks.specs.Told.{AllDone, AreTold}
 use Rattle.list_ranks.proofs.HintLemmas.{once_home, place_is, writer_is}
 use Rattle.list_ranks.proofs.RankLemmas.{ArePair, behind, kept_in_front, pair_by, pair_comes, parted, rank_is}
 
@@ -245,17 +245,22 @@ module _ (trace : Trace) (listed : List ℕ) (lists : List Listing) (versions : 
         | inr there ↦ (c.true_ranks there.0 (slice_get_within hints.ranks there.0 r there.1) r there.1).done
       ]
 
--- where there is no list, the versions tell all
-pub none_tell : (trace : Trace) (listed : List ℕ) (versions ranks : List Rank) → ranks ≡ versions → AreTold trace listed [] versions ranks
-none_tell trace listed versions ranks same = subst (λ (rs : List Rank). AreTold trace listed [] versions rs) (sym same) (record {
+-- ---- where there is no list
+nobody : (lists : List Listing) (i : ℕ) (l : Listing) → length lists ≡ 0 → slice_get lists i ≡ Some l → ⊥
+nobody lists i l none at = let within = slice_get_within lists i l at in absurd (omega (arith, within, none))
+
+-- the versions tell all
+pub none_tell : (trace : Trace) (listed : List ℕ) (lists : List Listing) (versions ranks : List Rank) → length lists ≡ 0 → ranks ≡ versions → AreTold trace listed lists versions ranks
+none_tell trace listed lists versions ranks none same = subst (λ (rs : List Rank). AreTold trace listed lists versions rs) (sym same) (record {
   keeps = λ level st is kept sees. kept;
-  sees = λ level st is kept. record { each = λ i l at done. absurd (nobody i l at) };
+  sees = λ level st is kept. record { each = λ i l at done. absurd (nobody lists i l none at) };
   fewer = λ st kept. kept;
   done = λ given. given;
 })
-  where
-    nobody : (i : ℕ) (l : Listing) → slice_get [] i ≡ Some l → ⊥
-    nobody i l at = absurd (cc)
+
+-- and no member is of an uncommitted transaction
+pub none_dirty : (trace : Trace) (listed : List ℕ) (lists : List Listing) → length lists ≡ 0 → AllDone trace listed lists
+none_dirty trace listed lists none = record { each = λ i l at done. absurd (nobody lists i l none at) }
 
 pub told_ranks : (trace : Trace) (listed : List ℕ) (lists : List Listing) (versions : List Rank) (hints : Hints) (ranks : List Rank) → AreCertified trace listed lists versions hints → ranks ≡ versions ++ hints.ranks → AreTold trace listed lists versions ranks
 told_ranks trace listed lists versions hints ranks c same = subst (λ (rs : List Rank). AreTold trace listed lists versions rs) (sym same) (certified_tell trace listed lists versions hints c)

@@ -6,7 +6,7 @@ ghost use Rattle.list_orders.specs.Lists.{WriteAt};
 ghost use Rattle.list_ranks.specs.Told.{AllDone, AreDoneMembers, HasDone, IsDirtyList};
 
 use crate::building::homes_of;
-use crate::homes::is_committed;
+use crate::homes::{is_committed, operations_in};
 use crate::listings::list_at;
 use indexmap::IndexMap;
 use list_orders::{Listing, listed_between};
@@ -15,6 +15,7 @@ use std::alloc::Global;
 use trace_rules::{Operation, Trace};
 
 /// The first list of a committed transaction with a member that no committed one wrote. NoMemory where memory is refused.
+#[tactic(auto, using(crate::proofs::TellLemmas::none_dirty))]
 pub fn dirty_list(
     alloc: Global,
     trace: &Trace,
@@ -119,7 +120,7 @@ fn has_done(trace: &Trace, key: u64, value: u64) -> bool
     ensures yes { result ≡ true → HasDone trace.now key value }
     ensures no { result ≡ false → HasDone trace.now key value → ⊥ }
 {
-    for place in 0..trace.operations.len() {
+    for place in 0..operations_in(trace) {
         if is_done_write(trace, place, key, value) {
             return true;
         }

@@ -84,7 +84,7 @@ fn writes(txn: usize, same: bool) -> Option<usize>
 pub fn are_homes(trace: &Trace, hints: &Hints) -> bool
     ensures { result ≡ true → AreHomes trace.now hints.now }
 {
-    for place in 0..trace.operations.len() {
+    for place in 0..operations_in(trace) {
         if !is_home(trace, hints, place) {
             return false;
         }
@@ -99,6 +99,13 @@ fn is_home(trace: &Trace, hints: &Hints, place: usize) -> bool
         Some(Operation::Write { key, value, .. }) => hints.home(*key, *value) == Some(place),
         _ => true,
     }
+}
+
+/// How many operations there are.
+pub fn operations_in(trace: &Trace) -> usize
+    ensures { result ≡ length trace.now.operations }
+{
+    trace.operations.len()
 }
 
 /// Whether the transaction committed. False where there is no such transaction.

@@ -4,8 +4,8 @@ ghost use Rattle.trace_rules.specs.Trace.{Done};
 ghost use Rattle.list_orders.specs.declared.listing.Listing.{Listing as ListingOf};
 ghost use Rattle.list_orders.specs.Listings.{values_of};
 ghost use Rattle.list_orders.specs.Told.{IsBegun};
-ghost use Rattle.list_ranks.specs.Certified.{AreFine, AreMembers, IsBegunIn, IsChosen, IsFine, IsLastOf, IsMember, IsReadOf};
-ghost use Rattle.list_ranks.specs.Hints.{AreHomes};
+ghost use Rattle.list_ranks.specs.Certified.{AreFine, AreMembers, AreSteps, IsBegunIn, IsChosen, IsFine, IsLastOf, IsMember, IsReadOf};
+ghost use Rattle.list_ranks.specs.Hints.{AreHomes, longest_of};
 ghost use Rattle.list_ranks.specs.Wrong.{IsListOf, IsStop, Stops};
 
 use crate::hints::Hints;
@@ -86,7 +86,26 @@ fn check_list(
 {
     let values = listed_between(listed, list.first, list.end);
     check_read(trace, hints, list, values)?;
-    check_members(trace, hints, list.txn, list.key, values)?;
+    match check_members(trace, hints, list.txn, list.key, values) {
+        Ok(()) => check_order(trace, listed, lists, hints, place, list, values),
+        Err(stop) => Err(stop),
+    }
+}
+
+/// Whether the list begins its key's longest one, and rises where it is that.
+fn check_order(
+    trace: &Trace,
+    listed: &[u64],
+    lists: &[Listing],
+    hints: &Hints,
+    place: usize,
+    list: Listing,
+    values: &[u64],
+) -> Result<(), Stop>
+    ensures begun { OnOk result (0 < length values.now → IsBegunIn trace.now listed.now lists.now hints.now list.key values.now) }
+    ensures steps { OnOk result (longest_of hints.now list.key ≡ Some place → AreSteps trace.now hints.now list.key values.now) }
+    ensures wrong { IfErr result (λ stop. IsListOf trace.now listed.now lists.now list.txn list.key values.now → IsStop trace.now listed.now lists.now stop) }
+{
     check_begun(trace, listed, lists, hints, list, values)?;
     if hints.longest(list.key) == Some(place) {
         check_steps(trace, hints, list.txn, list.key, values)

@@ -1,6 +1,5 @@
 // The order that lists tell, or which one is wrong.
-ghost use Rattle.std.specs.Prelude.{ℕ, List, [], IfErr, IfOk, OnOk};
-ghost use Rattle.trace_rules.specs.Trace.{Trace as TraceOf};
+ghost use Rattle.std.specs.Prelude.{IfErr, IfOk, OnOk};
 ghost use Rattle.list_ranks.specs.Certified.{AreCertified};
 ghost use Rattle.list_ranks.specs.Told.{IsTold};
 ghost use Rattle.list_ranks.specs.Wrong.{IsStop};
@@ -32,6 +31,7 @@ pub enum Told {
 /// What the lists of a trace tell besides these versions: the ranks of their writers, by key and version, under keys above all of
 /// theirs; or which list no stamps give. Unknown does not come where each value is written once at a key, lists are read in place
 /// of their last members, and numbers stay in their range. NoMemory where memory is refused.
+#[tactic(auto, using(crate::proofs::TellLemmas::none_tell))]
 pub fn told_by_lists(
     alloc: Global,
     trace: &Trace,
@@ -42,18 +42,11 @@ pub fn told_by_lists(
     ensures { IfOk result (IsTold trace.now listed.now lists.now versions.now) }
 {
     if lists.is_empty() {
-        return versions_alone(alloc, versions);
+        let ranks = versions.to_vec(alloc)?;
+        return Ok(Told::Ranks(ranks));
     }
     let hints = hints_of(alloc, trace, listed, lists, versions)?;
     told_by_hints(alloc, trace, listed, lists, versions, &hints)
-}
-
-/// The versions, where there is no list.
-fn versions_alone(alloc: Global, versions: &[Rank]) -> Result<Told, NoMemory>
-    ensures { IfOk result (λ told. (trace : TraceOf) (listed : List ℕ) → IsTold trace listed [] versions.now told) }
-{
-    let ranks = versions.to_vec(alloc)?;
-    Ok(Told::Ranks(ranks))
 }
 
 #[tactic(auto, using(crate::proofs::TellLemmas::told_ranks))]

@@ -7,7 +7,7 @@ ghost use Rattle.list_ranks.specs.Hints.{AreHomes, IsHome, longest_of, rank_of, 
 ghost use Rattle.list_ranks.specs.Wrong.{IsStop, Lacks, Stops};
 
 use crate::hints::Hints;
-use crate::homes::{Member, is_committed, member_at};
+use crate::homes::{Member, is_committed, member_at, operations_in};
 use crate::listings::{has_at, list_at};
 use crate::wrong::{Flaw, Stop, WrongList};
 use list_orders::{Listing, listed_between};
@@ -25,7 +25,7 @@ pub fn check_writes(
     ensures sound { OnOk result (ArePlaced trace.now listed.now lists.now hints.now) }
     ensures wrong { IfErr result (IsStop trace.now listed.now lists.now) }
 {
-    for place in 0..trace.operations.len() {
+    for place in 0..operations_in(trace) {
         check_at(trace, listed, lists, hints, place)?;
     }
     Ok(())

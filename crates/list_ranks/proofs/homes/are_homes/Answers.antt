@@ -9,4 +9,4 @@ pub loop-place-preserved : goal.loop-place-preserved
 loop-place-preserved c = below_next (λ (q : ℕ). (w k v : ℕ) → WriteAt c.args.trace.now q w k v → home_of c.args.hints.now k v ≡ Some q) c.loop-place.place c.loop-place.invariant (c.is_home.ensures (search rules))
 
 pub returns : goal.returns
-returns c = λ go q w k v at. let within = slice_get_within c.args.trace.now.operations q _ at in c.loop-place.invariant q (omega (arith, within, c.loop-place-test.false)) w k v at
+returns c = λ go q w k v at. let within = slice_get_within c.args.trace.now.operations q _ at in let count = c.operations_in-place-end.ensures in c.loop-place.invariant q (omega (arith, within, count, c.loop-place-test.false)) w k v at

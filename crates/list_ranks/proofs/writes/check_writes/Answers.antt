@@ -12,4 +12,4 @@ loop-place-preserved c =
     c.loop-place.place c.loop-place.invariant c.in_ok-check_at.ensures.sound
 
 pub returns-clause-sound : goal.returns-clause-sound
-returns-clause-sound c = λ q less. c.loop-place.invariant q (omega (arith, less, c.loop-place-test.false))
+returns-clause-sound c = λ q less. let count = c.operations_in-place-end.ensures in c.loop-place.invariant q (omega (arith, less, count, c.loop-place-test.false))
