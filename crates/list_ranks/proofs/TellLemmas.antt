@@ -127,8 +127,7 @@ module _ (trace : Trace) (listed : List ℕ) (lists : List Listing) (versions : 
       | inr there ↦
           let t = c.true_ranks there.0 (slice_get_within hints.ranks there.0 _ there.1) (record { key = hints.above + k; version = n; txn = w }) there.1 in
           let name = t.name in
-          let same : t.key ≡ k = omega (arith, name) in
-          (
+          let same : t.key ≡ k = omega (arith, name) in (
             sym (subst (λ (m : ℕ). version_of hints m w ≡ n) same t.version),
             t.place,
             t.value,

@@ -100,7 +100,11 @@ impl Hints {
         for place in 0..lists.len() {
             let list = lists[place];
             if self.longest(list.key) == Some(place) {
-                self.add_list(trace, list.key, listed_between(listed, list.first, list.end))?;
+                self.add_list(
+                    trace,
+                    list.key,
+                    listed_between(listed, list.first, list.end),
+                )?;
             }
         }
         Ok(())

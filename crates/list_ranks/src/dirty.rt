@@ -103,12 +103,7 @@ fn is_done_at(
 }
 
 /// Whether a committed transaction wrote the value: where the hint has it, or anywhere.
-fn is_done_member(
-    trace: &Trace,
-    homes: &IndexMap<(u64, u64), usize>,
-    key: u64,
-    value: u64,
-) -> bool
+fn is_done_member(trace: &Trace, homes: &IndexMap<(u64, u64), usize>, key: u64, value: u64) -> bool
     ensures yes { result ≡ true → HasDone trace.now key value }
     ensures no { result ≡ false → HasDone trace.now key value → ⊥ }
 {
@@ -134,13 +129,13 @@ fn is_done_write(trace: &Trace, place: usize, key: u64, value: u64) -> bool
     ensures no { result ≡ false → (w : ℕ) → WriteAt trace.now place w key value → Done trace.now w → ⊥ }
 {
     match trace.operations.get(place) {
-        Some(Operation::Write {
-            txn,
-            key: written,
-            value: found,
-        }) => {
-            *written == key && *found == value && is_committed(&trace.transactions, *txn)
-        }
+        Some(
+            Operation::Write {
+                txn,
+                key: written,
+                value: found,
+            },
+        ) => { *written == key && *found == value && is_committed(&trace.transactions, *txn) }
         _ => false,
     }
 }

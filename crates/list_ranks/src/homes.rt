@@ -65,11 +65,13 @@ pub fn writer_at(trace: &Trace, place: usize, key: u64, value: u64) -> Option<us
     ensures { IfSome result (λ txn. WriteAt trace.now place txn key value) }
 {
     match trace.operations.get(place) {
-        Some(Operation::Write {
-            txn,
-            key: written,
-            value: found,
-        }) => writes(*txn, *written == key && *found == value),
+        Some(
+            Operation::Write {
+                txn,
+                key: written,
+                value: found,
+            },
+        ) => writes(*txn, *written == key && *found == value),
         _ => None,
     }
 }

@@ -41,13 +41,7 @@ fn check_at(trace: &Trace, lists: &[Listing], hints: &Hints, place: usize) -> Re
     }
 }
 
-fn is_true(
-    trace: &Trace,
-    lists: &[Listing],
-    hints: &Hints,
-    rank: Rank,
-    witness: usize,
-) -> bool
+fn is_true(trace: &Trace, lists: &[Listing], hints: &Hints, rank: Rank, witness: usize) -> bool
     ensures { result ≡ true → IsTrueRank trace.now lists.now hints.now rank }
 {
     let Some(key) = rank.key.checked_sub(hints.above()) else {
@@ -67,11 +61,13 @@ fn value_written(trace: &Trace, place: usize, txn: usize, key: u64) -> Option<u6
     ensures { IfSome result (λ value. WriteAt trace.now place txn key value) }
 {
     match trace.operations.get(place) {
-        Some(Operation::Write {
-            txn: writer,
-            key: written,
-            value,
-        }) => {
+        Some(
+            Operation::Write {
+                txn: writer,
+                key: written,
+                value,
+            },
+        ) => {
             if *writer == txn && *written == key {
                 Some(*value)
             } else {

@@ -115,7 +115,17 @@ fn check_pair(
     if version_of(hints, key, member.append.txn) < version {
         return Ok(());
     }
-    split(trace, hints, reader, key, values, place, member, next, version as usize)
+    split(
+        trace,
+        hints,
+        reader,
+        key,
+        values,
+        place,
+        member,
+        next,
+        version as usize,
+    )
 }
 
 /// That the member stands between two of the next one's writer, where its first one is at this place.

@@ -70,9 +70,7 @@ fn check_where_listed(
     }
     match hints.longest(key) {
         None => Ok(()),
-        Some(list) => check_write(
-            trace, listed, lists, hints, place, txn, key, value, list,
-        ),
+        Some(list) => check_write(trace, listed, lists, hints, place, txn, key, value, list),
     }
 }
 
@@ -103,7 +101,15 @@ fn check_write(
     }
     let values = listed_between(listed, big.first, big.end);
     check_rest(
-        trace, hints, big.txn, key, values, place, txn, value, rank.version,
+        trace,
+        hints,
+        big.txn,
+        key,
+        values,
+        place,
+        txn,
+        value,
+        rank.version,
     )
 }
 
@@ -144,7 +150,15 @@ fn check_rest(
         return Err(Stop::Unknown);
     }
     check_left(
-        trace, hints, reader, key, values, place, txn, value, version as usize,
+        trace,
+        hints,
+        reader,
+        key,
+        values,
+        place,
+        txn,
+        value,
+        version as usize,
     )
 }
 
