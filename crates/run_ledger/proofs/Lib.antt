@@ -1,0 +1,12 @@
+mod ListFacts
+mod LentParts
+mod NotLent
+mod AskedStores
+mod PartsNow
+mod Renewing
+mod Locals
+mod FirstParts
+mod Runs
+mod Steps
+mod Moves
+mod Orders

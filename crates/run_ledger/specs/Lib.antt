@@ -1,0 +1,5 @@
+pub mod Held
+pub mod System
+pub mod Rule
+pub mod Seats
+pub mod Laws
