@@ -3,6 +3,7 @@ use Rattle.std.proofs.Common.{◌≡◌, ℕ, zero, suc, ◌+◌, ◌<◌, ◌�
 use Rattle.std.specs.Prelude.{sum_by}
 use Rattle.std.proofs.lemmas.List.Sums.{sum_by-cons}
 use Rattle.std.proofs.lemmas.List.Elements.{All-head, All-tail}
+use Rattle.stamp_base.specs.SetupNumbers.{SetupNumbers}
 use Rattle.stamp_base.specs.declared.stores.Store.{Store}
 use Rattle.stamp_base.specs.declared.stores.Store.TheVariants as store
 use Rattle.history_book.specs.declared.item.Item.{Item}
@@ -11,7 +12,9 @@ use Rattle.machine.specs.State.{State, opening}
 use Rattle.machine.specs.Events.Take.{rules_of}
 use Rattle.machine.specs.Machine.{Move, Step, AreSteady, IsSteadyAt, reading_of, seen_after, state_after, stepped}
 use Rattle.machine.proofs.PartsKept.{leaves_parts, seen_up}
+use Rattle.cause_laws.specs.Bounds.{Bounded}
 use Rattle.cause_laws.specs.ShownInvariant.{ExplainedInvariant}
+use Rattle.cause_laws.proofs.BoundsKept.{bounded_first, bounds_stay}
 use Rattle.cause_laws.proofs.AlwaysExplained.{tells_at_first, tells_stay}
 use Rattle.script_data.specs.Data.{ScriptData, IsSound}
 use Rattle.command_semantics.specs.Next.{Clocks}
@@ -95,15 +98,22 @@ moves_steady plan w (e ∷ es) sound at room =
     (time.steady, subst (λ n. AreSteady plan.setup.skew n (moves_of plan (after plan w e.event) es)) (seen_up (state_of w) te (fate_of plan w.played te)) rest)
 
 -- ---- all facts hold
-explained_after : (plan : ScriptData) (w : World) (run : List Entry) → IsSound plan → IsTimed plan w → w.played.clock + risen_by run ≤ far → ExplainedInvariant (state_of w) w.played.items → ExplainedInvariant (state_of (after_all plan w run)) (after_all plan w run).played.items
+record Stands (w : World) : Type 0 where
+  told : ExplainedInvariant (state_of w) w.played.items
+  bounded : Bounded (state_of w)
+
+stands_after : (plan : ScriptData) (w : World) (run : List Entry) → IsSound plan → IsTimed plan w → w.played.clock + risen_by run ≤ far → Stands w → Stands (after_all plan w run)
 unfolding after_all
-explained_after plan w [] sound at room told = told
-explained_after plan w (e ∷ es) sound at room told =
+stands_after plan w [] sound at room stands = stands
+stands_after plan w (e ∷ es) sound at room stands =
     let te : machine.Event = timed_in plan w e.event in
+    let fate = fate_of plan w.played te in
     let time = in_time_there plan w e.event sound at (low_now w.played.clock (e ∷ es) room) in
-    let steady = subst (λ s. IsSteadyAt s.skew (state_of w).seen (reading_of te)) (sym at.setup) time.steady in
-    explained_after plan (after plan w e.event) es sound (timed_after plan w e.event at time) (room_then w.played.clock (after plan w e.event).played.clock e es time.at_most room)
-    (tells_stay (state_of w) w.played.items te (fate_of plan w.played te) told steady)
+    let steady = subst (λ (s : SetupNumbers). IsSteadyAt s.skew (state_of w).seen (reading_of te)) (sym at.setup) time.steady in
+    stands_after plan (after plan w e.event) es sound (timed_after plan w e.event at time) (room_then w.played.clock (after plan w e.event).played.clock e es time.at_most room) (record {
+      told = tells_stay (state_of w) w.played.items te fate stands.told steady;
+      bounded = bounds_stay (state_of w) w.played.items te fate stands.told stands.bounded steady;
+    })
 
 items_after_all : (plan : ScriptData) (w : World) (tick : ℕ) (run : List Entry) → IsRun plan w tick run → (after_all plan w run).played.items ≡ w.played.items ++ flat_map (λ e. e.kept) run
 unfolding after_all IsRun
@@ -117,10 +127,14 @@ timed_at_first : (plan : ScriptData) → IsTimed plan (opening_of plan)
 timed_at_first plan = record { setup = refl; seen = omega arith }
 
 pub explained : RunsAreExplained
-explained plan run sound from = record {
-  stands = explained_after plan (opening_of plan) run sound (timed_at_first plan) (let up = from.risen in omega (arith, up)) (tells_at_first plan.setup sound.setup);
-  kept = items_after_all plan (opening_of plan) 1 run from.is_run;
-}
+explained plan run sound from =
+    let first : Stands (opening_of plan) = record { told = tells_at_first plan.setup sound.setup; bounded = bounded_first plan.setup } in
+    let last = stands_after plan (opening_of plan) run sound (timed_at_first plan) (let up = from.risen in omega (arith, up)) first in
+    record {
+      told = last.told;
+      bounded = last.bounded;
+      kept = items_after_all plan (opening_of plan) 1 run from.is_run;
+    }
 
 -- ---- clock and calls are far from the ends of the numbers
 clock_after_all : (plan : ScriptData) (w : World) (run : List Entry) → IsSound plan → IsTimed plan w → w.played.clock + risen_by run ≤ far → (after_all plan w run).played.clock ≤ far

@@ -2,6 +2,7 @@
 use Rattle.std.specs.Prelude.{◌≡◌, ℕ, ◌≤◌, List, flat_map, map}
 use Rattle.std.specs.List.Sorted.{IsPermutation, IsNonDecreasingBy}
 use Rattle.history_book.specs.declared.item.Item.{Item}
+use Rattle.cause_laws.specs.Bounds.{Bounded}
 use Rattle.cause_laws.specs.ShownInvariant.{ExplainedInvariant}
 use Rattle.script_data.specs.Data.{ScriptData, IsSound}
 use Rattle.split_parts.specs.declared.acting.Acted.{Acted}
@@ -34,9 +35,10 @@ abbrev pub SortedLogsAreRuns : Type 0
 SortedLogsAreRuns =
     (plan : ScriptData) (log sorted : List Entry) (told : AreRunOf plan log) → IsPermutation log sorted → IsNonDecreasingBy (λ (e : Entry). e.tick) sorted → sorted ≡ told.run
 
--- all facts hold of what a run leads to, and its history is what its entries kept
+-- all facts hold of what a run leads to, its numbers are far from their ends, and its history is what its entries kept
 pub record IsExplained (plan : ScriptData) (run : List Entry) (w : World) : Type 0 where
-  pub stands : ExplainedInvariant w.played.state w.played.items
+  pub told : ExplainedInvariant w.played.state w.played.items
+  pub bounded : Bounded w.played.state
   pub kept : w.played.items ≡ flat_map (λ e. e.kept) run
 
 abbrev pub RunsAreExplained : Type 0

@@ -6,6 +6,8 @@ mod held;
 mod laws;
 mod log;
 mod rule;
+#[cfg(test)]
+mod tests;
 mod word;
 
 pub use held::HeldPart;
