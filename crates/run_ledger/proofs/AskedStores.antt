@@ -5,6 +5,8 @@ use Rattle.stamp_base.specs.declared.stores.Store.{Store}
 use Rattle.stamp_base.specs.declared.stores.Store.TheVariants as store
 use Rattle.port_io.specs.Planned.{PlannedFault, planned_fate}
 use Rattle.history_book.specs.declared.cause.Cause.{Cause}
+use Rattle.system_parts.specs.Rows.{Row}
+use Rattle.system_parts.specs.Record.{MasterRecord}
 use Rattle.system_parts.specs.Instance.{InstanceEntry, held_of}
 use Rattle.machine.specs.declared.event.Event.TheVariants as timed
 use Rattle.machine.specs.State.{Client, State}
@@ -96,7 +98,7 @@ store_lent l event.SweepStep has = has.1
 store_lent l _ has = tt
 
 -- ---- its fate
-cells_fated : (faults : List PlannedFault) (rows : List _) (calls : ℕ) (part : Option CellRows) → IsSome part → IfSome part (λ p. (rows ≡ p.rows) × (calls ≡ p.calls)) → cells_fate faults part ≡ planned_fate faults store.Cells (calls + 1)
+cells_fated : (faults : List PlannedFault) (rows : List Row) (calls : ℕ) (part : Option CellRows) → IsSome part → IfSome part (λ p. (rows ≡ p.rows) × (calls ≡ p.calls)) → cells_fate faults part ≡ planned_fate faults store.Cells (calls + 1)
 cells_fated faults rows calls None lent of = absurd (true≢false (sym lent))
 cells_fated faults rows calls (Some p) lent of = ap (λ n. planned_fate faults store.Cells (n + 1)) (sym of.1)
 
@@ -122,7 +124,7 @@ base_is base (Some b) lent of = sym of
 
 holder_is : (w : World) (part : Option Record) → IsSome part → IfSome part (λ p. Has w (OfMaster p)) → holder_by part ≡ unwrap_or (state_of w).master.holder 0
 holder_is w None lent of = absurd (true≢false (sym lent))
-holder_is w (Some p) lent of = ap (λ m. unwrap_or m.holder 0) (sym of.1)
+holder_is w (Some p) lent of = ap (λ (m : MasterRecord). unwrap_or m.holder 0) (sym of.1)
 
 node_is : (w : World) (part : Option Record) (to : Target) (lent : (to ≡ target.Master) → IsSome part) → IfSome part (λ p. Has w (OfMaster p)) → node_for (holder_by part) to ≡ node_for (unwrap_or (state_of w).master.holder 0) to
 node_is w part (target.Node node) lent of = refl

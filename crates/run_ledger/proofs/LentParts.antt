@@ -15,7 +15,7 @@ use Rattle.split_parts.specs.Lending.{no_parts}
 use Rattle.part_laws.specs.Local.{AreOf}
 use Rattle.run_ledger.specs.Held.{Part, OfSession, OfJanitor, OfClock, OfNode, OfCells, OfTable, OfMaster, OfNames, put, lent_by}
 use Rattle.run_ledger.specs.System.{World, state_of, Has, Have, IsWorld}
-use Rattle.run_ledger.proofs.ListFacts.{own_set, other_set, set_many, none_at, if_none, if_some, if_weaker}
+use Rattle.run_ledger.proofs.ListFacts.{own_set, other_set, set_many, same_at, if_none, if_some, if_weaker}
 
 -- each part that is lent is the world's
 pub record AreIn (plan : ScriptData) (l : Parts) (w : World) : Type 0 where
@@ -34,7 +34,7 @@ none_in : (plan : ScriptData) (w : World) → AreIn plan (no_parts plan) w
 none_in plan w = record {
   plan_is = refl;
   many = refl;
-  sessions = λ i. if_none (λ (s : Session). (s.number ≡ i) × Has w (OfSession s)) _ (none_at 16 i);
+  sessions = λ i. if_none (λ (s : Session). (s.number ≡ i) × Has w (OfSession s)) (slice_index_or (no_parts plan).sessions i None) (same_at 16 i None);
   janitor = tt;
   clock = tt;
   node = tt;

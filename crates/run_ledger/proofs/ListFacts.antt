@@ -30,10 +30,10 @@ set_many [] n x = refl
 set_many (y ∷ ys) zero x = refl
 set_many (y ∷ ys) (suc n) x = ap suc (set_many ys n x)
 
-pub none_at : {X : Type 0} (k i : ℕ) → slice_index_or (replicate k (None {T = X})) i None ≡ None
-none_at zero i = refl
-none_at (suc k) zero = refl
-none_at (suc k) (suc i) = none_at k i
+pub same_at : {X : Type 0} (k i : ℕ) (x : X) → slice_index_or (replicate k x) i x ≡ x
+same_at zero i x = refl
+same_at (suc k) zero x = refl
+same_at (suc k) (suc i) x = same_at k i x
 
 pub get_replicate : {X : Type 0} (k i : ℕ) (x : X) → i < k → slice_get (replicate k x) i ≡ Some x
 get_replicate zero i x within = absurd (omega (arith, within))

@@ -7,11 +7,11 @@ use Rattle.script_data.specs.Data.{ScriptData}
 use Rattle.split_parts.specs.Parts.{Parts, Session}
 use Rattle.split_parts.specs.Lending.{no_parts}
 use Rattle.run_ledger.specs.Held.{Part, OfSession, OfJanitor, OfClock, OfNode, OfCells, OfTable, OfMaster, OfNames, Place, AtSession, AtJanitor, AtClock, AtNode, AtCells, AtTable, AtMaster, AtNames, place_of, same_place, at_place, times, put, lent_by, Lends}
-use Rattle.run_ledger.proofs.ListFacts.{other_set, none_at, is_not_none}
+use Rattle.run_ledger.proofs.ListFacts.{other_set, same_at, is_not_none}
 
 -- nothing is lent of no parts
 no_part_lent : (plan : ScriptData) (p : Place) → Lends (no_parts plan) p → ⊥
-no_part_lent plan (AtSession i) lends = is_not_none _ lends (none_at 16 i)
+no_part_lent plan (AtSession i) lends = is_not_none (slice_index_or (no_parts plan).sessions i None) lends (same_at 16 i None)
 no_part_lent plan AtJanitor lends = true≢false (sym lends)
 no_part_lent plan AtClock lends = true≢false (sym lends)
 no_part_lent plan (AtNode n) lends = lends

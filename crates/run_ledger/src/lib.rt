@@ -5,6 +5,7 @@
 mod held;
 mod laws;
 mod log;
+mod making;
 mod rule;
 #[cfg(test)]
 mod tests;

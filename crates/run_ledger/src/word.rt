@@ -1,4 +1,5 @@
 ghost use Rattle.std.specs.Prelude.{◌≡◌, ◌≤◌, ◌<◌, ◌+◌, ◌-◌, [], IfOk, length};
+ghost use Rattle.script_data.specs.Data.{IsSound};
 ghost use Rattle.split_parts.specs.Plans.{plan_data};
 ghost use Rattle.run_ledger.specs.Rule.{seat_limit, first_view, parted, one_share, without_all, all_held, without_first, first_held, joined, risen_by, rise_of, IsLocal, DrawsOne, EndsAt, AreReached};
 ghost use Rattle.run_ledger.specs.Seats.{IsSeat};
@@ -134,6 +135,14 @@ impl RunLedger {
         ensures reached { AreReached self.now.plan seat.old.me.0.held }
     {
         self.look_for::<Brand>(seat);
+    }
+
+    /// What the type says of the plan.
+    pub(crate) fn tell_plan(&self)
+        ensures { IsSound self.now.plan }
+    {
+        // (what a type says of a value is known once a field was read)
+        let _table = &self.table;
     }
 
     /// The seat has every share. Its entries, in the order of their ticks, are a run from the opening, which leaves the parts that
