@@ -126,11 +126,11 @@ holder_is : (w : World) (part : Option Record) → IsSome part → IfSome part (
 holder_is w None lent of = absurd (true≢false (sym lent))
 holder_is w (Some p) lent of = ap (λ (m : MasterRecord). unwrap_or m.holder 0) (sym of.1)
 
-node_is : (w : World) (part : Option Record) (to : Target) (lent : (to ≡ target.Master) → IsSome part) → IfSome part (λ p. Has w (OfMaster p)) → node_for (holder_by part) to ≡ node_for (unwrap_or (state_of w).master.holder 0) to
+pub node_is : (w : World) (part : Option Record) (to : Target) (lent : (to ≡ target.Master) → IsSome part) → IfSome part (λ p. Has w (OfMaster p)) → node_for (holder_by part) to ≡ node_for (unwrap_or (state_of w).master.holder 0) to
 node_is w part (target.Node node) lent of = refl
 node_is w part target.Master lent of = holder_is w part (lent refl) of
 
-record_for : (l : Parts) (to : Target) → HasRecordFor l to → (to ≡ target.Master) → IsSome l.master
+pub record_for : (l : Parts) (to : Target) → HasRecordFor l to → (to ≡ target.Master) → IsSome l.master
 record_for l (target.Node node) has is = absurd (cc)
 record_for l target.Master has is = has
 

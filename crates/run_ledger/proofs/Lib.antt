@@ -5,6 +5,7 @@ mod AskedStores
 mod PartsNow
 mod Renewing
 mod Locals
+mod AbsentNodes
 mod FirstParts
 mod Runs
 mod Steps

@@ -1,14 +1,17 @@
 -- What stands behind the clauses of the word.
-use Rattle.std.specs.Prelude.{◌≡◌, ℕ, ◌≤◌, List, flat_map, map}
+use Rattle.std.specs.Prelude.{◌≡◌, ℕ, ◌≤◌, List, [], flat_map, map, Option, None, Some}
 use Rattle.std.specs.List.Sorted.{IsPermutation, IsNonDecreasingBy}
 use Rattle.history_book.specs.declared.item.Item.{Item}
 use Rattle.cause_laws.specs.Bounds.{Bounded}
 use Rattle.cause_laws.specs.ShownInvariant.{ExplainedInvariant}
+use Rattle.machine.specs.declared.event.Event as machine
+use Rattle.machine.specs.declared.event.Event.TheVariants as timed
 use Rattle.script_data.specs.Data.{ScriptData, IsSound}
 use Rattle.split_parts.specs.declared.acting.Acted.{Acted}
 use Rattle.split_parts.specs.declared.event.Event.{Event}
+use Rattle.split_parts.specs.declared.event.Event.TheVariants as event
 use Rattle.split_parts.specs.Acts.{Acts, timed_by}
-use Rattle.split_parts.specs.Agrees.{Agrees, HasParts}
+use Rattle.split_parts.specs.Agrees.{Agrees, HasParts, HasRecordFor}
 use Rattle.split_parts.specs.Parts.{Parts, LeasesBySetup}
 use Rattle.run_ledger.specs.declared.log.Entry.{Entry}
 use Rattle.run_ledger.specs.Held.{Part, lent_by, renewed}
@@ -20,6 +23,32 @@ abbrev pub ActsAreLocal : Type 0
 ActsAreLocal =
     (plan : ScriptData) (held : List Part) (now : Parts) (e : Event) (acted : Acted) → HasParts (lent_by plan held) e → Acts (lent_by plan held) now (timed_by (lent_by plan held) e) acted →
     IsLocal plan e acted.items.items held (map (renewed now) held)
+
+-- the node at which the machine's event is made, or that it asks
+abbrev pub node_named : machine.Event → Option ℕ
+node_named (timed.Take node reading) = Some node
+node_named (timed.Renew node reading) = Some node
+node_named (timed.Extend node) = Some node
+node_named (timed.Crash node) = Some node
+node_named (timed.AskBegin session node) = Some node
+node_named (timed.AskCommit session node) = Some node
+node_named (timed.Accept node session reading) = Some node
+node_named (timed.Decide node session) = Some node
+node_named (timed.Put node session) = Some node
+node_named (timed.Answer node session) = Some node
+node_named (timed.SweepOpen node txn) = Some node
+node_named _ = None
+
+-- what tells which node an ask is for
+abbrev pub HasAim : Parts → Event → Type 0
+HasAim l (event.AskBegin session to) = HasRecordFor l to
+HasAim l (event.AskCommit session to) = HasRecordFor l to
+HasAim l _ = Unit {0}
+
+-- an event at a node that the setup lacks appends nothing and leaves all parts
+abbrev pub AbsentNodesDoNothing : Type 0
+AbsentNodesDoNothing =
+    (plan : ScriptData) (held : List Part) (e : Event) (node : ℕ) → HasAim (lent_by plan held) e → node_named (timed_by (lent_by plan held) e) ≡ Some node → plan.setup.nodes ≤ node → IsLocal plan e [] held held
 
 -- parts that are reached agree, and a record among them leases by the setup
 pub record ArePartsThatFit (plan : ScriptData) (held : List Part) (e : Event) : Type 0 where

@@ -1,5 +1,5 @@
 // What stands behind the clauses of the word, for every plan.
-ghost use Rattle.run_ledger.specs.Laws.{ActsAreLocal, ReachedPartsFit, RunsAreExplained, SortedLogsAreRuns};
+ghost use Rattle.run_ledger.specs.Laws.{AbsentNodesDoNothing, ActsAreLocal, ReachedPartsFit, RunsAreExplained, SortedLogsAreRuns};
 
 use part_laws::{acts_are_steps, events_are_local, reached_parts_agree};
 
@@ -12,6 +12,11 @@ pub fn acts_are_local()
     events_are_local();
     acts_are_steps();
 }
+
+/// An event at a node that the setup lacks is local too: it appends nothing, and leaves all parts as they are.
+pub fn absent_nodes_do_nothing()
+    ensures { AbsentNodesDoNothing }
+{}
 
 /// Parts of a state that is reached agree, whatever the event, and a record among them leases by the setup. A tick raises the
 /// clock by 2^40 at most.

@@ -12,7 +12,9 @@ mod tests;
 mod word;
 
 pub use held::HeldPart;
-pub use laws::{acts_are_local, reached_parts_fit, runs_are_explained, sorted_logs_are_runs};
+pub use laws::{
+    absent_nodes_do_nothing, acts_are_local, reached_parts_fit, runs_are_explained, sorted_logs_are_runs,
+};
 pub use log::Entry;
 pub use rule::{Begun, Making, View, WordSeat};
 pub use word::{Named, Opening, PART_LIMIT, RunLedger, SEAT_LIMIT};
