@@ -11,6 +11,7 @@ use Rattle.run_ledger.specs.declared.log.Entry.{Entry}
 use Rattle.run_ledger.specs.System.{World, after, opening_of, IsRun}
 use Rattle.run_ledger.specs.Rule.{IsAt, AreRunOf}
 use Rattle.run_ledger.specs.Laws.{SortedLogsAreRuns}
+
 abbrev ticks_from : ℕ → ℕ → List ℕ
 ticks_from first zero = []
 ticks_from first (suc n) = first ∷ ticks_from (first + 1) n

@@ -178,13 +178,16 @@ splits_as o id v left right shares held log fit s h at =
 pub cuts : (o : Opening) (id : ℕ) (v : View) → 0 < v.shares → v.log ≡ [] → Splits (AreRun o) id v (parted v) one_share
 cuts o id v some_share none =
     splits_as o id v (parted v) one_share (omega (arith, some_share)) (λ p. omega arith) (λ weight. omega arith)
-    (λ w run fits. (record {
-      few = (let l : length v.log ≡ 0 = ap length none in omega (arith, l));
-      risen = (let l : risen_by v.log ≡ 0 = ap risen_by none in omega (arith, l));
-      below = fits.below;
-      placed = fits.placed;
-      held = fits.held;
-    }, empty_fits w run 1))
+    (λ w run fits. (
+      record {
+        few = (let l : length v.log ≡ 0 = ap length none in omega (arith, l));
+        risen = (let l : risen_by v.log ≡ 0 = ap risen_by none in omega (arith, l));
+        below = fits.below;
+        placed = fits.placed;
+        held = fits.held;
+      },
+      empty_fits w run 1,
+    ))
 
 no_entries : (w : World) (run : List Entry) (held : List Part) → Have w held → Fits w run (view_with 0 held [])
 no_entries w run held have = record { few = omega arith; risen = omega arith; below = All-nil (λ e. e.tick ≤ length run); placed = All-nil (IsAt run); held = have }

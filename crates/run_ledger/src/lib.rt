@@ -13,8 +13,9 @@ mod word;
 
 pub use held::HeldPart;
 pub use laws::{
-    absent_nodes_do_nothing, acts_are_local, reached_parts_fit, runs_are_explained, sorted_logs_are_runs,
+    absent_nodes_do_nothing, acts_are_local, reached_parts_fit, runs_are_explained,
+    sorted_logs_are_runs,
 };
 pub use log::Entry;
-pub use rule::{Begun, Making, View, WordSeat};
+pub use rule::{Making, View, WordSeat};
 pub use word::{Named, Opening, PART_LIMIT, RunLedger, SEAT_LIMIT};

@@ -50,13 +50,7 @@ impl RunLedger {
     }
 
     /// Draws the next tick for what was made of the parts that the seat holds.
-    fn draw_made(
-        &self,
-        seat: &mut WordSeat,
-        lent: &Lent<'_>,
-        event: &Event,
-        acted: &Acted,
-    ) -> u64
+    fn draw_made(&self, seat: &mut WordSeat, lent: &Lent<'_>, event: &Event, acted: &Acted) -> u64
         requires word { IsSeat self.now.id seat.old.me.0 seat.old }
         requires local { IsLocal self.now.plan event.now acted.now.items.items seat.old.me.0.held (map (renewed (seen lent.now)) seat.old.me.0.held) }
         requires share { seat.old.me.0.shares ≡ 1 }
