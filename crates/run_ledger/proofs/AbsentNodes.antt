@@ -1,6 +1,6 @@
 -- An event at a node that the setup lacks does nothing.
 use Rattle.std.proofs.Common.{◌≡◌, ℕ, ◌≤◌, List, [], ◌∷◌, ◌++◌, length, Option, Some, None, slice_get, max, refl, sym, ap, ◌∙◌, subst, append-nil, arith}
-use Rattle.std.proofs.lemmas.Option.{same_Some, slice_get_past}
+use Rattle.std.proofs.lemmas.Option.{none-some, same_Some, slice_get_past}
 use Rattle.std.proofs.lemmas.List.Elements.{All-weaker}
 use Rattle.stamp_base.specs.declared.stores.Store.{Store}
 use Rattle.port_io.specs.declared.weather.Fate.{Fate}
@@ -14,10 +14,18 @@ use Rattle.machine.specs.declared.event.Event.TheVariants as timed
 use Rattle.machine.specs.State.{Client, State}
 use Rattle.machine.specs.Effect.{Effect}
 use Rattle.machine.specs.Machine.{Step, asks, asks_at_post, at_both, nothing, on_ask, on_clients, on_record, on_request, on_sweep, on_table, stepped, with_reading}
-use Rattle.machine.specs.Events.Take.{rules_of, take_asks}
-use Rattle.machine.specs.Events.Renew.{renew_asks}
-use Rattle.machine.specs.Events.Extend.{extend_asks}
-use Rattle.machine.specs.Events.Put.{put_asks}
+use Rattle.machine.proofs.LookedUp.{of_both, of_post}
+use Rattle.machine.specs.Events.Accept.{accept_on}
+use Rattle.machine.specs.Events.Answer.{answer_on}
+use Rattle.machine.specs.Events.AskBegin.{ask_begin_on}
+use Rattle.machine.specs.Events.AskCommit.{ask_commit_on}
+use Rattle.machine.specs.Events.Crash.{crash_on}
+use Rattle.machine.specs.Events.Decide.{decide_on}
+use Rattle.machine.specs.Events.SweepOpen.{sweep_open_on}
+use Rattle.machine.specs.Events.Take.{rules_of, take_asks, take_on}
+use Rattle.machine.specs.Events.Renew.{renew_asks, renew_on}
+use Rattle.machine.specs.Events.Extend.{extend_asks, extend_on}
+use Rattle.machine.specs.Events.Put.{put_asks, put_on}
 use Rattle.script_data.specs.Data.{ScriptData}
 use Rattle.session_script.specs.PostedNames.{names_after}
 use Rattle.command_semantics.specs.Runs.{Calls, calls_after, clock_after, fate_of}
@@ -45,36 +53,40 @@ record DoesNothing (w : State) (e : machine.Event) (fate : Fate) : Type 0 where
 there : (w : State) (n node : ℕ) → Some n ≡ Some node → slice_get w.nodes node ≡ None → slice_get w.nodes n ≡ None
 there w n node is none = subst (λ k. slice_get w.nodes k ≡ None) (sym (same_Some n node is)) none
 
+-- what stands there and nowhere
+nowhere : {X : Type 0} {o : Option (Option InstanceEntry)} (post : Option InstanceEntry) → o ≡ None → o ≡ Some post → X
+nowhere post none some = absurd (none-some post (sym none ∙ some))
+
 record_none : (w : State) (n : ℕ) (f : Option InstanceEntry → Effect (Option InstanceEntry × MasterRecord)) → slice_get w.nodes n ≡ None → on_record w n f ≡ nothing w
-record_none w n f none = grind (arith, none)
+record_none w n f none = of_post (λ s. s ≡ nothing w) w _ (slice_get w.nodes n) refl (λ post at. nowhere post none at)
 
 clients_none : (w : State) (n : ℕ) (f : Option InstanceEntry → Effect (Option InstanceEntry × List Client)) → slice_get w.nodes n ≡ None → on_clients w n f ≡ nothing w
-clients_none w n f none = grind (arith, none)
+clients_none w n f none = of_post (λ s. s ≡ nothing w) w _ (slice_get w.nodes n) refl (λ post at. nowhere post none at)
 
 ask_none : (w : State) (s n : ℕ) (f : Client → Option InstanceEntry → Effect (Client × Option InstanceEntry)) → slice_get w.nodes n ≡ None → on_ask w s n f ≡ nothing w
-ask_none w s n f none = grind (arith, none)
+ask_none w s n f none = of_both (λ t. t ≡ nothing w) w _ (slice_get w.nodes n) (slice_get w.clients s) refl (λ post c at own. nowhere post none at)
 
 request_none : (w : State) (n s : ℕ) (f : Option InstanceEntry → Client → Effect (Option InstanceEntry × Client)) → slice_get w.nodes n ≡ None → on_request w n s f ≡ nothing w
-request_none w n s f none = grind (arith, none)
+request_none w n s f none = of_both (λ t. t ≡ nothing w) w _ (slice_get w.nodes n) (slice_get w.clients s) refl (λ post c at own. nowhere post none at)
 
 table_none : (w : State) (n : ℕ) (f : Option InstanceEntry → Effect (Option InstanceEntry × Pairs)) → slice_get w.nodes n ≡ None → on_table w n f ≡ nothing w
-table_none w n f none = grind (arith, none)
+table_none w n f none = of_post (λ s. s ≡ nothing w) w _ (slice_get w.nodes n) refl (λ post at. nowhere post none at)
 
 sweep_none : (w : State) (n : ℕ) (f : Option InstanceEntry → Effect (Option Sweeping)) → slice_get w.nodes n ≡ None → on_sweep w n f ≡ nothing w
-sweep_none w n f none = grind (arith, none)
+sweep_none w n f none = of_post (λ s. s ≡ nothing w) w _ (slice_get w.nodes n) refl (λ post at. nowhere post none at)
 
 does_nothing : (w : State) (e : machine.Event) (fate : Fate) (node : ℕ) → node_named e ≡ Some node → slice_get w.nodes node ≡ None → DoesNothing w e fate
-does_nothing w (timed.Take n reading) fate node is none = record { seen = max w.seen reading; step = record_none (with_reading w reading) n _ (there w n node is none); asked = ap (λ o. asks_at_post o take_asks) (there w n node is none); clock = λ k. refl; names = λ names. refl }
-does_nothing w (timed.Renew n reading) fate node is none = record { seen = max w.seen reading; step = record_none (with_reading w reading) n _ (there w n node is none); asked = ap (λ o. asks_at_post o renew_asks) (there w n node is none); clock = λ k. refl; names = λ names. refl }
-does_nothing w (timed.Extend n) fate node is none = record { seen = w.seen; step = record_none w n _ (there w n node is none); asked = ap (λ o. asks_at_post o extend_asks) (there w n node is none); clock = λ k. refl; names = λ names. refl }
-does_nothing w (timed.Crash n) fate node is none = record { seen = w.seen; step = clients_none w n _ (there w n node is none); asked = refl; clock = λ k. refl; names = λ names. refl }
-does_nothing w (timed.AskBegin s n) fate node is none = record { seen = w.seen; step = ask_none w s n _ (there w n node is none); asked = refl; clock = λ k. refl; names = λ names. refl }
-does_nothing w (timed.AskCommit s n) fate node is none = record { seen = w.seen; step = ask_none w s n _ (there w n node is none); asked = refl; clock = λ k. refl; names = λ names. refl }
-does_nothing w (timed.Accept n s reading) fate node is none = record { seen = max w.seen reading; step = request_none (with_reading w reading) n s _ (there w n node is none); asked = refl; clock = λ k. refl; names = λ names. refl }
-does_nothing w (timed.Decide n s) fate node is none = record { seen = w.seen; step = request_none w n s _ (there w n node is none); asked = refl; clock = λ k. refl; names = λ names. refl }
-does_nothing w (timed.Put n s) fate node is none = record { seen = w.seen; step = table_none w n _ (there w n node is none); asked = ap (λ o. asks_at_post o (put_asks s)) (there w n node is none); clock = λ k. refl; names = λ names. refl }
-does_nothing w (timed.Answer n s) fate node is none = record { seen = w.seen; step = request_none w n s _ (there w n node is none); asked = refl; clock = λ k. refl; names = λ names. refl }
-does_nothing w (timed.SweepOpen n txn) fate node is none = record { seen = w.seen; step = sweep_none w n _ (there w n node is none); asked = refl; clock = λ k. refl; names = λ names. refl }
+does_nothing w (timed.Take n reading) fate node is none = record { seen = max w.seen reading; step = record_none (with_reading w reading) n (λ post. take_on w.setup n reading fate post w.master) (there w n node is none); asked = ap (λ o. asks_at_post o take_asks) (there w n node is none); clock = λ k. refl; names = λ names. refl }
+does_nothing w (timed.Renew n reading) fate node is none = record { seen = max w.seen reading; step = record_none (with_reading w reading) n (λ post. renew_on w.setup n reading fate post w.master) (there w n node is none); asked = ap (λ o. asks_at_post o renew_asks) (there w n node is none); clock = λ k. refl; names = λ names. refl }
+does_nothing w (timed.Extend n) fate node is none = record { seen = w.seen; step = record_none w n (λ post. extend_on w.setup n fate post w.master) (there w n node is none); asked = ap (λ o. asks_at_post o extend_asks) (there w n node is none); clock = λ k. refl; names = λ names. refl }
+does_nothing w (timed.Crash n) fate node is none = record { seen = w.seen; step = clients_none w n (λ post. crash_on n post w.clients) (there w n node is none); asked = refl; clock = λ k. refl; names = λ names. refl }
+does_nothing w (timed.AskBegin s n) fate node is none = record { seen = w.seen; step = ask_none w s n (ask_begin_on s n) (there w n node is none); asked = refl; clock = λ k. refl; names = λ names. refl }
+does_nothing w (timed.AskCommit s n) fate node is none = record { seen = w.seen; step = ask_none w s n (ask_commit_on s n) (there w n node is none); asked = refl; clock = λ k. refl; names = λ names. refl }
+does_nothing w (timed.Accept n s reading) fate node is none = record { seen = max w.seen reading; step = request_none (with_reading w reading) n s (accept_on n s reading) (there w n node is none); asked = refl; clock = λ k. refl; names = λ names. refl }
+does_nothing w (timed.Decide n s) fate node is none = record { seen = w.seen; step = request_none w n s (decide_on n s) (there w n node is none); asked = refl; clock = λ k. refl; names = λ names. refl }
+does_nothing w (timed.Put n s) fate node is none = record { seen = w.seen; step = table_none w n (λ post. put_on n s fate post w.pairs) (there w n node is none); asked = ap (λ o. asks_at_post o (put_asks s)) (there w n node is none); clock = λ k. refl; names = λ names. refl }
+does_nothing w (timed.Answer n s) fate node is none = record { seen = w.seen; step = request_none w n s (answer_on n s) (there w n node is none); asked = refl; clock = λ k. refl; names = λ names. refl }
+does_nothing w (timed.SweepOpen n txn) fate node is none = record { seen = w.seen; step = sweep_none w n (λ post. sweep_open_on n txn post w.sweep) (there w n node is none); asked = refl; clock = λ k. refl; names = λ names. refl }
 does_nothing w _ fate node is none = absurd (cc)
 
 -- ---- parts stay where only the greatest reading changes

@@ -3,3 +3,5 @@ pub mod System
 pub mod Rule
 pub mod Seats
 pub mod Laws
+pub mod Local
+pub mod Reached

@@ -7,8 +7,6 @@ mod laws;
 mod log;
 mod making;
 mod rule;
-#[cfg(test)]
-mod tests;
 mod word;
 
 pub use held::HeldPart;
