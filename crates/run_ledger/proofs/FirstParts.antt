@@ -47,9 +47,9 @@ have_single plan =
 
 pub held_at_first : (plan : ScriptData) → Have (opening_of plan) (first_parts plan)
 held_at_first plan =
-    All-append (Has (opening_of plan)) (free_from plan.setup.cache 0 16) (vacant_from 0 plan.setup.nodes ++ single_parts plan)
-    (have_sessions plan 0 16 (omega arith))
-    (All-append (Has (opening_of plan)) (vacant_from 0 plan.setup.nodes) (single_parts plan) (have_nodes plan 0 plan.setup.nodes (omega arith)) (have_single plan))
+    All-append (Has (opening_of plan)) (free_from plan.setup.cache 0 16 ++ vacant_from 0 plan.setup.nodes) (single_parts plan)
+    (All-append (Has (opening_of plan)) (free_from plan.setup.cache 0 16) (vacant_from 0 plan.setup.nodes) (have_sessions plan 0 16 (omega arith)) (have_nodes plan 0 plan.setup.nodes (omega arith)))
+    (have_single plan)
 
 -- ---- each once
 no_session : (p : Place) (room first n : ℕ) → ((i : ℕ) → same_place p (AtSession i) ≡ false) → times p (free_from room first n) ≡ 0
@@ -123,22 +123,19 @@ node_once i first (suc n) = by_number (ℕ_discrete i first) (node_once i (suc f
         omega (arith, here, rest, sum_by-cons (at_place (AtNode i)) x (vacant_from (suc first) n))
 
 -- three lists, by what each has of the place
-sum_of_three : (p : Place) (xs ys zs : List Part) → times p (xs ++ ys ++ zs) ≡ times p xs + (times p ys + times p zs)
-sum_of_three p xs ys zs =
-    let all = sum_by-append (at_place p) xs (ys ++ zs) in
-    let two = sum_by-append (at_place p) ys zs in
-    all ∙ ap (λ n. times p xs + n) two
+sum_of_three : (p : Place) (xs ys zs : List Part) → times p (xs ++ ys ++ zs) ≡ times p xs + times p ys + times p zs
+sum_of_three p xs ys zs = sum_by-append (at_place p) (xs ++ ys) zs ∙ ap (λ n. n + times p zs) (sum_by-append (at_place p) xs ys)
 
-sum_of : (p : Place) (plan : ScriptData) → times p (first_parts plan) ≡ times p (free_from plan.setup.cache 0 16) + (times p (vacant_from 0 plan.setup.nodes) + times p (single_parts plan))
+sum_of : (p : Place) (plan : ScriptData) → times p (first_parts plan) ≡ times p (free_from plan.setup.cache 0 16) + times p (vacant_from 0 plan.setup.nodes) + times p (single_parts plan)
 sum_of p plan = sum_of_three p (free_from plan.setup.cache 0 16) (vacant_from 0 plan.setup.nodes) (single_parts plan)
 
-first_alone : (all a b c : ℕ) → all ≡ a + (b + c) → a ≤ 1 → b ≡ 0 → c ≡ 0 → all ≤ 1
+first_alone : (all a b c : ℕ) → all ≡ a + b + c → a ≤ 1 → b ≡ 0 → c ≡ 0 → all ≤ 1
 first_alone all a b c is few second third = omega (arith, is, few, second, third)
 
-second_alone : (all a b c : ℕ) → all ≡ a + (b + c) → a ≡ 0 → b ≤ 1 → c ≡ 0 → all ≤ 1
+second_alone : (all a b c : ℕ) → all ≡ a + b + c → a ≡ 0 → b ≤ 1 → c ≡ 0 → all ≤ 1
 second_alone all a b c is first few third = omega (arith, is, first, few, third)
 
-third_alone : (all a b c : ℕ) → all ≡ a + (b + c) → a ≡ 0 → b ≡ 0 → c ≡ 1 → all ≤ 1
+third_alone : (all a b c : ℕ) → all ≡ a + b + c → a ≡ 0 → b ≡ 0 → c ≡ 1 → all ≤ 1
 third_alone all a b c is first second one = omega (arith, is, first, second, one)
 
 neither : (p : Place) (plan : ScriptData) → ((i : ℕ) → same_place p (AtSession i) ≡ false) → ((i : ℕ) → same_place p (AtNode i) ≡ false) → times p (single_parts plan) ≡ 1 → times p (first_parts plan) ≤ 1

@@ -80,7 +80,7 @@ module _ (events : EventsAreLocal) (steps : ActsAreSteps) (plan : ScriptData) (h
     left = All-map (Has (after plan w e)) (renewed now) held (All-weaker (Has w) (λ x. Has (after plan w e) (renewed now x)) renewed_there held have)
 
     other : (x : Part) → Has w x → times (place_of x) held ≡ 0 → Has (after plan w e) x
-    other x has none = subst (Has (after plan w e)) (stays l now (step_of l te).state te asked x comes.left (not_lent plan held (place_of x) none)) (renewed_there x has)
+    other x has none = subst (Has (after plan w e)) (stays l now comes.step te asked x comes.left (not_lent plan held (place_of x) none)) (renewed_there x has)
 
   as_often : (p : Place) (xs : List Part) → times p (map (renewed now) xs) ≡ times p xs
   as_often p [] = refl

@@ -9,7 +9,7 @@ ghost use Rattle.run_ledger.specs.Rule.{seat_limit, risen_by, rise_of, DrawsOne,
 ghost use Rattle.run_ledger.specs.Seats.{IsSeat};
 
 use crate::laws::{acts_are_local, reached_parts_fit};
-use crate::rule::WordSeat;
+use crate::rule::{Draw, Making, WordSeat};
 use crate::word::RunLedger;
 use split_parts::{Acted, Event, Lent, act};
 use stamp_base::NoMemory;
@@ -45,13 +45,20 @@ impl RunLedger {
         self.tell_plan();
         self.look(seat);
         let acted = act(alloc, lent, event)?;
-        let tick = self.draw_made(seat, lent, event, &acted);
+        let tick = self.draw_made::<Brand>(seat, lent, event, &acted);
         Ok((tick, acted))
     }
 
     /// Draws the next tick for what was made of the parts that the seat holds.
-    fn draw_made(&self, seat: &mut WordSeat, lent: &Lent<'_>, event: &Event, acted: &Acted) -> u64
+    fn draw_made<M: Making>(
+        &self,
+        seat: &mut WordSeat,
+        lent: &Lent<'_>,
+        event: &Event,
+        acted: &Acted,
+    ) -> u64
         requires word { IsSeat self.now.id seat.old.me.0 seat.old }
+        requires picked { (event.now ≡ M.event) × (acted.now.items.items ≡ M.told) × (map (renewed (seen lent.now)) seat.old.me.0.held ≡ M.left) }
         requires local { IsLocal self.now.plan event.now acted.now.items.items seat.old.me.0.held (map (renewed (seen lent.now)) seat.old.me.0.held) }
         requires share { seat.old.me.0.shares ≡ 1 }
         requires room { length seat.old.me.0.log < seat_limit }
@@ -59,6 +66,6 @@ impl RunLedger {
         ensures word { IsSeat self.now.id seat.new.me.0 seat.new }
         ensures drawn { (0 < result) × DrawsOne event.now acted.now.items.items (map (renewed (seen lent.now)) seat.old.me.0.held) seat.old.me.0 (result - 1) seat.new.me.0 }
     {
-        self.draw::<Brand>(seat)
+        self.table.shared.fetch_add::<Draw<M>>(seat, 0, 1) + 1
     }
 }

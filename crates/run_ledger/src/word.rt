@@ -42,7 +42,7 @@ impl Named for Brand {
 /// The word that gives the ticks of all entries, each by one `fetch_add`.
 #[derive(Drop)]
 pub struct RunLedger {
-    table: Word,
+    pub(crate) table: Word,
 }
 
 impl Model for RunLedger {
