@@ -12,7 +12,7 @@ use Rattle.machine.specs.State.{Client, State}
 use Rattle.script_data.specs.Data.{ScriptData}
 use Rattle.split_parts.specs.Parts.{CellRows, Marks, Node, Parts, Record, Session, given, given_client, given_master, given_node, given_pairs, given_rows, given_sessions}
 use Rattle.split_parts.specs.Lending.{no_parts}
-use Rattle.run_ledger.specs.Local.{AreOf}
+use Rattle.part_laws.specs.Local.{AreOf}
 use Rattle.run_ledger.specs.Held.{Part, OfSession, OfJanitor, OfClock, OfNode, OfCells, OfTable, OfMaster, OfNames, put, lent_by}
 use Rattle.run_ledger.specs.System.{World, state_of, Has, Have, IsWorld}
 use Rattle.run_ledger.proofs.ListFacts.{own_set, other_set, set_many, same_at, if_none, if_some, if_weaker}

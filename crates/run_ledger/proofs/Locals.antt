@@ -14,7 +14,7 @@ use Rattle.split_parts.specs.declared.event.Event.{Event}
 use Rattle.split_parts.specs.Acts.{Acts, asked_of, step_of, timed_by}
 use Rattle.split_parts.specs.Agrees.{HasParts, HasStore}
 use Rattle.split_parts.specs.Parts.{Parts, fate_of, filled, with_lent}
-use Rattle.run_ledger.specs.Local.{ActsAreSteps, AreOf, EventsAreLocal, IsStepOf, whole_step}
+use Rattle.part_laws.specs.Local.{ActsAreSteps, AreOf, EventsAreLocal, IsStepOf, whole_step}
 use Rattle.run_ledger.specs.Held.{Part, Place, at_place, lent_by, place_of, renewed, same_place, times}
 use Rattle.run_ledger.specs.System.{World, after, state_of, step_in, timed_in, world_by, Has, Have, IsWorld}
 use Rattle.run_ledger.specs.Rule.{IsLocal}

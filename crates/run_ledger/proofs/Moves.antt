@@ -25,8 +25,8 @@ use Rattle.split_parts.specs.declared.event.Event.TheVariants as event
 use Rattle.split_parts.specs.Acts.{timed_at}
 use Rattle.split_parts.specs.Agrees.{Agrees, CallsFit, ClockAllows, ClockFits, HasParts, store_by}
 use Rattle.split_parts.specs.Parts.{CellRows, Marks, Parts, Record, base_by}
-use Rattle.run_ledger.specs.Local.{AreOf}
-use Rattle.run_ledger.specs.Reached.{ReachedPartsAgree}
+use Rattle.part_laws.specs.Local.{AreOf}
+use Rattle.part_laws.specs.Reached.{ReachedPartsAgree}
 use Rattle.run_ledger.specs.declared.log.Entry.{Entry}
 use Rattle.run_ledger.specs.Held.{OfCells, OfClock, OfMaster, OfTable, lent_by}
 use Rattle.run_ledger.specs.System.{World, after, after_all, opening_of, state_of, step_in, timed_in, told_of, Has, IsRun, IsWorld}

@@ -3,5 +3,3 @@ pub mod System
 pub mod Rule
 pub mod Seats
 pub mod Laws
-pub mod Local
-pub mod Reached
