@@ -35,7 +35,7 @@ pub fn to_line(alloc: Global, item: &Item) -> Result<String, NoMemory>
 }
 
 /// The item whose line of JSON the bytes are. Blanks, escapes and the order of the members are free. None where they are none.
-/// NoMemory where memory is refused.
+/// NoMemory where memory is refused. It stands apart from the loop that reads a history's lines.
 #[inline(never)]
 pub fn from_line(alloc: Global, line: &[u8]) -> Result<Option<Item>, NoMemory>
     ensures found { IfOk result (λ found. IfSome found (IsJsonLineOf line.now)) }

@@ -7,6 +7,7 @@ use crate::reading::words::{node_of, session_of, stamp_of, term_of};
 use history_book::Item;
 use stamp_base::Stamp;
 
+/// What a session asked, or a node accepted, whose line the bytes end, after its first letter. None for another line.
 #[tactic(auto, unfolding(crate::specs::Templates::request_line))]
 pub fn request(bytes: &[u8]) -> Option<Item>
     ensures { result ≡ request_line bytes.now }
@@ -81,6 +82,7 @@ fn commit(bytes: &[u8]) -> Option<Option<Stamp>>
     Some(Some(commit))
 }
 
+/// The draw whose line the bytes end, after its first letter. None for another line.
 #[inline(never)]
 #[tactic(auto, unfolding(crate::specs::Templates::draw_line))]
 pub fn draw(bytes: &[u8]) -> Option<Item>
@@ -103,6 +105,7 @@ pub fn draw(bytes: &[u8]) -> Option<Item>
     })
 }
 
+/// The placed commit whose line the bytes end, after its first letter. None for another line.
 #[inline(never)]
 #[tactic(auto, unfolding(crate::specs::Templates::placed_line))]
 pub fn placed(bytes: &[u8]) -> Option<Item>

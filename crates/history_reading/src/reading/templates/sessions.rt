@@ -6,6 +6,7 @@ use super::exact::{exact_end, exact_field, exact_started};
 use crate::reading::words::{after, is_word, key_of, session_of, stamp_of, value};
 use history_book::{Found, Item};
 
+/// The begin whose line the bytes end, after its first letter. None for another line.
 #[inline(never)]
 #[tactic(auto, unfolding(crate::specs::Templates::begin_line))]
 pub fn begin(bytes: &[u8]) -> Option<Item>
@@ -18,6 +19,7 @@ pub fn begin(bytes: &[u8]) -> Option<Item>
     Some(Item::Begin { session, start })
 }
 
+/// The commit that was answered, whose line the bytes end, after its first letter. None for another line.
 #[inline(never)]
 #[tactic(auto, unfolding(crate::specs::Templates::committed_line))]
 pub fn committed(bytes: &[u8]) -> Option<Item>
@@ -35,6 +37,7 @@ pub fn committed(bytes: &[u8]) -> Option<Item>
     })
 }
 
+/// The write whose line the bytes end, after its first letter. None for another line.
 #[inline(never)]
 #[tactic(auto, unfolding(crate::specs::Templates::write_line))]
 pub fn write(bytes: &[u8]) -> Option<Item>
@@ -55,6 +58,7 @@ pub fn write(bytes: &[u8]) -> Option<Item>
     })
 }
 
+/// The read, of a version or of nothing, whose line the bytes end, after its first letter. None for another line.
 #[inline(never)]
 #[tactic(auto, unfolding(crate::specs::Templates::read_line))]
 pub fn read(bytes: &[u8]) -> Option<Item>

@@ -7,6 +7,7 @@ use crate::reading::words::{after, is_word, key_of, session_of, stamp_of};
 use history_book::{Actor, Item, Seen, StoreStep};
 use stamp_base::Mark;
 
+/// The step of a session whose line the bytes end, after its first letter. None for another line.
 #[inline(never)]
 #[tactic(auto, unfolding(crate::specs::Templates::step_line))]
 pub fn step(bytes: &[u8]) -> Option<Item>
