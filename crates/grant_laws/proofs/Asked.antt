@@ -1,6 +1,6 @@
 -- A line that has asked has its request accepted, and gets a stamp for it.
 use Rattle.grant_laws.proofs.Names.{◌≡◌, ℕ, ◌+◌, ◌<◌, true, false, List, [], ◌∷◌, length, Option, Some, None, refl, ◌∙◌}
-use Rattle.grant_laws.proofs.Names.{ap, arith, slice_index_or, length-set, set-set, get_or-set_same, Session, Item}
+use Rattle.grant_laws.proofs.Names.{arith, length-set, set-set, get_or-set_same, Session, Item}
 use Rattle.grant_laws.proofs.Names.{Free, Held, Place, Request, InstanceEntry, held_of, with_request, just_asked, moved}
 use Rattle.grant_laws.proofs.Names.{accept_refusal, held_of-with_request_same, Event, Line, Verb, ScriptData, Drives}
 use Rattle.grant_laws.proofs.Names.{reading_at, is_served, Played, clocks_of, played, line_of, both_verdict}
@@ -46,9 +46,7 @@ asked_is_drawn script number node s verb p x request to_answer k has is_free no_
 
 -- the request that has its stamp is held
 pub holds_stamp : (script : ScriptData) (line : Line) (node s most : ℕ) (p : Played) (x : Spot) (request : Request) (drew : Drew script line node s most p x request) → s < length x.oracle.requests → held_of drew.spot.oracle s ≡ Some (with_stamp x.oracle.direct request drew.told (x.oracle.last + 1))
-holds_stamp script line node s most p x request drew within =
-    ap (λ (requests : List (Option Held)). slice_index_or requests s None) drew.requests ∙ get_or-set_same x.oracle.requests s (Some (with_stamp x.oracle.direct request drew.told (x.oracle.last + 1))) None within
+holds_stamp script line node s most p x request drew within = grind (arith, get_or-set_same)
 
 pub drawn_within : (script : ScriptData) (line : Line) (node s most : ℕ) (p : Played) (x : Spot) (request : Request) (drew : Drew script line node s most p x request) → s < length x.oracle.requests → s < length drew.spot.oracle.requests
-drawn_within script line node s most p x request drew within =
-    omega (arith, within, ap (λ (requests : List (Option Held)). length requests) drew.requests, length-set x.oracle.requests s (Some (with_stamp x.oracle.direct request drew.told (x.oracle.last + 1))))
+drawn_within script line node s most p x request drew within = grind (arith, length-set)

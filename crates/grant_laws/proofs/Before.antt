@@ -23,11 +23,8 @@ ticks_more (line ∷ earlier) later = omega (arith, ticks_more earlier later)
 
 -- the whole script goes on from what the line has come to
 script_goes_on : (script : ScriptData) (line : Line) (p : Played) (k : IsBefore script line p) → script_played script ≡ lines_played script k.later (line_run script line p).played
-script_goes_on script line p k =
-    ap (λ (lines : List Line). lines_played script lines (opening_played script)) k.lines
-    ∙ played_on script k.earlier (line ∷ k.later) (opening_played script)
-    ∙ ap (λ (q : Played). lines_played script (line ∷ k.later) q) (sym k.played)
-    ∙ first_line script line k.later p
+unfolding lines_played
+script_goes_on script line p k = grind (arith, played_on)
 
 -- what stands before the line stays in front
 pub longer_whole : (script : ScriptData) (line : Line) (p : Played) → IsBefore script line p → Longer p.items (script_played script).items
@@ -51,9 +48,7 @@ pub record Known (script : ScriptData) (p : Played) : Type 0 where
   pub fit : Fit p.state
 
 before_playable : (script : ScriptData) (line : Line) (p : Played) (k : IsBefore script line p) → IsPlayable script 0 k.earlier
-before_playable script line p k =
-    let all : ticks_of script.lines ≡ ticks_of k.earlier + ticks_of (line ∷ k.later) = ap (λ (lines : List Line). ticks_of lines) k.lines ∙ ticks_more k.earlier (line ∷ k.later) in
-    record { leads = k.playable.leads; ticks = omega (arith, all, k.playable.ticks) }
+before_playable script line p k = grind (arith, ticks_more)
 
 pub known_before : EventsLowerWhatIsLeft → (script : ScriptData) (line : Line) (p : Played) → IsBefore script line p → Known script p
 known_before lowers script line p k =

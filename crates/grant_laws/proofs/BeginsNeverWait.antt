@@ -1,19 +1,17 @@
 -- Where sessions place their commits no instance has a commit in the way of a begin.
-use Rattle.grant_laws.proofs.Names.{◌≡◌, ℕ, zero, suc, Bool, true, false, List, [], ◌∷◌, Option, Some, None, refl, ◌∙◌}
-use Rattle.grant_laws.proofs.Names.{ap, subst, slice_index_or, SetupNumbers, Item, Held, Progress, Request, Begin}
-use Rattle.grant_laws.proofs.Names.{Commit, InstanceEntry, unsettled_by, only_below, lesser, least_unsettled, State}
+use Rattle.std.proofs.Common.{arith}
+use Rattle.grant_laws.proofs.Names.{◌≡◌, ℕ, zero, suc, Bool, true, List, [], ◌∷◌, Option, Some, None, refl, ◌∙◌}
+use Rattle.grant_laws.proofs.Names.{ap, subst, slice_index_or, SetupNumbers, Item, Held, Progress, Request}
+use Rattle.grant_laws.proofs.Names.{InstanceEntry, unsettled_by, only_below, lesser, least_unsettled, State}
 use Rattle.grant_laws.proofs.Names.{InstanceAt, held_by, ExplainedInvariant, EventsLowerWhatIsLeft}
 use Rattle.grant_laws.proofs.Names.{DirectBeginsNeverWait}
-use Rattle.system_parts.specs.declared.instance.Progress.TheVariants as progress
 use Rattle.cause_laws.specs.Requests.{WhereNodesPut}
 use Rattle.grant_laws.proofs.Before.{Known, known_before}
 use Rattle.grant_laws.proofs.KnownTurns.{KnownTurns, known_carried}
 
 -- a commit that no node puts is in nobody's way
 none_by : (request : Request) (p : Progress) → WhereNodesPut true request p → unsettled_by request p ≡ None
-none_by (Begin session) p put = refl
-none_by (Commit session start keys) (progress.Drawn commit) put = let clash : true ≡ false = put in absurd (cc)
-none_by (Commit session start keys) _ put = refl
+none_by request p put = grind arith
 
 none_among : (requests : List (Option Held)) (start : ℕ) → ((s : ℕ) (held : Held) → slice_index_or requests s None ≡ Some held → unsettled_by held.request held.progress ≡ None) → least_unsettled requests start ≡ None
 unfolding least_unsettled

@@ -1,8 +1,9 @@
 -- For log_refinement too, which keeps what a log shows of a request.
 -- What an event makes of a node leaves the request of any session but that which it serves.
+use Rattle.std.proofs.Common.{arith}
 use Rattle.grant_laws.proofs.Names.{◌≡◌, ◌≢◌, ℕ, List, [], ◌∷◌, Option, Some, None, Result, Ok, Err, ◌⊎◌, inl, inr}
 use Rattle.grant_laws.proofs.Names.{refl, sym, ◌∙◌, ap, subst, slice_get, slice_set, cases_eq, same_Some, Mark, Fate}
-use Rattle.grant_laws.proofs.Names.{Works, FailsUnchanged, FailsApplied, Cause, Item, ExtendRefused, Pairs, mark_of}
+use Rattle.grant_laws.proofs.Names.{Works, FailsUnchanged, FailsApplied, Cause, Item, ExtendRefused, Pairs}
 use Rattle.grant_laws.proofs.Names.{MasterRecord, Verdict, Free, Conflict, Hidden, Progress, Held, Request, Begin}
 use Rattle.grant_laws.proofs.Names.{Commit, InstanceEntry, held_of, session_of, without_request, ends, request_verdict}
 use Rattle.grant_laws.proofs.Names.{verdict_by, decide_if_accepted, decide_held, refuse_if_accepted, refuse_held}
@@ -10,13 +11,11 @@ use Rattle.grant_laws.proofs.Names.{instance_ask, instance_accept, instance_deci
 use Rattle.grant_laws.proofs.Names.{InstanceCall, Accepts, Decides, Settles, after_call, call_session}
 use Rattle.grant_laws.proofs.Names.{held_of-after_call_other, Client, renew_by, extend_by, asked_by, ask_begin_by}
 use Rattle.grant_laws.proofs.Names.{commit_of, ask_commit_by, accept_by, accept_request, both_verdict, both_if_accepted}
-use Rattle.grant_laws.proofs.Names.{both_held, decide_both, decide_request, put_by, put_commit, answer_by}
+use Rattle.grant_laws.proofs.Names.{both_held, decide_request, put_by, put_commit, answer_by}
 use Rattle.grant_laws.proofs.Names.{answer_request, InstanceAt, set_found, set_other}
 use Rattle.history_book.specs.declared.cause.Cause.TheVariants as cause
 use Rattle.history_book.specs.declared.item.Item.TheVariants as item
 use Rattle.system_parts.specs.declared.record.RenewRefused.{RenewRefused}
-use Rattle.system_parts.specs.declared.record.RenewRefused.TheVariants as not_renewed
-use Rattle.system_parts.specs.declared.record.ExtendRefused.TheVariants as not_extended
 use Rattle.system_parts.specs.declared.instance.Decided.{Decided}
 use Rattle.system_parts.specs.declared.instance.Progress.TheVariants as progress
 use Rattle.system_parts.specs.declared.instance.Reply.{Reply}
@@ -58,12 +57,7 @@ Called i r post = (post ≡ Some i) ⊎ ((call : InstanceCall) × (call_session 
 
 pub called_has : (i : InstanceEntry) (r s : ℕ) (held : Held) (post : Option InstanceEntry) → r ≢ s → held_of i s ≡ Some held → Called i r post → PostHas post s held
 unfolding Called
-called_has i r s held post other has (inl same) = record { i = i; is = same; has = has }
-called_has i r s held post other has (inr made) = record {
-  i = after_call i made.0;
-  is = made.2;
-  has = held_of-after_call_other i made.0 s (λ same. other (same_Some r s (sym made.1 ∙ same))) ∙ has;
-}
+called_has i r s held post other has h = grind (arith, held_of-after_call_other, same_Some)
 
 -- ---- the events
 asked_called : (r : ℕ) (c : Client) (x : Item) (i : InstanceEntry) (request : Request) (answer : Result (Unit {0}) Cause) → session_of request ≡ r → Called i r (asked_by r c x (instance_ask i request) answer).parts.1
@@ -83,9 +77,7 @@ commit_called r n c i start (key ∷ keys) = asked_called r c (item.AskCommit r 
 
 pub commits_called : (r n : ℕ) (c : Client) (i : InstanceEntry) (why : Option Cause) (start : Option ℕ) → Called i r (ask_commit_by r n c (Some i) why start).parts.1
 unfolding Called
-commits_called r n c i (Some why) start = inl refl
-commits_called r n c i None None = inl refl
-commits_called r n c i None (Some start) = commit_called r n c i start c.entry.keys
+commits_called r n c i why start = grind (arith, commit_called)
 
 accept_called : (n r reading : ℕ) (request : Request) (i : InstanceEntry) (c : Client) (answer : Result (Unit {0}) Cause) → Called i r (accept_by n r reading request (instance_accept i r reading).left c answer).parts.0
 unfolding Called
@@ -95,8 +87,7 @@ accept_called n r reading request i c (Err _) = inr (Accepts r reading, refl, re
 
 pub accepts_called : (n r reading : ℕ) (i : InstanceEntry) (c : Client) (held : Option Held) → Called i r (accept_request n r reading i c held).parts.0
 unfolding Called
-accepts_called n r reading i c None = inl refl
-accepts_called n r reading i c (Some held) = accept_called n r reading held.request i c (instance_accept i r reading).answer
+accepts_called n r reading i c held = grind (arith, accept_called)
 
 -- a decision by both sets of keys decides the request, ends a commit, or does nothing
 ends_called : (i : InstanceEntry) (r start asker : ℕ) (keys : List ℕ) (held : Held) (why : Cause) → held_of i r ≡ Some held → held.request ≡ Commit asker start keys → held.progress ≡ progress.Accepted → Called i r (Some (ends {A = Decided} i r why).left)
@@ -126,24 +117,18 @@ verdict_called i r reads held has accepted (Commit asker start keys) asks (Hidde
 
 accepted_called : (i : InstanceEntry) (r : ℕ) (reads : List ℕ) (held : Held) → held_of i r ≡ Some held → (p : Progress) → held.progress ≡ p → Called i r (Some (both_if_accepted i r reads held p).left)
 unfolding Called
-accepted_called i r reads held has progress.Accepted is = verdict_called i r reads held has is held.request refl (both_verdict i.buckets reads held.request) refl
-accepted_called i r reads held has _ is = inl refl
+accepted_called i r reads held has p is = grind (arith, verdict_called)
 
 both_called : (i : InstanceEntry) (r : ℕ) (reads : List ℕ) (found : Option Held) → held_of i r ≡ found → Called i r (Some (both_held i r reads found).left)
 unfolding Called
-both_called i r reads None has = inl refl
-both_called i r reads (Some held) has = accepted_called i r reads held has held.progress refl
+both_called i r reads found has = grind (arith, accepted_called)
 
 decide_called : (n r : ℕ) (held : Held) (i left : InstanceEntry) (c : Client) (answer : Result Decided Cause) → Called i r (Some left) → Called i r (decide_by n r held left c answer).parts.0
-decide_called n r held i left c (Ok drawn) called = called
-decide_called n r held i left c (Err (cause.NoRequest s)) called = called
-decide_called n r held i left c (Err (cause.NoStamp last)) called = called
-decide_called n r held i left c (Err _) called = called
+decide_called n r held i left c answer called = grind arith
 
 pub decides_called : (n r : ℕ) (i : InstanceEntry) (c : Client) (held : Option Held) → Called i r (decide_request n r i c held).parts.0
 unfolding Called
-decides_called n r i c None = inl refl
-decides_called n r i c (Some held) = decide_called n r held i (decide_both i r c.reads).left c (decide_both i r c.reads).answer (both_called i r c.reads (held_of i r) refl)
+decides_called n r i c held = grind (arith, decide_called, both_called)
 
 put_called : (n r start commit : ℕ) (fate : Fate) (found : Option Mark) (i : InstanceEntry) (pairs : Pairs) → Called i r (put_by n r start commit fate found i pairs).parts.0
 unfolding Called
@@ -156,8 +141,7 @@ put_called n r start commit FailsApplied (Some mark) i pairs = inr (Settles r ho
 
 pub puts_called : (n r : ℕ) (fate : Fate) (i : InstanceEntry) (pairs : Pairs) (stamps : Option (ℕ × ℕ)) → Called i r (put_commit n r fate i pairs stamps).parts.0
 unfolding Called
-puts_called n r fate i pairs None = inl refl
-puts_called n r fate i pairs (Some stamps) = put_called n r stamps.0 stamps.1 fate (mark_of pairs stamps.0) i _
+puts_called n r fate i pairs stamps = grind (arith, put_called)
 
 answer_called : (n r start : ℕ) (c : Client) (i : InstanceEntry) (answer : Result Reply Cause) → Called i r (answer_by n r start c i (instance_answer i r).left answer).parts.0
 unfolding Called
@@ -171,17 +155,11 @@ answer_called n r start c i (Err _) = inr (Answers r, refl, refl)
 
 pub answers_called : (n r : ℕ) (i : InstanceEntry) (c : Client) (stamps : Option (ℕ × Option ℕ)) → Called i r (answer_request n r i c stamps).parts.0
 unfolding Called
-answers_called n r i c None = inl refl
-answers_called n r i c (Some stamps) = answer_called n r stamps.0 c i (instance_answer i r).answer
+answers_called n r i c stamps = grind (arith, answer_called)
 
 -- ---- the record's events
 pub renew_has : (n reading s : ℕ) (held : Held) (i : InstanceEntry) (r : MasterRecord) (kept : List Item) (answer : Result ℕ RenewRefused) → held_of i s ≡ Some held → PostHas (renew_by n reading i r kept answer).parts.0 s held
-renew_has n reading s held i r kept (Ok until) has = record { i = _; is = refl; has = has }
-renew_has n reading s held i r kept (Err not_renewed.StoreFault) has = record { i = _; is = refl; has = has }
-renew_has n reading s held i r kept (Err (not_renewed.Replaced found)) has = record { i = _; is = refl; has = has }
+renew_has n reading s held i r kept answer has = grind arith
 
 pub extend_has : (n s : ℕ) (held : Held) (i : InstanceEntry) (r : MasterRecord) (kept : List Item) (answer : Result ℕ ExtendRefused) → held_of i s ≡ Some held → PostHas (extend_by n i r kept answer).parts.0 s held
-extend_has n s held i r kept (Ok ceiling) has = record { i = _; is = refl; has = has }
-extend_has n s held i r kept (Err not_extended.StoreFault) has = record { i = _; is = refl; has = has }
-extend_has n s held i r kept (Err (not_extended.Replaced found)) has = record { i = _; is = refl; has = has }
-extend_has n s held i r kept (Err (not_extended.Spent ceiling)) has = record { i = _; is = refl; has = has }
+extend_has n s held i r kept answer has = grind arith

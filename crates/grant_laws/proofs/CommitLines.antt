@@ -1,12 +1,11 @@
 -- A commit line whose premises hold has its commit.
-use Rattle.grant_laws.proofs.Names.{◌≡◌, ℕ, ◌+◌, ◌<◌, Bool, cond, List, [], ◌∷◌, length, Option, Some, None, inl, refl}
+use Rattle.grant_laws.proofs.Names.{◌≡◌, ℕ, ◌+◌, ◌<◌, List, [], ◌∷◌, length, Option, Some, None, inl, refl}
 use Rattle.grant_laws.proofs.Names.{◌∙◌, ap, arith, lt-ltb, lt-leb, length-set, Table, Works, planned_fate, Session}
 use Rattle.grant_laws.proofs.Names.{Item, Pairs, mark_of, asked_state, Request, Commit, InstanceEntry, held_of}
-use Rattle.grant_laws.proofs.Names.{just_asked, accept_refusal, epoch_refusal, held_of-with_request_same, Client}
+use Rattle.grant_laws.proofs.Names.{just_asked, accept_refusal, held_of-with_request_same, Client}
 use Rattle.grant_laws.proofs.Names.{client_asked, Stop, Step, Event, ask_commit_on, Line, Verb, Opens, Drives, halt_of}
 use Rattle.grant_laws.proofs.Names.{follows, EventsLowerWhatIsLeft, Played, fate_by, step_of, played, opened, line_of}
 use Rattle.grant_laws.proofs.Names.{reading_of, node_asked, CommitsAreGranted}
-use Rattle.history_book.specs.declared.cause.Cause.TheVariants as cause
 use Rattle.history_book.specs.declared.item.Item.TheVariants as item
 use Rattle.system_parts.specs.declared.session.State.TheVariants as phase
 use Rattle.machine.specs.declared.event.Event.TheVariants as event
@@ -23,9 +22,7 @@ use Rattle.grant_laws.proofs.Commits.{Told, draw_is_told}
 
 -- an instance whose lease stands accepts a commit that began above its epoch
 pub commit_accepted : (i : InstanceEntry) (reading s start : ℕ) (keys : List ℕ) → reading < i.until → i.epoch < start → accept_refusal i reading (Commit s start keys) ≡ None
-commit_accepted i reading s start keys leased in_epoch =
-    ap (λ (stands : Bool). cond stands (epoch_refusal i (Commit s start keys)) (Some (cause.Expired reading i.until))) (lt-ltb reading i.until leased)
-    ∙ ap (λ (old : Bool). cond old (Some (cause.OldEpoch start i.epoch)) None) (lt-leb start i.epoch in_epoch)
+commit_accepted i reading s start keys leased in_epoch = grind (arith, lt-ltb, lt-leb)
 
 pub commits_are_granted : EventsLowerWhatIsLeft → CommitsAreGranted
 commits_are_granted lowers script p number s to before can =

@@ -1,14 +1,15 @@
 -- A commit line: ask, acceptance, decision, put and answer, or answer and the session's placing, with an extension where the range is
 -- used up.
+use Rattle.std.proofs.Common.{arith}
 use Rattle.grant_laws.proofs.Names.{◌≡◌, ℕ, ◌<◌, Bool, List, [], ◌∷◌, ◌++◌, length, Option, Some, None, true, false}
 use Rattle.grant_laws.proofs.Names.{refl, ◌∙◌, ap, Store, Table, CommittedMark, Works, Session, Item, Handed, Pairs}
-use Rattle.grant_laws.proofs.Names.{mark_of, put_pair, SessionState, Held, Commit, InstanceEntry, held_of, with_request}
-use Rattle.grant_laws.proofs.Names.{held_of-with_request_same, without_request, Client, State, is_reading}
-use Rattle.grant_laws.proofs.Names.{client_handed, doing_by, doing_at, doing_of, holder_of, place_held, commit_held}
-use Rattle.grant_laws.proofs.Names.{sweeping, Effect, Event, Step, step_by, with_post, at_post, asks, asks_at_post}
+use Rattle.grant_laws.proofs.Names.{mark_of, put_pair, Held, Commit, InstanceEntry, held_of, with_request}
+use Rattle.grant_laws.proofs.Names.{held_of-with_request_same, without_request, Client, State}
+use Rattle.grant_laws.proofs.Names.{client_handed, holder_of}
+use Rattle.grant_laws.proofs.Names.{Effect, Event, Step, step_by, with_post, at_post, asks, asks_at_post}
 use Rattle.grant_laws.proofs.Names.{to_place, put_on, put_asks, commit_asks, answer_on, Line, Verb, ScriptData}
-use Rattle.grant_laws.proofs.Names.{ClientAt, Drives, Clocks, placing_next, drive_next, Calls, Played, fate_by, fate_of}
-use Rattle.grant_laws.proofs.Names.{step_of, calls_after, one_more, played, Run, clocks_of, next_in, run_after, on_both}
+use Rattle.grant_laws.proofs.Names.{ClientAt, Drives, Calls, Played, fate_by, fate_of}
+use Rattle.grant_laws.proofs.Names.{step_of, calls_after, one_more, played, Run, next_in, run_after}
 use Rattle.grant_laws.proofs.Names.{line_of, Appends, IsPlacing}
 use Rattle.history_book.specs.declared.item.Item.TheVariants as item
 use Rattle.system_parts.specs.declared.session.State.TheVariants as phase
@@ -59,9 +60,7 @@ put_made script node s start commit keys told p x k has absent works =
 
 -- ---- the answer
 answer_tells : (script : ScriptData) (node s start commit : ℕ) (keys : List ℕ) (told : Bool) (p : Played) (x : Spot) → IsAt script node s p x → held_of x.oracle s ≡ Some (with_record (Commit s start keys) told commit) → (step_of script p (event.Answer node s)).items ≡ item.Committed s start commit ∷ []
-answer_tells script node s start commit keys told p x k has =
-    ap (λ (step : Step). step.items) (on_both p.state node s x.oracle x.client (answer_on node s) k.node_has k.session_is)
-    ∙ commit_answered node s start commit keys told x.oracle x.client has
+answer_tells script node s start commit keys told p x k has = grind (arith, commit_answered)
 
 -- from the draw on
 pub record Told (script : ScriptData) (line : Line) (p : Played) (x : Item) : Type 0 where
@@ -97,12 +96,7 @@ hand_made script node s start commit keys told p x k has waits = on_request_made
 
 -- the line goes on with the placing
 places_next : (script : ScriptData) (to : Target) (number node s start commit : ℕ) (q : Played) (client : Client) → ClientAt q.state.clients s client → client.entry.state ≡ phase.Placing → holder_of q.state s ≡ None → next_in script (line_of number (Session s) (verb.Commit to)) (run_at Drives q) ≡ Some (event.Step s)
-places_next script to number node s start commit q client at placing none =
-    let clocks : Clocks = clocks_of script q in
-    let next : Option (ℕ × Held) → Option Event = λ (found : Option (ℕ × Held)). drive_next clocks s (verb.Commit to) (record { doing = doing_of q.state s; request = place_held found; commit = commit_held found; sweeping = sweeping q.state }) (place_held found) in
-    ap next none
-    ∙ ap (λ (found : Option Client). placing_next s (doing_at found) true) at
-    ∙ ap (λ (state : SessionState). placing_next s (doing_by state (is_reading client)) true) placing
+places_next script to number node s start commit q client at placing none = grind arith
 
 hand_is_told : (script : ScriptData) (to : Target) (number node s start commit : ℕ) (keys : List ℕ) (told : Bool) (p : Played) (x : Spot) → IsAt script node s p x → s < length x.oracle.requests → held_of x.oracle s ≡ Some (with_stamp true (Commit s start keys) told commit) → x.client.entry.state ≡ phase.Committing → x.client.entry.start ≡ Some start → mark_of x.pairs start ≡ None → fate_by script x.calls (Some Table) ≡ Works → Told script (line_of number (Session s) (verb.Commit to)) p (item.Committed s start commit)
 hand_is_told script to number node s start commit keys told p x k within has waits begun absent works =

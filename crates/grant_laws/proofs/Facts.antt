@@ -1,5 +1,5 @@
 -- What the facts of the state before a line give to the proofs: the numbers of the instance, and what stands of an open transaction.
-use Rattle.grant_laws.proofs.Names.{◌≡◌, ℕ, ◌+◌, ◌<◌, ◌≤◌, ◌^◌, length, Option, Some, None, ◌⊎◌, inl, inr, refl, subst}
+use Rattle.grant_laws.proofs.Names.{◌≡◌, ℕ, ◌+◌, ◌<◌, ◌≤◌, ◌^◌, length, Option, Some, None, ◌⊎◌, refl, subst}
 use Rattle.grant_laws.proofs.Names.{arith, slice_get_within, Master, Mark, CommittedMark, InvalidMark, SetupNumbers}
 use Rattle.grant_laws.proofs.Names.{Works, mark_of, InstanceEntry, Client, ScriptData, InstanceAt, ClientAt, Marked}
 use Rattle.grant_laws.proofs.Names.{epoch_or_none, Played, fate_by, HasStamp}
@@ -28,15 +28,10 @@ is_first script node s p i c known at session_is idle = record {
 
 -- a session's request has its place at each instance
 pub has_place : (script : ScriptData) (node s : ℕ) (p : Played) (i : InstanceEntry) (c : Client) → Known script p → InstanceAt p.state.nodes node i → ClientAt p.state.clients s c → s < length i.requests
-has_place script node s p i c known at session_is =
-    let clients : length p.state.clients ≡ 16 = known.tells.shows.sixteen in
-    let requests : length i.requests ≡ 16 = known.tells.shows.open_asks.sixteen node i at in
-    let within : s < length p.state.clients = slice_get_within p.state.clients s c session_is in
-    omega (arith, clients, requests, within)
+has_place script node s p i c known at session_is = grind (arith, slice_get_within)
 
 more_by : (script : ScriptData) (p : Played) (i : InstanceEntry) → HasStamp script p i → (i.last < i.ceiling) ⊎ ((p.state.master.ceiling + script.setup.range ≤ 2 ^ 62) × (fate_by script p.calls (Some Master) ≡ Works))
-more_by script p i (inl left) = inl left
-more_by script p i (inr wider) = inr (wider.stamps, wider.extending)
+more_by script p i h = grind arith
 
 pub can_draw : (script : ScriptData) (node s : ℕ) (p : Played) (i : InstanceEntry) (c : Client) → Known script p → InstanceAt p.state.nodes node i → ClientAt p.state.clients s c → i.term ≡ p.state.master.term → i.stop ≡ None → HasStamp script p i → CanDraw script s (first_spot p i c)
 can_draw script node s p i c known at session_is in_term goes_on stamp = record {

@@ -1,6 +1,7 @@
 -- For log_refinement too, which keeps what a log shows of a request.
 -- An event that does not touch a session's request at a node leaves it there, as far as it has come.
-use Rattle.grant_laws.proofs.Names.{◌≡◌, ◌≢◌, ℕ, ◌==◌, ◌&&◌, Bool, true, false, List, Option, Some, None, refl, sym}
+use Rattle.std.proofs.Common.{arith}
+use Rattle.grant_laws.proofs.Names.{◌≡◌, ◌≢◌, ℕ, ◌==◌, ◌&&◌, false, List, Option, Some, None, refl, sym}
 use Rattle.grant_laws.proofs.Names.{subst, slice_get, slice_set, IfSome, eq-eqb, eqb-false, Fate, begin_refusal}
 use Rattle.grant_laws.proofs.Names.{work_refusal, Held, Progress, Request, InstanceEntry, held_of, stamps_at, State}
 use Rattle.grant_laws.proofs.Names.{is_reading, Event, Step, with_reading, stepped, take_on, renew_on, extend_on}
@@ -18,12 +19,8 @@ abbrev StepHas : ℕ → ℕ → Held → Step → Type 0
 StepHas node s held step = Has step.state.nodes node s held
 
 -- the event serves another session, or another node
-other_by : (a b : Bool) → a && b ≡ false → a ≡ true → b ≡ false
-other_by true b none is = none
-other_by false b none is = let clash : false ≡ true = is in absurd (cc)
-
 other_session : (node n s r : ℕ) → (n == node) && (r == s) ≡ false → n ≡ node → r ≢ s
-other_session node n s r none same = eqb-false r s (other_by (n == node) (r == s) none (eq-eqb n node same))
+other_session node n s r none same = grind (arith, eqb-false, eq-eqb)
 
 -- an event that makes a call on another session's request
 calls_has : (nodes : List (Option InstanceEntry)) (node n s r : ℕ) (held : Held) (post : Option InstanceEntry) (g : Option InstanceEntry → Option InstanceEntry) (k : Has nodes node s held) → (n == node) && (r == s) ≡ false → slice_get nodes n ≡ Some post → Called k.i r (g (Some k.i)) → Has (slice_set nodes n (g post)) node s held

@@ -1,7 +1,8 @@
 -- What holds of every state that turns lead to: it is reached, and its history shows it.
-use Rattle.grant_laws.proofs.Names.{◌≡◌, List, [], ◌∷◌, Option, Some, None, refl, fold, AreInRange, Event, ScriptData}
+use Rattle.std.proofs.Common.{arith}
+use Rattle.grant_laws.proofs.Names.{List, [], ◌∷◌, fold, AreInRange, ScriptData}
 use Rattle.grant_laws.proofs.Names.{ExplainedInvariant, tells_stay, tells_at_first, ReachedInvariant, IsPlayable}
-use Rattle.grant_laws.proofs.Names.{fate_of, Turn, Carried, event_of, turned_by, turned, carried, all_passed, at_first}
+use Rattle.grant_laws.proofs.Names.{Turn, Carried, turned, carried, all_passed, at_first}
 use Rattle.grant_laws.proofs.Names.{Facts, facts_turned, facts_at_first}
 use Rattle.grant_laws.proofs.Before.{Known}
 use Rattle.grant_laws.proofs.SettledCommits.{turn_steady}
@@ -16,12 +17,8 @@ as_known script c k = record { reached = k.facts.reached; tells = k.tells; fit =
 pub known_stands : (script : ScriptData) (c : Carried) → KnownTurns script c → ReachedInvariant c.played.state c.played.items
 known_stands script c k = k.facts.reached.stands
 
-tells_by : (script : ScriptData) (c : Carried) (t : Turn) → IsPlayable script 0 script.lines → KnownTurns script c → (found : Option Event) → event_of script c t ≡ found → ExplainedInvariant (turned_by script c t found).played.state (turned_by script c t found).played.items
-tells_by script c t playable k None is = k.tells
-tells_by script c t playable k (Some e) is = tells_stay c.played.state c.played.items e (fate_of script c.played e) k.tells (turn_steady script c t e playable k.facts is)
-
 pub known_turned : (script : ScriptData) (c : Carried) (t : Turn) → IsPlayable script 0 script.lines → KnownTurns script c → KnownTurns script (turned script c t)
-known_turned script c t playable k = record { facts = facts_turned script c t playable k.facts; tells = tells_by script c t playable k (event_of script c t) refl }
+known_turned script c t playable k = grind (arith, facts_turned, tells_stay, turn_steady)
 
 pub known_on : (script : ScriptData) → IsPlayable script 0 script.lines → (turns : List Turn) (c : Carried) → KnownTurns script c → KnownTurns script (fold (turned script) c turns)
 known_on script playable [] c k = k

@@ -1,10 +1,11 @@
 -- Turns of others leave a request as far as it has come, and so does an answer that comes too early.
+use Rattle.std.proofs.Common.{arith}
 use Rattle.grant_laws.proofs.Names.{◌≡◌, ◌≢◌, ℕ, true, false, List, [], ◌∷◌, ◌++◌, Option, Some, None, ◌⊎◌, inl, inr}
 use Rattle.grant_laws.proofs.Names.{refl, sym, ◌∙◌, ap, subst, fold, IfSome, Session, Held, Progress, Request, Begin}
-use Rattle.grant_laws.proofs.Names.{InstanceEntry, held_of, stamps_by, stamps_of_held, was_told_not_yet}
-use Rattle.grant_laws.proofs.Names.{least_unsettled, not_yet_told, answer_begin, answer_if_ready, answer_held}
+use Rattle.grant_laws.proofs.Names.{InstanceEntry, held_of, was_told_not_yet}
+use Rattle.grant_laws.proofs.Names.{least_unsettled, not_yet_told}
 use Rattle.grant_laws.proofs.Names.{held_of-with_request_same, Client, State, Effect, refused_once, Event, Step}
-use Rattle.grant_laws.proofs.Names.{answer_by, answer_request, answer_on, ScriptData, ReachedInvariant, InstanceAt}
+use Rattle.grant_laws.proofs.Names.{answer_on, ScriptData, ReachedInvariant, InstanceAt}
 use Rattle.grant_laws.proofs.Names.{set_found, one_instance, IsPlayable, Played, step_of, played, node_step, on_both}
 use Rattle.grant_laws.proofs.Names.{Turn, Carried, event_of, turned, carried, IsServed, touches, AtNode, Leave}
 use Rattle.grant_laws.proofs.Names.{AnswersEarly, LeaveWaiting, ToldToWait, EarlyAnswersWait}
@@ -28,14 +29,7 @@ left_served script node s request at (t ∷ turns) c leave k = left_served scrip
 
 -- ---- an answer that comes too early
 waits_so : (node s start commit : ℕ) (i : InstanceEntry) (c : Client) (held : Held) → held_of i s ≡ Some held → held.request ≡ Begin s → held.progress ≡ progress.Drawn start → least_unsettled i.requests start ≡ Some commit → answer_on node s (Some i) c ≡ refused_once (was_told_not_yet i s) (Some (not_yet_told i s held), c) (Session s) (cause.NotYet commit)
-waits_so node s start commit i c held has asks stands least =
-    ap (λ (found : Option Held). answer_request node s i c (stamps_of_held found)) has
-    ∙ ap (λ (request : Request). answer_request node s i c (stamps_by request held.progress)) asks
-    ∙ ap (λ (p : Progress). answer_request node s i c (stamps_by (Begin s) p)) stands
-    ∙ ap (λ (found : Option Held). answer_by node s start c i (answer_held i s found).left (answer_held i s found).answer) has
-    ∙ ap (λ (request : Request). answer_by node s start c i (answer_if_ready i s held request held.progress).left (answer_if_ready i s held request held.progress).answer) asks
-    ∙ ap (λ (p : Progress). answer_by node s start c i (answer_if_ready i s held (Begin s) p).left (answer_if_ready i s held (Begin s) p).answer) stands
-    ∙ ap (λ (found : Option ℕ). answer_by node s start c i (answer_begin i s held start found).left (answer_begin i s held start found).answer) least
+waits_so node s start commit i c held has asks stands least = grind arith
 
 told_to_wait : (script : ScriptData) (c : Carried) (node s start commit : ℕ) (k : IsServed c.played node s (Begin s) (progress.Drawn start)) → ReachedInvariant c.played.state c.played.items → least_unsettled k.oracle.requests start ≡ Some commit → ToldToWait script c node s start commit k
 told_to_wait script c node s start commit k stands least =

@@ -1,6 +1,6 @@
 -- A run event by event: what the first events come to is the beginning of what the whole run comes to.
 use Rattle.grant_laws.proofs.Names.{◌≡◌, ℕ, zero, suc, ◌+◌, ◌-◌, ◌≤◌, List, [], ◌∷◌, ◌++◌, append_assoc, Option, Some}
-use Rattle.grant_laws.proofs.Names.{None, inl, inr, refl, sym, ◌∙◌, ap, subst, arith, append-nil, ◌∈◌, Item, Event}
+use Rattle.grant_laws.proofs.Names.{inl, inr, refl, sym, ◌∙◌, ap, subst, arith, append-nil, ◌∈◌, Item, Event}
 use Rattle.grant_laws.proofs.Names.{Line, ScriptData, Point, halt_of, follows, Played, step_of, played, Run, next_in}
 use Rattle.grant_laws.proofs.Names.{run_after, left_in, going_on, run_for, opened, line_run, lines_played, Appends}
 
@@ -32,23 +32,14 @@ in_one x = inl refl
 
 -- what was appended stays so, whatever comes before and after
 pub appended_before : (a b c : List Item) (x : Item) → Longer a b → Appends b c x → Appends a c x
-appended_before a b c x first k = record {
-  added = first.added ++ k.added;
-  is = k.is ∙ ap (λ (h : List Item). h ++ k.added) first.is ∙ append_assoc a first.added k.added;
-  has = in_last x first.added k.added k.has;
-}
+appended_before a b c x first k = grind (arith, append_assoc, in_last)
 
 pub appended_still : (a b c : List Item) (x : Item) → Appends a b x → Longer b c → Appends a c x
-appended_still a b c x k then = record {
-  added = k.added ++ then.added;
-  is = then.is ∙ ap (λ (h : List Item). h ++ then.added) k.is ∙ append_assoc a k.added then.added;
-  has = in_first x k.added then.added k.has;
-}
+appended_still a b c x k then = grind (arith, append_assoc, in_first)
 
 -- ---- runs only append
 run_longer_by : (script : ScriptData) (line : Line) (r : Run) (on : Event → Run) → ((e : Event) → Longer r.played.items (on e).played.items) → (found : Option Event) → Longer r.played.items (going_on r found on).played.items
-run_longer_by script line r on each None = same_long r.played.items
-run_longer_by script line r on each (Some e) = each e
+run_longer_by script line r on each found = grind (arith, same_long)
 
 pub run_longer : (most : ℕ) (script : ScriptData) (line : Line) (r : Run) → Longer r.played.items (run_for most script line r).played.items
 unfolding run_for
@@ -67,14 +58,9 @@ Leads script line n r s = (most rest : ℕ) → most ≡ n + rest → run_for mo
 pub leads_on : (script : ScriptData) (line : Line) (n m k : ℕ) (r s t : Run) → k ≡ n + m → Leads script line n r s → Leads script line m s t → Leads script line k r t
 leads_on script line n m k r s t sum first then most rest is = first most (m + rest) (omega (arith, sum, is)) ∙ then (m + rest) rest refl
 
-by_event : (script : ScriptData) (line : Line) (r : Run) (e : Event) (rest : ℕ) → next_in script line r ≡ Some e → run_for (suc rest) script line r ≡ run_for rest script line (run_after script line r e)
-unfolding run_for
-by_event script line r e rest is = ap (λ (found : Option Event). going_on r found (λ e. run_for rest script line (run_after script line r e))) is
-
 pub leads_one : (script : ScriptData) (line : Line) (r : Run) (e : Event) → next_in script line r ≡ Some e → Leads script line 1 r (run_after script line r e)
-leads_one script line r e is most rest many =
-    let more : most ≡ suc rest = omega (arith, many) in
-    ap (λ (n : ℕ). run_for n script line r) more ∙ by_event script line r e rest is
+unfolding run_for
+leads_one script line r e is most rest many = grind arith
 
 -- a run at a point
 abbrev pub run_at : Point → Played → Run

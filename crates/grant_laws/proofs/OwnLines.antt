@@ -1,8 +1,9 @@
 -- What is ahead of an actor whose seat stands at a point of a line, and the lines of one turn.
-use Rattle.grant_laws.proofs.Names.{◌≡◌, ℕ, List, [], ◌∷◌, ◌++◌, Option, Some, ◌∙◌, ap, fold, ◌∈◌, Actor, Node, Session}
+use Rattle.std.proofs.Common.{arith}
+use Rattle.grant_laws.proofs.Names.{◌≡◌, ℕ, List, ◌∷◌, ◌++◌, Option, Some, ◌∙◌, ap, ◌∈◌, Actor, Node, Session}
 use Rattle.grant_laws.proofs.Names.{Item, Event, Line, Verb, ScriptData, Point, Opens, same_actor, Clocks, view_of}
 use Rattle.grant_laws.proofs.Names.{actor_same, Makes, Seat, Turn, own_next, present_line, Carried, aimed_clocks}
-use Rattle.grant_laws.proofs.Names.{seat_of, name_posted, ahead_at, ahead_in, own_ahead, made_by, turned, carried}
+use Rattle.grant_laws.proofs.Names.{seat_of, name_posted, ahead_at, ahead_in, own_ahead, made_by, carried}
 use Rattle.grant_laws.proofs.Names.{find_true, present_own, reading_of, Adds, IsAhead, RunsGrantWrites, RunsGrantTakes}
 use Rattle.history_book.specs.declared.item.Item.TheVariants as item
 use Rattle.machine.specs.declared.event.Event.TheVariants as event
@@ -35,9 +36,7 @@ line_makes script c aim actor v k = seat_makes script c aim actor k.seat k.line 
 
 -- ---- lines of one turn
 by_one_turn : (script : ScriptData) (before later : List Turn) (t : Turn) (x : Item) → Adds script (carried script before) t x → x ∈ (carried script (before ++ t ∷ later)).played.items
-by_one_turn script before later t x adds =
-    let c : Carried = carried script before in
-    carries script (before ++ t ∷ later) (fold (turned script) (turned script c t) later) x (turns_on script (carried script []) before (t ∷ later)) (still_has script later (turned script c t) x (has_added script c t x adds))
+by_one_turn script before later t x adds = grind (arith, carries, turns_on, still_has, has_added)
 
 pub runs_grant_writes : RunsGrantWrites
 runs_grant_writes script before later aim s key value ahead can =

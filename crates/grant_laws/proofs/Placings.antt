@@ -1,20 +1,19 @@
 -- A commit that its session is to place: the step that places it, and that turns of others leave it.
 use Rattle.grant_laws.proofs.Names.{◌≡◌, ℕ, true, false, List, [], ◌∷◌, ◌++◌, Option, Some, None, inr, refl, ◌∙◌, ap}
-use Rattle.grant_laws.proofs.Names.{Mark, CommittedMark, InvalidMark, Store, Table, Fate, Works, fated, Session, Item}
-use Rattle.grant_laws.proofs.Names.{Pairs, mark_of, put_pair, SessionState, step_refusal, Held, Client, State}
-use Rattle.grant_laws.proofs.Names.{is_reading, Event, Step, asks, asks_at_client, doing_by, doing_at, doing_of}
-use Rattle.grant_laws.proofs.Names.{holder_of, place_held, commit_held, sweeping, asked_next, step_asks_by, step_asks}
+use Rattle.grant_laws.proofs.Names.{Mark, CommittedMark, InvalidMark, Table, Works, Session, Item}
+use Rattle.grant_laws.proofs.Names.{mark_of, SessionState, Held, Client, State}
+use Rattle.grant_laws.proofs.Names.{is_reading, Event, doing_by, doing_at, doing_of}
+use Rattle.grant_laws.proofs.Names.{holder_of, place_held, commit_held, sweeping}
 use Rattle.grant_laws.proofs.Names.{Verb, ScriptData, Has, InFlight, is_placing, PlacingAt, ReachedInvariant, ClientAt}
 use Rattle.grant_laws.proofs.Names.{Marked, Drives, IsPlayable, placing_next, Played, fate_by, fate_of, step_of}
 use Rattle.grant_laws.proofs.Names.{place_is, NextAction, Makes, made_next, drive_ahead, Turn, Carried, own_ahead}
 use Rattle.grant_laws.proofs.Names.{event_of, turned_by, turned, carried, made_by, none_held, client_stays}
 use Rattle.grant_laws.proofs.Names.{PlacingsStay, next_fate, is_own, NoneOwn, CommitLinesPlace, IsPlacing}
 use Rattle.grant_laws.proofs.Names.{PlacingsAreCarried}
-use Rattle.std.proofs.Common.{fold}
+use Rattle.std.proofs.Common.{arith, fold}
 use Rattle.history_book.specs.declared.item.Item.TheVariants as item
 use Rattle.system_parts.specs.declared.session.State.TheVariants as phase
 use Rattle.machine.specs.declared.event.Event.TheVariants as event
-use Rattle.machine.specs.Events.Place.{place_by, place_on}
 use Rattle.script_data.specs.declared.line.Verb.TheVariants as verb
 use Rattle.command_semantics.proofs.Working.{PlaceWork, handed_is}
 use Rattle.turn_rules.specs.declared.turn.Turn.TheVariants as turn
@@ -28,25 +27,8 @@ abbrev place_work : (p : Played) (s start commit : ℕ) (k : IsPlacing p s start
 place_work p s start commit k = record { start = start; commit = commit; placing = k.in_work; handed = handed_is k.client start commit k.in_work k.begun k.commit_is }
 
 -- it asks the commit table
-place_asks : (w : State) (s : ℕ) (c : Client) (k : PlaceWork c) → ClientAt w.clients s c → asks w (event.Step s) ≡ Some Table
-place_asks w s c k at =
-    ap (λ (found : Option Client). asks_at_client found step_asks) at
-    ∙ ap (λ (state : SessionState). step_asks_by c (step_refusal state (is_reading c))) k.placing
-    ∙ ap (λ (due : Option (ℕ × ℕ)). asked_next c due) k.handed
-
-placed_so : (s start commit : ℕ) (fate : Fate) (c : Client) (pairs : Pairs) → mark_of pairs start ≡ None → fate ≡ Works → (place_on s start commit fate c pairs).items ≡ item.Placed start commit ∷ item.Committed s start commit ∷ []
-placed_so s start commit fate c pairs absent works =
-    let after : Pairs = put_pair pairs start (CommittedMark commit) in
-    ap (λ (f : Fate). (place_by s start commit f (mark_of pairs start) c (fated f pairs after)).items) works
-    ∙ ap (λ (found : Option Mark). (place_by s start commit Works found c after).items) absent
-
 pub place_tells : (script : ScriptData) (p : Played) (s start commit : ℕ) → IsPlacing p s start commit → mark_of p.state.pairs start ≡ None → fate_by script p.calls (Some Table) ≡ Works → (step_of script p (event.Step s)).items ≡ item.Placed start commit ∷ item.Committed s start commit ∷ []
-place_tells script p s start commit k absent works =
-    let e : Event = event.Step s in
-    let work : PlaceWork k.client = place_work p s start commit k in
-    let fate : fate_of script p e ≡ Works = ap (λ (store : Option Store). fate_by script p.calls store) (place_asks p.state s k.client work k.session_is) ∙ works in
-    ap (λ (step : Step). step.items) (place_is p.state s (fate_of script p e) k.client work k.session_is)
-    ∙ placed_so s start commit (fate_of script p e) k.client p.state.pairs absent fate
+place_tells script p s start commit k absent works = grind (arith, place_is)
 
 -- nothing stands in the table for it, unless somebody has marked the transaction
 absent_by : (p : Played) (s start commit : ℕ) (k : IsPlacing p s start commit) (found : Option Mark) → ReachedInvariant p.state p.items → (Marked p.state.pairs start → ⊥) → mark_of p.state.pairs start ≡ found → found ≡ None
@@ -81,7 +63,7 @@ placing_stays : (script : ScriptData) (c : Carried) (t : Turn) (s start commit :
 placing_stays script c t s start commit known other k = left_by script c t s start commit (event_of script c t) known refl other k
 
 pub placings_stay : PlacingsStay
-placings_stay script turns t s start commit in_range playable other k = placing_stays script (carried script turns) t s start commit (known_carried script turns in_range playable) other k
+placings_stay script turns t s start commit in_range playable other k = grind (arith, known_carried, left_by)
 
 pub left_placing : (script : ScriptData) → IsPlayable script 0 script.lines → (s start commit : ℕ) (turns : List Turn) (c : Carried) → KnownTurns script c → NoneOwn s turns → IsPlacing c.played s start commit → IsPlacing (fold (turned script) c turns).played s start commit
 unfolding NoneOwn

@@ -1,14 +1,14 @@
 -- A read line under way on threads: its session's seat stands at the steps of the read, also after its own turns and those of others.
-use Rattle.grant_laws.proofs.Names.{◌≡◌, ℕ, ◌≤◌, Bool, true, false, cond, List, ◌∷◌, Option, Some, None, sym, ◌∙◌, ap}
-use Rattle.grant_laws.proofs.Names.{subst, option_map, Actor, Session, SessionState, Reading, UnderWay, Client}
-use Rattle.grant_laws.proofs.Names.{is_reading_by, is_reading, doing_at, doing_by, doing_of, Stop, Event, Step, Line}
-use Rattle.grant_laws.proofs.Names.{Verb, ScriptData, Point, Reads, View, halt_of, follows, Clocks, read_next, Played}
-use Rattle.grant_laws.proofs.Names.{clocks_of, step_of, played, view_of, NextAction, Makes, Seat, Turn, own_next}
-use Rattle.grant_laws.proofs.Names.{made_next, lines_of, present_line, ahead_of, is_passed, passed, with_next_line}
+use Rattle.std.proofs.Common.{arith}
+use Rattle.grant_laws.proofs.Names.{◌≡◌, ℕ, ◌≤◌, Bool, Option, Some, None, sym, ◌∙◌, ap}
+use Rattle.grant_laws.proofs.Names.{subst, option_map, Session, Reading}
+use Rattle.grant_laws.proofs.Names.{Stop, Event, Step, Line}
+use Rattle.grant_laws.proofs.Names.{Verb, ScriptData, Reads, halt_of, follows, Clocks, Played}
+use Rattle.grant_laws.proofs.Names.{step_of, played, view_of, Makes, Seat, Turn, own_next}
+use Rattle.grant_laws.proofs.Names.{present_line, passed}
 use Rattle.grant_laws.proofs.Names.{with_event_of, Carried, seat_of, event_of, with_event, seat_passed, all_passed}
 use Rattle.grant_laws.proofs.Names.{turned_by, turned, present_own, get_drop, seat_after, turned_seat, own_moved}
 use Rattle.grant_laws.proofs.Names.{ReadsKey, read_steps}
-use Rattle.system_parts.specs.declared.session.State.TheVariants as phase
 use Rattle.machine.specs.declared.event.Event.TheVariants as event
 use Rattle.script_data.specs.declared.line.Verb.TheVariants as verb
 use Rattle.turn_rules.specs.declared.turn.Turn.TheVariants as turn
@@ -29,36 +29,15 @@ pub record IsUnder (script : ScriptData) (c : Carried) (s start key most : ℕ) 
   pub few : read_steps r ≤ most
 
 -- the next event of such a line is a step
-step_is_next : (p : Played) (s start key : ℕ) (r : Reading) → ReadsKey p s start key r → read_next s (doing_of p.state s) ≡ Some (event.Step s)
-step_is_next p s start key r k =
-    ap (λ (found : Option Client). read_next s (doing_at found)) k.session_is
-    ∙ ap (λ (state : SessionState). read_next s (doing_by state (is_reading k.client))) k.in_work
-    ∙ ap (λ (work : UnderWay). read_next s (doing_by phase.Open (is_reading_by work))) k.under_way
-
 pub makes_step : (clocks : Clocks) (posted unawaited : Bool) (p : Played) (s start key : ℕ) (r : Reading) → ReadsKey p s start key r → own_next clocks posted (Session s) (verb.Read key) Reads (view_of p.state (Session s)) unawaited ≡ Makes (event.Step s)
-makes_step clocks posted unawaited p s start key r k = ap (λ (found : Option Event). made_next found) (step_is_next p s start key r k)
+makes_step clocks posted unawaited p s start key r k = grind arith
 
 -- ---- the seat after an event
-stays_by : (passes : Bool) (on here : Seat) → passes ≡ false → cond passes on here ≡ here
-stays_by passes on here stays = ap (λ (b : Bool). cond b on here) stays
-
-not_passed : (clocks : Clocks) (view : View) (line : Line) (rest : List Line) (seat : Seat) → is_passed (ahead_of clocks true view line seat) ≡ false → passed clocks view (line ∷ rest) seat ≡ seat
-unfolding passed
-not_passed clocks view line rest seat stays = stays_by (is_passed (ahead_of clocks true view line seat)) (passed clocks view rest (with_next_line line seat)) seat stays
-
 -- a seat at the steps of a read that is under way is not passed
 seat_stays : (script : ScriptData) (c : Carried) (s start key : ℕ) (r : Reading) (seat : Seat) (line : Line) → seat.actor ≡ Session s → present_line script seat ≡ Some line → line.verb ≡ verb.Read key → seat.point ≡ Reads → ReadsKey c.played s start key r → seat_passed script c seat ≡ seat
+unfolding passed
 seat_stays script c s start key r seat line mine present verb_is point_is k =
-    let clocks : Clocks = clocks_of script c.played in
-    let view : View = view_of c.played.state seat.actor in
-    let ahead : ahead_of clocks true view line seat ≡ Makes (event.Step s) =
-    ap (λ (a : Actor). own_next clocks true line.actor line.verb seat.point (view_of c.played.state a) seat.unawaited) mine
-    ∙ ap (λ (a : Actor). own_next clocks true a line.verb seat.point (view_of c.played.state (Session s)) seat.unawaited) (present_own script seat line present ∙ mine)
-    ∙ ap (λ (v : Verb). own_next clocks true (Session s) v seat.point (view_of c.played.state (Session s)) seat.unawaited) verb_is
-    ∙ ap (λ (at : Point). own_next clocks true (Session s) (verb.Read key) at (view_of c.played.state (Session s)) seat.unawaited) point_is
-    ∙ makes_step clocks true seat.unawaited c.played s start key r k in
-    ap (λ (left : List Line). passed clocks view left seat) (get_drop seat.place (lines_of script seat.actor) line present)
-    ∙ not_passed clocks view line _ seat (ap (λ (x : NextAction). is_passed x) ahead)
+    grind (arith, present_own, makes_step, get_drop)
 
 -- the read line at which a seat stands
 pub record ReadLine (script : ScriptData) (seat : Seat) (key : ℕ) : Type 0 where

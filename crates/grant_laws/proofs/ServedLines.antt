@@ -1,4 +1,5 @@
 -- Lines whose request is served through to its answer, by the turns that serve it with any of others in between.
+use Rattle.std.proofs.Common.{arith}
 use Rattle.grant_laws.proofs.Names.{◌≡◌, ℕ, ◌+◌, ◌<◌, Bool, true, false, cond, List, [], ◌∷◌, ◌++◌, Some, None, refl}
 use Rattle.grant_laws.proofs.Names.{sym, ◌∙◌, ap, subst, fold, lt-leb, SetupNumbers, ◌∈◌, Session, Item, Free, Progress}
 use Rattle.grant_laws.proofs.Names.{Request, Begin, Commit, InstanceEntry, least_unsettled, drawn_as, epoch_refusal}
@@ -67,10 +68,7 @@ draws_through script s node u request playable known asked serving above no_conf
 
 -- the turns up to the draw, and the rest
 turns_to_draw : (script : ScriptData) (s node : ℕ) (u : UpToDraw) (rest : List Turn) → carried script (all_up_to_draw s node u rest) ≡ fold (turned script) (turned script (at_draw script s node u) (turn.Decide node s)) rest
-turns_to_draw script s node u rest =
-    turns_on script (carried script []) u.before (turn.Own (Session s) u.aim ∷ (u.asked ++ turn.Accept node s ∷ (u.accepted ++ turn.Decide node s ∷ rest)))
-    ∙ turns_on script (turned script (at_ask script u) (turn.Own (Session s) u.aim)) u.asked (turn.Accept node s ∷ (u.accepted ++ turn.Decide node s ∷ rest))
-    ∙ turns_on script (turned script (at_accept script s u) (turn.Accept node s)) u.accepted (turn.Decide node s ∷ rest)
+turns_to_draw script s node u rest = grind (arith, turns_on)
 
 -- ---- a begin
 pub runs_grant_begins : RunsGrantBegins

@@ -1,16 +1,17 @@
 -- The turns by which the stages of a node serve a request, whatever turns came before.
-use Rattle.grant_laws.proofs.Names.{◌≡◌, ◌≢◌, ℕ, ◌+◌, ◌<◌, Bool, cond, List, [], ◌∷◌, length, Option, Some, None, inl}
-use Rattle.grant_laws.proofs.Names.{inr, refl, sym, ◌∙◌, ap, subst, ne_eqb, cases_lt, get_or_past, none-some, Mark}
-use Rattle.grant_laws.proofs.Names.{CommittedMark, InvalidMark, Fate, Works, fated, Cause, Item, Pairs, mark_of}
-use Rattle.grant_laws.proofs.Names.{put_pair, Verdict, Free, Held, Progress, Request, Begin, Commit, InstanceEntry}
-use Rattle.grant_laws.proofs.Names.{held_of, with_request, stamps_by, stamps_of_held, unsettled_by, least_unsettled}
-use Rattle.grant_laws.proofs.Names.{moved, accept_refusal, accept_unless, accept_if_asked, accept_held, out_of_stamps}
-use Rattle.grant_laws.proofs.Names.{decided_by, decide_drawn, decide_by, settle_if_drawn, settle_held, answer_begin}
-use Rattle.grant_laws.proofs.Names.{answer_if_ready, answer_held, stamp_of, held_of-with_request_same, Client, State}
-use Rattle.grant_laws.proofs.Names.{Effect, done, Event, Step, on_request, asks, accept_by, accept_request, accept_on}
-use Rattle.grant_laws.proofs.Names.{draw_item, decision_by, decide_request, decide_on, both_verdict, both_if_accepted}
-use Rattle.grant_laws.proofs.Names.{both_held, to_place, to_place_by, put_by, put_commit, put_on, answer_by}
-use Rattle.grant_laws.proofs.Names.{answer_request, answer_on, ScriptData, InstanceAt, ClientAt, Marked}
+use Rattle.std.proofs.Common.{arith}
+use Rattle.grant_laws.proofs.Names.{◌≡◌, ◌≢◌, ℕ, ◌+◌, ◌<◌, List, [], ◌∷◌, length, Option, Some, None, inl}
+use Rattle.grant_laws.proofs.Names.{refl, sym, ◌∙◌, ap, subst, ne_eqb, cases_lt, get_or_past, none-some, Mark}
+use Rattle.grant_laws.proofs.Names.{CommittedMark, InvalidMark, Fate, Works, Item, Pairs, mark_of}
+use Rattle.grant_laws.proofs.Names.{put_pair, Free, Held, Progress, Request, Begin, Commit, InstanceEntry}
+use Rattle.grant_laws.proofs.Names.{held_of, with_request, least_unsettled}
+use Rattle.grant_laws.proofs.Names.{moved, accept_refusal}
+use Rattle.grant_laws.proofs.Names.{decide_drawn}
+use Rattle.grant_laws.proofs.Names.{held_of-with_request_same, Client, State}
+use Rattle.grant_laws.proofs.Names.{Effect, done, Event, Step, on_request, asks, accept_on}
+use Rattle.grant_laws.proofs.Names.{draw_item, decide_on, both_verdict}
+use Rattle.grant_laws.proofs.Names.{put_on}
+use Rattle.grant_laws.proofs.Names.{answer_on, ScriptData, InstanceAt, ClientAt, Marked}
 use Rattle.grant_laws.proofs.Names.{ReachedInvariant, Has, InFlight, HeldPending, WaitsFor, set_found, Played, step_of}
 use Rattle.grant_laws.proofs.Names.{played, node_step, on_both, Turn, Carried, turned, Adds, IsServed, Serves}
 use Rattle.history_book.specs.declared.item.Item.TheVariants as item
@@ -19,10 +20,7 @@ use Rattle.system_parts.specs.declared.instance.Settled.TheVariants as how
 
 -- ---- the parts that a turn looks at
 held_within : (i : InstanceEntry) (s : ℕ) (held : Held) → held_of i s ≡ Some held → s < length i.requests
-held_within i s held has = elim (cases_lt s (length i.requests)) [
-  | inl within ↦ within
-  | inr past ↦ absurd (none-some held (sym (get_or_past i.requests s None past) ∙ has))
-]
+held_within i s held has = grind (arith, cases_lt, none-some, get_or_past)
 
 -- the client of a request, and that the request has its place
 pub record Parts (p : Played) (node s : ℕ) (request : Request) (at : Progress) (k : IsServed p node s request at) : Type 0 where
@@ -68,45 +66,18 @@ tells_by script c e node s seen request at f items k parts is effect = ap (λ (s
 
 -- ---- the acceptance
 pub accepts_so : (node s reading : ℕ) (i : InstanceEntry) (c : Client) (held : Held) → held_of i s ≡ Some held → held.progress ≡ progress.Asked → accept_refusal i reading held.request ≡ None → accept_on node s reading (Some i) c ≡ done (Some (moved i s held progress.Accepted), c) (item.Accept s node i.term reading ∷ [])
-accepts_so node s reading i c held has asked is_free =
-    ap (λ (found : Option Held). accept_request node s reading i c found) has
-    ∙ ap (λ (found : Option Held). accept_by node s reading held.request (accept_held i s reading found).left c (accept_held i s reading found).answer) has
-    ∙ ap (λ (p : Progress). accept_by node s reading held.request (accept_if_asked i s reading held p).left c (accept_if_asked i s reading held p).answer) asked
-    ∙ ap (λ (why : Option Cause). accept_by node s reading held.request (accept_unless i s held why).left c (accept_unless i s held why).answer) is_free
+accepts_so node s reading i c held has asked is_free = grind arith
 
 -- ---- the draw
-is_stamp : (request : Request) (stamp : ℕ) → stamp_of (decided_by request stamp) ≡ stamp
-is_stamp (Begin s) stamp = refl
-is_stamp (Commit s start keys) stamp = refl
-
 pub draws_so : (node s : ℕ) (i : InstanceEntry) (c : Client) (held : Held) → held_of i s ≡ Some held → held.progress ≡ progress.Accepted → both_verdict i.buckets c.reads held.request ≡ Free → i.last ≢ i.ceiling → decide_on node s (Some i) c ≡ done (Some (decide_drawn i s held (i.last + 1)).left, c) (draw_item node i.term held.request (i.last + 1) ∷ [])
-draws_so node s i c held has accepted no_conflict more =
-    ap (λ (found : Option Held). decide_request node s i c found) has
-    ∙ ap (λ (found : Option Held). decision_by node s held (both_held i s c.reads found).left c (both_held i s c.reads found).answer) has
-    ∙ ap (λ (p : Progress). decision_by node s held (both_if_accepted i s c.reads held p).left c (both_if_accepted i s c.reads held p).answer) accepted
-    ∙ ap (λ (v : Verdict). decision_by node s held (decide_by i s held v).left c (decide_by i s held v).answer) no_conflict
-    ∙ ap (λ (spent : Bool). let step = cond spent (out_of_stamps i s held i.stop) (decide_drawn i s held (i.last + 1)) in decision_by node s held step.left c step.answer) (ne_eqb i.last i.ceiling more)
-    ∙ ap (λ (stamp : ℕ). done (Some (decide_drawn i s held (i.last + 1)).left, c) (draw_item node i.term held.request stamp ∷ [])) (is_stamp held.request (i.last + 1))
+draws_so node s i c held has accepted no_conflict more = grind (arith, ne_eqb)
 
 -- ---- the answers
 pub commit_answers : (node s start commit : ℕ) (keys : List ℕ) (i : InstanceEntry) (c : Client) (held : Held) → held_of i s ≡ Some held → held.request ≡ Commit s start keys → held.progress ≡ progress.Settled commit how.Placed → (answer_on node s (Some i) c).items ≡ item.Committed s start commit ∷ []
-commit_answers node s start commit keys i c held has asks stands =
-    ap (λ (found : Option Held). (answer_request node s i c (stamps_of_held found)).items) has
-    ∙ ap (λ (request : Request). (answer_request node s i c (stamps_by request held.progress)).items) asks
-    ∙ ap (λ (p : Progress). (answer_request node s i c (stamps_by (Commit s start keys) p)).items) stands
-    ∙ ap (λ (found : Option Held). (answer_by node s start c i (answer_held i s found).left (answer_held i s found).answer).items) has
-    ∙ ap (λ (request : Request). (answer_by node s start c i (answer_if_ready i s held request held.progress).left (answer_if_ready i s held request held.progress).answer).items) asks
-    ∙ ap (λ (p : Progress). (answer_by node s start c i (answer_if_ready i s held (Commit s start keys) p).left (answer_if_ready i s held (Commit s start keys) p).answer).items) stands
+commit_answers node s start commit keys i c held has asks stands = grind arith
 
 pub begin_answers : (node s start : ℕ) (i : InstanceEntry) (c : Client) (held : Held) → held_of i s ≡ Some held → held.request ≡ Begin s → held.progress ≡ progress.Drawn start → least_unsettled i.requests start ≡ None → (answer_on node s (Some i) c).items ≡ item.Begin s start ∷ []
-begin_answers node s start i c held has asks stands settled =
-    ap (λ (found : Option Held). (answer_request node s i c (stamps_of_held found)).items) has
-    ∙ ap (λ (request : Request). (answer_request node s i c (stamps_by request held.progress)).items) asks
-    ∙ ap (λ (p : Progress). (answer_request node s i c (stamps_by (Begin s) p)).items) stands
-    ∙ ap (λ (found : Option Held). (answer_by node s start c i (answer_held i s found).left (answer_held i s found).answer).items) has
-    ∙ ap (λ (request : Request). (answer_by node s start c i (answer_if_ready i s held request held.progress).left (answer_if_ready i s held request held.progress).answer).items) asks
-    ∙ ap (λ (p : Progress). (answer_by node s start c i (answer_if_ready i s held (Begin s) p).left (answer_if_ready i s held (Begin s) p).answer).items) stands
-    ∙ ap (λ (least : Option ℕ). (answer_by node s start c i (answer_begin i s held start least).left (answer_begin i s held start least).answer).items) settled
+begin_answers node s start i c held has asks stands settled = grind arith
 
 -- ---- the put
 -- nothing stands in the table for a commit in flight that nobody has marked
@@ -119,13 +90,4 @@ unplaced_by p node s start commit keys k (Some (CommittedMark other)) stands unm
     absurd ((stands.holds.requests.pending.so_far q (inl pending)).1 other (stands.holds.cells.pairs_are.placed start other is))
 
 pub places_so : (node s start commit : ℕ) (keys : List ℕ) (fate : Fate) (i : InstanceEntry) (pairs : Pairs) (held : Held) → held_of i s ≡ Some held → held.request ≡ Commit s start keys → held.progress ≡ progress.Drawn commit → mark_of pairs start ≡ None → fate ≡ Works → put_on node s fate (Some i) pairs ≡ done (Some (moved i s held (progress.Settled commit how.Placed)), put_pair pairs start (CommittedMark commit)) (item.Placed start commit ∷ [])
-places_so node s start commit keys fate i pairs held has asks stands absent works =
-    let after : Pairs = put_pair pairs start (CommittedMark commit) in
-    ap (λ (found : Option Held). put_commit node s fate i pairs (to_place found)) has
-    ∙ ap (λ (request : Request). put_commit node s fate i pairs (to_place_by request held.progress)) asks
-    ∙ ap (λ (p : Progress). put_commit node s fate i pairs (to_place_by (Commit s start keys) p)) stands
-    ∙ ap (λ (f : Fate). put_by node s start commit f (mark_of pairs start) i (fated f pairs after)) works
-    ∙ ap (λ (found : Option Mark). put_by node s start commit Works found i after) absent
-    ∙ ap (λ (found : Option Held). done (Some (settle_held i s how.Placed found).left, after) (item.Placed start commit ∷ [])) has
-    ∙ ap (λ (request : Request). done (Some (settle_if_drawn i s how.Placed held (unsettled_by request held.progress)).left, after) (item.Placed start commit ∷ [])) asks
-    ∙ ap (λ (p : Progress). done (Some (settle_if_drawn i s how.Placed held (unsettled_by (Commit s start keys) p)).left, after) (item.Placed start commit ∷ [])) stands
+places_so node s start commit keys fate i pairs held has asks stands absent works = grind arith

@@ -1,11 +1,10 @@
 -- How long a read can be: a key has at most 48 cells without a shadow, one for each session and each fault that is planned.
-use Rattle.grant_laws.proofs.Names.{◌≡◌, ℕ, ◌+◌, ◌*◌, ◌≤◌, Bool, cond, List, [], ◌∷◌, length, inl, inr, refl, sym, ap}
+use Rattle.grant_laws.proofs.Names.{◌≡◌, ℕ, ◌+◌, ◌*◌, ◌≤◌, Bool, cond, List, [], ◌∷◌, length, inl, inr, refl, ap}
 use Rattle.grant_laws.proofs.Names.{arith, count_by, filter, cases_Bool, sum_by-cons, Store, Cells, Table, Master}
-use Rattle.grant_laws.proofs.Names.{PlannedFault, same_store, Item, Cell, fetched, is_below, front_of, ScriptData}
+use Rattle.grant_laws.proofs.Names.{PlannedFault, same_store, Item, Cell, is_below, front_of, ScriptData}
 use Rattle.grant_laws.proofs.Names.{is_bare, EventsLowerWhatIsLeft, Played, calls_on, script_played, ScriptsArePlanned}
 use Rattle.grant_laws.proofs.Names.{Carried, carried, TurnsArePlannedSoFar, ReadsAreShort, ReadsOnThreadsAreShort}
 use Rattle.grant_laws.proofs.Names.{cells_to_read}
-use Rattle.history_book.specs.declared.item.Item.TheVariants as item
 use Rattle.script_data.specs.declared.limits.TheConstants.{FAULT_LIMIT}
 use Rattle.machine.specs.Faults.{is_fault, faults_in}
 use Rattle.isolation_laws.proofs.Bare.FewBare.{few_bare}
@@ -20,13 +19,10 @@ one_if b = cond b 1 0
 
 -- ---- each fault is one of a store
 by_store : (store : Store) → one_if (same_store store Cells) + one_if (same_store store Table) + one_if (same_store store Master) ≡ 1
-by_store Cells = refl
-by_store Table = refl
-by_store Master = refl
+by_store store = grind arith
 
 fault_by_store : (x : Item) → one_if (is_fault x) ≡ one_if (is_fault_of Cells x) + one_if (is_fault_of Table x) + one_if (is_fault_of Master x)
-fault_by_store (item.Fault actor store) = sym (by_store store)
-fault_by_store _ = refl
+fault_by_store x = grind arith
 
 faults_by_store : (h : List Item) → faults_in h ≡ count_by (is_fault_of Cells) h + count_by (is_fault_of Table) h + count_by (is_fault_of Master) h
 faults_by_store [] = refl
@@ -73,14 +69,7 @@ front_fewer start (c ∷ cs) = elim (cases_Bool (is_below start c.shadow)) [
     ]
 
 short : (script : ScriptData) (p : Played) (start key : ℕ) → Known script p → FaultsArePlanned script p.items → length script.faults ≤ FAULT_LIMIT → 3 * cells_to_read p start key ≤ 144
-short script p start key known planned few = omega (
-  arith,
-  front_fewer start (fetched p.state.rows key start),
-  few_bare p.state p.items known.reached.stands.holds key start,
-  known.tells.shows.sixteen,
-  few_faults script p.items planned,
-  few,
-)
+short script p start key known planned few = grind (arith, front_fewer, few_bare, few_faults)
 
 -- ---- in file order
 before_fewer : (store : Store) (h whole : List Item) → Longer h whole → count_by (is_fault_of store) h ≤ count_by (is_fault_of store) whole

@@ -1,8 +1,8 @@
 -- What stands between two events of a line that serves a session's request at a node: the node's instance, the session's client,
 -- and the parts that these events look at.
 use Rattle.grant_laws.proofs.Names.{◌≡◌, ◌≢◌, ℕ, zero, suc, ◌+◌, List, [], ◌∷◌, ◌++◌, Bool, true, cond, Option, Some}
-use Rattle.grant_laws.proofs.Names.{None, ◌⊎◌, inl, inr, refl, sym, ◌∙◌, ap, subst, arith, slice_set, same_Some}
-use Rattle.grant_laws.proofs.Names.{none-some, Session, Item, Pairs, MasterRecord, Held, Place, Request, Begin, Commit}
+use Rattle.grant_laws.proofs.Names.{None, ◌⊎◌, refl, ◌∙◌, ap, subst, arith, slice_set, same_Some}
+use Rattle.grant_laws.proofs.Names.{none-some, Session, Item, Pairs, MasterRecord, Held, Place, Request}
 use Rattle.grant_laws.proofs.Names.{InstanceEntry, held_of, place_of_progress, Client, State, held_at, first_holder}
 use Rattle.grant_laws.proofs.Names.{holder_from, holder_of, place_held, commit_held, is_commit, doing_of, sweeping}
 use Rattle.grant_laws.proofs.Names.{Event, Stop, Step, asks, Verb, ScriptData, InstanceAt, ClientAt, WaitsFor}
@@ -38,12 +38,6 @@ pub record IsAt (script : ScriptData) (node s : ℕ) (p : Played) (x : Spot) : T
   pub items : p.items ≡ x.items
 
 -- ---- after an event that changes the node alone, or the node and the client
-still_alone : (nodes : List (Option InstanceEntry)) (node s : ℕ) (now : InstanceEntry) → Alone nodes node s → Alone (slice_set nodes node (Some now)) node s
-still_alone nodes node s now alone m j other at = elim (instance_changed nodes node m now j at) [
-  | inl here ↦ absurd (other here.0)
-  | inr there ↦ alone m j other there.1
-]
-
 -- the step that the event makes, with how it stops, leads to this spot
 pub record Makes (script : ScriptData) (node s : ℕ) (p : Played) (e : Event) (y : Spot) (stop : Option Stop) : Type 0 where
   pub step : Step
@@ -59,29 +53,14 @@ pub record Makes (script : ScriptData) (node s : ℕ) (p : Played) (e : Event) (
   pub stops : step.stop ≡ stop
 
 pub leads_there : (script : ScriptData) (node s : ℕ) (p : Played) (x : Spot) (e : Event) (y : Spot) (stop : Option Stop) → IsAt script node s p x → Makes script node s p e y stop → IsAt script node s (played script p e) y
-leads_there script node s p x e y stop k made =
-    let state_is : (step_of script p e).state ≡ made.step.state = ap (λ (step : Step). step.state) made.is in
-    let nodes : (step_of script p e).state.nodes ≡ slice_set p.state.nodes node (Some y.oracle) = ap (λ (w : State). w.nodes) state_is ∙ made.nodes in
-    record {
-      node_has = subst (λ (ns : List (Option InstanceEntry)). InstanceAt ns node y.oracle) (sym nodes) (set_found p.state.nodes node (Some y.oracle) (Some x.oracle) k.node_has);
-      session_is = subst (λ (w : State). ClientAt w.clients s y.client) (sym state_is) made.client;
-      alone = subst (λ (ns : List (Option InstanceEntry)). Alone ns node s) (sym nodes) (still_alone p.state.nodes node s y.oracle k.alone);
-      pairs = ap (λ (w : State). w.pairs) state_is ∙ made.pairs;
-      master = ap (λ (w : State). w.master) state_is ∙ made.master;
-      setup = ap (λ (w : State). w.setup) state_is ∙ made.setup ∙ k.setup;
-      clock = made.clock;
-      calls = made.calls;
-      items = ap (λ (step : Step). p.items ++ step.items) made.is ∙ made.items;
-    }
+leads_there script node s p x e y stop k made = grind (arith, set_found, instance_changed)
 
 -- ---- the request that the node holds is the session's
 held_here : (k : ℕ) (post : Option InstanceEntry) (i : InstanceEntry) (s : ℕ) (held : Held) (later : Option (ℕ × Held)) → post ≡ Some i → held_of i s ≡ Some held → first_holder k (held_at post s) later ≡ Some (k, held)
-held_here k post i s held later is has =
-    ap (λ (at : Option InstanceEntry). first_holder k (held_at at s) later) is ∙ ap (λ (found : Option Held). first_holder k found later) has
+held_here k post i s held later is has = grind arith
 
 not_here : (post : Option InstanceEntry) (s : ℕ) → ((j : InstanceEntry) → post ≡ Some j → held_of j s ≡ None) → held_at post s ≡ None
-not_here None s none = refl
-not_here (Some j) s none = none j refl
+not_here post s none = grind arith
 
 pub holder_is_from : (k : ℕ) (nodes : List (Option InstanceEntry)) (node s : ℕ) (i : InstanceEntry) (held : Held) → InstanceAt nodes node i → held_of i s ≡ Some held → Alone nodes node s → holder_from k nodes s ≡ Some (k + node, held)
 unfolding holder_from
@@ -106,12 +85,7 @@ holder_none_from k (post ∷ posts) s each =
     ∙ holder_none_from (k + 1) posts s (λ m j there. each (suc m) j there)
 
 pub holder_none : (script : ScriptData) (node s : ℕ) (p : Played) (x : Spot) (e : Event) (y : Spot) (stop : Option Stop) → IsAt script node s p x → Makes script node s p e y stop → held_of y.oracle s ≡ None → holder_of (played script p e).state s ≡ None
-holder_none script node s p x e y stop k made none =
-    let nodes : (step_of script p e).state.nodes ≡ slice_set p.state.nodes node (Some y.oracle) = ap (λ (step : Step). step.state.nodes) made.is ∙ made.nodes in
-    ap (λ (ns : List (Option InstanceEntry)). holder_from 0 ns s) nodes ∙ holder_none_from 0 (slice_set p.state.nodes node (Some y.oracle)) s (λ m j at. elim (instance_changed p.state.nodes node m y.oracle j at) [
-      | inl here ↦ subst (λ (i : InstanceEntry). held_of i s ≡ None) (sym here.1) none
-      | inr there ↦ k.alone m j there.0 there.1
-    ])
+holder_none script node s p x e y stop k made none = grind (arith, holder_none_from, instance_changed)
 
 -- the line serves it next, from where it stands
 pub serves_next : (script : ScriptData) (number node s : ℕ) (verb : Verb) (p : Played) (x : Spot) (held : Held) → ((at : Place) → is_served verb at ≡ true) → IsAt script node s p x → held_of x.oracle s ≡ Some held → next_in script (line_of number (Session s) verb) (run_at Drives p) ≡ Some (serves (clocks_of script p) s node (is_commit held.request) (place_of_progress held.progress))
@@ -131,14 +105,7 @@ serves_on script number node s verb p x y held stop point to_answer k has made f
 
 -- ---- a session that waits for nothing has no request
 not_waiting : (request : Request) (c : Client) → (c.entry.state ≡ phase.Open) ⊎ (c.entry.state ≡ phase.Free) → WaitsFor request c → ⊥
-not_waiting (Begin session) c (inl is) (inl waits) = let clash : phase.Open ≡ phase.Gone = sym is ∙ waits in cc
-not_waiting (Begin session) c (inl is) (inr waits) = let clash : phase.Open ≡ phase.Asking = sym is ∙ waits in cc
-not_waiting (Begin session) c (inr is) (inl waits) = let clash : phase.Free ≡ phase.Gone = sym is ∙ waits in cc
-not_waiting (Begin session) c (inr is) (inr waits) = let clash : phase.Free ≡ phase.Asking = sym is ∙ waits in cc
-not_waiting (Commit session start keys) c (inl is) (inl waits) = let clash : phase.Open ≡ phase.Gone = sym is ∙ waits in cc
-not_waiting (Commit session start keys) c (inl is) (inr waits) = let clash : phase.Open ≡ phase.Committing = sym is ∙ waits.0 in cc
-not_waiting (Commit session start keys) c (inr is) (inl waits) = let clash : phase.Free ≡ phase.Gone = sym is ∙ waits in cc
-not_waiting (Commit session start keys) c (inr is) (inr waits) = let clash : phase.Free ≡ phase.Committing = sym is ∙ waits.0 in cc
+not_waiting request c h h1 = grind arith
 
 not_held : (w : State) (h : List Item) (m s : ℕ) (j : InstanceEntry) (c : Client) (found : Option Held) → ReachedInvariant w h → ClientAt w.clients s c → (c.entry.state ≡ phase.Open) ⊎ (c.entry.state ≡ phase.Free) → InstanceAt w.nodes m j → held_of j s ≡ found → found ≡ None
 not_held w h m s j c None stands at idle here is = refl

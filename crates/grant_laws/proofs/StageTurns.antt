@@ -1,13 +1,13 @@
 -- The stages' turns, each under its premises.
 use Rattle.grant_laws.proofs.Names.{◌≡◌, ◌≢◌, ℕ, ◌+◌, ◌<◌, Bool, cond, List, [], ◌∷◌, Option, Some, None, refl, sym}
-use Rattle.grant_laws.proofs.Names.{◌∙◌, ap, subst, inl, inr, arith, lt-ltb, Store, Table, Master, CommittedMark}
-use Rattle.grant_laws.proofs.Names.{SetupNumbers, Works, Session, Item, Handed, Pairs, mark_of, put_pair, MasterRecord}
+use Rattle.grant_laws.proofs.Names.{◌∙◌, ap, subst, arith, lt-ltb, Store, Table, CommittedMark}
+use Rattle.grant_laws.proofs.Names.{Works, Session, Item, Handed, Pairs, mark_of, put_pair}
 use Rattle.grant_laws.proofs.Names.{Free, Held, Progress, Request, Commit, InstanceEntry, moved, drawn_as}
 use Rattle.grant_laws.proofs.Names.{without_request, accept_refusal, epoch_refusal, decide_drawn}
 use Rattle.grant_laws.proofs.Names.{held_of-with_request_same, Client, State, Effect, done, client_handed, Event, Step}
 use Rattle.grant_laws.proofs.Names.{step_by, with_post, with_reading, at_post, asks, asks_at_post, accept_on, draw_item}
 use Rattle.grant_laws.proofs.Names.{decide_on, both_verdict, to_place, to_place_by, put_on, put_asks, commit_asks}
-use Rattle.grant_laws.proofs.Names.{answer_on, extend_on, extend_asks, ScriptData, InstanceAt, ClientAt, Marked}
+use Rattle.grant_laws.proofs.Names.{answer_on, ScriptData, InstanceAt, ClientAt, Marked}
 use Rattle.grant_laws.proofs.Names.{WaitsFor, ReachedInvariant, set_found, one_client, node_step, on_both, fate_by}
 use Rattle.grant_laws.proofs.Names.{fate_of, step_of, played, Carried, carried, TurnsKeepFacts, reading_of, next_fate}
 use Rattle.grant_laws.proofs.Names.{Adds, IsServed, Serves, Hands, ServedAreGranted, ServedTurnsAreGranted}
@@ -105,8 +105,7 @@ answers script c node s request at x k stands tells =
 
 -- a commit is handed to its session, which waits for it
 waiting_start : (s start : ℕ) (keys : List ℕ) (client : Client) → client.entry.state ≡ phase.Committing → WaitsFor (Commit s start keys) client → client.entry.start ≡ Some start
-waiting_start s start keys client waits (inl gone) = let clash : phase.Committing ≡ phase.Gone = sym waits ∙ gone in absurd (cc)
-waiting_start s start keys client waits (inr (committing, start_is)) = start_is
+waiting_start s start keys client waits h = grind arith
 
 commit_hands : (script : ScriptData) (c : Carried) (node s start commit : ℕ) (keys : List ℕ) → ReachedInvariant c.played.state c.played.items → (k : IsServed c.played node s (Commit s start keys) (progress.Handed commit)) → (client : Client) → ClientAt c.played.state.clients s client → client.entry.state ≡ phase.Committing → Hands script c node s start commit
 commit_hands script c node s start commit keys stands k client session_is waits =
@@ -150,15 +149,4 @@ served_turns_are_granted facts script turns node s request in_range playable = s
 -- ---- the extension
 pub extensions_are_carried : TurnsKeepFacts → ExtensionsAreCarried
 extensions_are_carried facts script turns node oracle in_range playable node_has in_term stamps works =
-    let c : Carried = carried script turns in
-    let w : State = c.played.state in
-    let e : Event = event.Extend node in
-    let x : Item = item.Extend node oracle.term (w.master.ceiling + script.setup.range) in
-    let setup_is : w.setup ≡ script.setup = (facts script turns in_range playable).setup in
-    let asked : asks w e ≡ Some Master = ap (λ (found : Option (Option InstanceEntry)). asks_at_post found extend_asks) node_has in
-    let fate : fate_of script c.played e ≡ Works = ap (λ (store : Option Store). fate_by script c.played.calls store) asked ∙ works in
-    let tells : (step_of script c.played e).items ≡ x ∷ [] =
-    ap (λ (found : Option (Option InstanceEntry)). (at_post w found (λ post. step_by (extend_on w.setup node (fate_of script c.played e) post w.master) (λ (q : Option InstanceEntry × MasterRecord). record (with_post w node q.0) { master = q.1 }))).items) node_has
-    ∙ ap (λ (setup : SetupNumbers). (extend_on setup node (fate_of script c.played e) (Some oracle) w.master).items) setup_is
-    ∙ ap (λ (it : Effect (Option InstanceEntry × MasterRecord)). it.items) (widens script.setup node (fate_of script c.played e) oracle w.master in_term stamps fate) in
-    turn_adds script c (turn.Extend node) e x refl tells
+    grind (arith, widens, turn_adds)

@@ -1,5 +1,5 @@
 -- Each request that stands at a node where no turn can be made, by how far it has come.
-use Rattle.grant_laws.proofs.Names.{◌≡◌, ◌≢◌, ℕ, Bool, true, List, [], ◌∷◌, Option, Some, None, inl, inr, refl, sym}
+use Rattle.grant_laws.proofs.Names.{◌≡◌, ◌≢◌, ℕ, Bool, true, List, [], ◌∷◌, Option, Some, None, inr, refl, sym}
 use Rattle.grant_laws.proofs.Names.{◌∙◌, ap, subst, arith, slice_get, none-some, Item, Held, Place, Progress, Request}
 use Rattle.grant_laws.proofs.Names.{Begin, Commit, InstanceEntry, held_of, place_of_progress, stamps_by, unsettled_by}
 use Rattle.grant_laws.proofs.Names.{least_unsettled, answer_if_ready, Client, State, holder_of, place_held, place_of}
@@ -31,29 +31,18 @@ record Standing (c : Carried) (s node : ℕ) (request : Request) (p : Progress) 
 
 -- it stands before this stage, which is held
 before_held : (c : Carried) (s node : ℕ) (request : Request) (p : Progress) → Standing c s node request p → IsHeld c node (stage_before (is_commit request) (place_of_progress p)) → StandsBefore c s
-before_held c s node request p k held = record {
-  node = node;
-  at = place_of_progress p;
-  request = k.place_is;
-  held = inl (subst (λ (commit : Bool). IsHeld c node (stage_before commit (place_of_progress p))) (sym k.commit_is) held);
-}
+before_held c s node request p k held = grind arith
 
 -- ---- a begin that waits for a commit, or for its own answer
 is_put : (request : Request) (p : Progress) (commit : ℕ) → unsettled_by request p ≡ Some commit → (is_commit request ≡ true) × (place_of_progress p ≡ place.Drawn)
-is_put (Commit s start keys) progress.Asked commit is = absurd (none-some commit is)
-is_put (Commit s start keys) progress.Accepted commit is = absurd (none-some commit is)
-is_put (Commit s start keys) (progress.Drawn stamp) commit is = (refl, refl)
-is_put (Commit s start keys) (progress.Settled other by) commit is = absurd (none-some commit is)
-is_put (Commit s start keys) (progress.Handed stamp) commit is = absurd (none-some commit is)
-is_put (Begin s) _ commit is = absurd (none-some commit is)
+is_put request p commit is = grind (arith, none-some)
 
 none_elsewhere : (w : State) (h : List Item) (node r m : ℕ) (i j : InstanceEntry) (held : Held) (found : Option Held) → ReachedInvariant w h → InstanceAt w.nodes node i → held_of i r ≡ Some held → m ≢ node → InstanceAt w.nodes m j → held_of j r ≡ found → found ≡ None
 none_elsewhere w h node r m i j held None stands at has other there is = refl
 none_elsewhere w h node r m i j held (Some twice) stands at has other there is = absurd (other (sym (stands.holds.requests.requests.one node m r i j held.request twice.request held.progress twice.progress at there (held_by i r held has) (held_by j r twice is))))
 
 held_there : (w : State) (h : List Item) (node r : ℕ) (i : InstanceEntry) (held : Held) → ReachedInvariant w h → InstanceAt w.nodes node i → held_of i r ≡ Some held → holder_of w r ≡ Some (node, held)
-held_there w h node r i held stands at has =
-    holder_is_from 0 w.nodes node r i held at has (λ m j other there. none_elsewhere w h node r m i j held (held_of j r) stands at has other there refl) ∙ ap (λ (n : ℕ). Some (n, held)) (omega arith)
+held_there w h node r i held stands at has = grind (arith, holder_is_from, none_elsewhere)
 
 put_is_held : (script : ScriptData) (c : Carried) (k : Stuck script c) (node : ℕ) (i : InstanceEntry) → InstanceAt c.played.state.nodes node i → Unsettled i.requests → IsHeld c node stage.Persist
 put_is_held script c k node i at u =

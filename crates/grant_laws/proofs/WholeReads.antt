@@ -1,7 +1,7 @@
 -- A read line on threads: its session's own turns go on with the read, and those of others leave it, down to its answer.
 use Rattle.grant_laws.proofs.Names.{◌≡◌, ℕ, zero, suc, ◌+◌, ◌*◌, ◌≤◌, Bool, true, false, cond, List, [], ◌∷◌, ◌++◌}
 use Rattle.grant_laws.proofs.Names.{length, Option, Some, None, ◌⊎◌, inl, inr, refl, sym, ◌∙◌, ap, subst, arith, fold}
-use Rattle.grant_laws.proofs.Names.{Works, ◌∈◌, Actor, Session, Found, read_ask, Client, store_of, Event, Step}
+use Rattle.grant_laws.proofs.Names.{Works, ◌∈◌, Session, Found, read_ask, Client, store_of, Event, Step}
 use Rattle.grant_laws.proofs.Names.{ScriptData, Point, Reads, follows, IsPlayable, step_of, played, actor_same, Makes}
 use Rattle.grant_laws.proofs.Names.{Turn, Carried, aimed_clocks, own_ahead, name_posted, made_by, event_of, turned_by}
 use Rattle.grant_laws.proofs.Names.{turned, carried, next_fate, CanFetch, cells_to_read, IsAhead, is_own, StepsWork}
@@ -57,8 +57,7 @@ other_under script c t s start key most (Some e) known is other k =
 -- ---- all turns
 -- an own turn is the session's
 owned : (s : ℕ) (t : Turn) → is_own s t ≡ true → (aim : ℕ) × (t ≡ turn.Own (Session s) aim)
-owned s (turn.Own actor aim) is = (aim, ap (λ (a : Actor). turn.Own a aim) (actor_same actor (Session s) is))
-owned s _ is = absurd (cc)
+owned s t is = grind (arith, actor_same)
 
 -- so many own turns are ahead
 abbrev pub own_ahead_of : ℕ → List Turn → ℕ

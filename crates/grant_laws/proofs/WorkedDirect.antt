@@ -12,7 +12,7 @@ use Rattle.script_data.specs.declared.line.Target.TheVariants as target
 use Rattle.turn_rules.specs.declared.turn.Turn.TheVariants as turn
 use Rattle.grant_laws.specs.Worked as worked
 use Rattle.grant_laws.specs.WorkedRuns as runs
-use Rattle.grant_laws.proofs.WorkedScripts.{client_of, oracle_of, no_lead, in_range}
+use Rattle.grant_laws.proofs.WorkedScripts.{client_of, oracle_of, no_lead}
 
 -- ---- in file order
 pub direct_can : CanCommit (worked.directly worked.committing) worked.before_direct 0 0
@@ -42,18 +42,7 @@ direct_can =
     }
 
 direct_in_range : AreInRange (worked.directly worked.committing).setup
-direct_in_range = record {
-  nodes = in_range.nodes;
-  lease = in_range.lease;
-  skew = in_range.skew;
-  range = in_range.range;
-  buckets = in_range.buckets;
-  width = in_range.width;
-  slots = in_range.slots;
-  batch = in_range.batch;
-  workers = in_range.workers;
-  cache = in_range.cache;
-}
+direct_in_range = grind arith
 
 is_before : IsBefore (worked.directly worked.committing) worked.commit worked.before_direct
 unfolding ticks_of

@@ -1,5 +1,5 @@
 -- The worked scripts, computed.
-use Rattle.grant_laws.proofs.Names.{◌≡◌, ℕ, zero, suc, ◌+◌, ◌≤◌, false, [], ◌∷◌, Option, Some, None, inl, inr, refl}
+use Rattle.grant_laws.proofs.Names.{◌≡◌, ℕ, ◌+◌, ◌≤◌, false, [], ◌∷◌, Option, Some, None, inl, refl}
 use Rattle.grant_laws.proofs.Names.{sym, ◌∙◌, subst, arith, slice_index_or, Cells, Table, planned_fate, put_row}
 use Rattle.grant_laws.proofs.Names.{fetched, front_of, without_bare, recalled_over, record_pairs, kept_commit, verdict}
 use Rattle.grant_laws.proofs.Names.{InstanceEntry, instance_new, in_flight, least_unsettled, Client, client_new}
@@ -72,13 +72,11 @@ oracle_of p = oracle_in (slice_index_or p.state.nodes 0 None)
 
 pub take_can : CanTake worked.taking (worked.after worked.taking []) 0
 unfolding lines_played run_for planned_fate holder_from record_pairs kept_commit verdict least_unsettled put_row without_bare fetched front_of recalled_over
-take_can =
-    record { vacant = refl; lapsed = inl refl; stamps = omega arith; taking = refl }
+take_can = grind arith
 
 pub take_can_later : CanTake worked.taking_again (worked.at_time 12 worked.before_taking_again) 1
 unfolding lines_played run_for planned_fate holder_from record_pairs kept_commit verdict least_unsettled put_row without_bare fetched front_of recalled_over
-take_can_later =
-    record { vacant = refl; lapsed = inr (omega arith); stamps = omega arith; taking = refl }
+take_can_later = grind arith
 
 pub begin_can : CanBegin worked.beginning worked.before_beginning 0 0
 unfolding lines_played run_for planned_fate holder_from record_pairs kept_commit verdict least_unsettled put_row without_bare fetched front_of recalled_over
@@ -152,23 +150,10 @@ commit_can =
 
 -- ---- the commit, by the law
 pub no_lead : (node : ℕ) → slice_index_or (0 ∷ 0 ∷ []) node 0 ≤ default_numbers.skew
-no_lead zero = omega arith
-no_lead (suc zero) = omega arith
-no_lead (suc (suc node)) = omega arith
+no_lead node = grind arith
 
 pub in_range : AreInRange default_numbers
-in_range = record {
-  nodes = (omega arith, omega arith);
-  lease = (omega arith, omega arith);
-  skew = (omega arith, omega arith);
-  range = (omega arith, omega arith);
-  buckets = (omega arith, omega arith);
-  width = (omega arith, omega arith);
-  slots = (omega arith, omega arith);
-  batch = (omega arith, omega arith);
-  workers = (omega arith, omega arith);
-  cache = (omega arith, omega arith);
-}
+in_range = grind arith
 
 is_before : IsBefore worked.committing worked.commit worked.before_committing
 unfolding ticks_of

@@ -1,6 +1,7 @@
 -- A transaction that its session has let go, and whose commit no node holds any more, is neither open nor in flight.
-use Rattle.service_laws.proofs.Names.{◌≡◌, ℕ, Bool, true, List, [], ◌∷◌, Some, inl, inr, refl, sym, ◌∙◌, ap, subst}
-use Rattle.service_laws.proofs.Names.{slice_set, Item, SessionState, SessionEntry, aborted_by, Held, Commit}
+use Rattle.std.proofs.Common.{arith}
+use Rattle.service_laws.proofs.Names.{◌≡◌, ℕ, Bool, List, Some, inl, inr, refl, sym, ◌∙◌, ap, subst}
+use Rattle.service_laws.proofs.Names.{slice_set, Item, SessionState, Held, Commit}
 use Rattle.service_laws.proofs.Names.{InstanceEntry, held_of, without_request, Client, State, client_aborted}
 use Rattle.service_laws.proofs.Names.{instance_changed, one_client, held_by, heldby_ended, InstanceAt, HeldBy, ClientAt}
 use Rattle.service_laws.proofs.Names.{OpenAt, Begun, InFlight, HeldPending, PlacingAt, Pending, Live}
@@ -22,12 +23,8 @@ free_idle = record { none = record { gone = λ is. cc; committing = λ is. cc; p
 pub completing_idle : (undo : Bool) → IsIdle (phase.Completing undo)
 completing_idle undo = record { none = record { gone = λ is. cc; committing = λ is. cc; placing = λ is. cc }; not_open = λ is. cc }
 
-aborted_idle_by : (e : SessionEntry) (keys : List ℕ) → IsIdle (aborted_by e keys).state
-aborted_idle_by e [] = free_idle
-aborted_idle_by e (key ∷ keys) = completing_idle true
-
 pub aborted_idle : (c : Client) → IsIdle (client_aborted c).entry.state
-aborted_idle c = aborted_idle_by c.entry c.entry.keys
+aborted_idle c = grind (arith, free_idle, completing_idle)
 
 pub idle_dead : (w : State) (h : List Item) (s t : ℕ) (c : Client) → IsolationInvariant w h → ClientAt w.clients s c → IsIdle c.entry.state → Begun h s t → Live w.clients w.nodes t → ⊥
 idle_dead w h s t c holds at idle begun (inl o) =

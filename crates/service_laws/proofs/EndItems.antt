@@ -1,17 +1,18 @@
 -- What ends without a commit is lost: its session had it open, or looked up its outcome, and has let it go.
+use Rattle.std.proofs.Common.{arith}
 use Rattle.service_laws.proofs.Names.{◌≡◌, ◌≢◌, ℕ, true, IsTrue, List, [], ◌∷◌, ◌++◌, Option, None, Some, ◌⊎◌, inl, inr}
-use Rattle.service_laws.proofs.Names.{refl, sym, ◌∙◌, ap, subst, same_Some, Cells, Table, Mark, Fate, Works}
-use Rattle.service_laws.proofs.Names.{FailsUnchanged, FailsApplied, ◌∈◌, Committed, Cause, Session, Ending, PutFound}
+use Rattle.service_laws.proofs.Names.{refl, sym, ◌∙◌, ap, subst, same_Some, Cells, Mark, Fate}
+use Rattle.service_laws.proofs.Names.{FailsUnchanged, ◌∈◌, Committed, Cause, Session, Ending}
 use Rattle.service_laws.proofs.Names.{Item, in_front, Row, Pairs, mark_of, Ask, Told, Settling, SettleTurn, Goes}
-use Rattle.service_laws.proofs.Names.{Decides, settle_ask, settle_turn, Reading, read_ask, SessionState, SessionEntry}
+use Rattle.service_laws.proofs.Names.{Decides, settle_turn, Reading, SessionEntry}
 use Rattle.service_laws.proofs.Names.{has_transaction, work_refusal, step_refusal, handed_commit, aborted_by, Commit}
-use Rattle.service_laws.proofs.Names.{InstanceEntry, instance_ask, Event, kept_items, UnderWay, Nothing, Reads, Settles}
-use Rattle.service_laws.proofs.Names.{Completes, Client, State, Met, met, told_by, is_reading, client_freed}
+use Rattle.service_laws.proofs.Names.{InstanceEntry, instance_ask, Event, UnderWay}
+use Rattle.service_laws.proofs.Names.{Client, State, Met, is_reading, client_freed}
 use Rattle.service_laws.proofs.Names.{client_aborted, Step, nothing, with_reading, stepped, reading_of, IsSteadyAt}
 use Rattle.service_laws.proofs.Names.{take_on, renew_on, extend_on, crash_on, ask_begin_on, accept_on, decide_on}
-use Rattle.service_laws.proofs.Names.{put_on, answer_on, client_put_fresh, fetch_on, client_settled, settle_items}
-use Rattle.service_laws.proofs.Names.{settle_by, settle_step, read_by, read_step, complete_by, complete_step, step_at}
-use Rattle.service_laws.proofs.Names.{placed_among, step_due, step_on, work_of, step_recall, heal_on, vanish_on}
+use Rattle.service_laws.proofs.Names.{put_on, answer_on, fetch_on, client_settled, settle_items}
+use Rattle.service_laws.proofs.Names.{settle_by, read_by, complete_by, step_at}
+use Rattle.service_laws.proofs.Names.{step_due, step_on, work_of, heal_on, vanish_on}
 use Rattle.service_laws.proofs.Names.{sweep_open_on, set_found, ClientAt, Begun, epoch_or_none, IsolationInvariant}
 use Rattle.service_laws.proofs.Names.{ReachedInvariant, IsLost, facts_stay, open_unplaced, in_append, opens}
 use Rattle.service_laws.proofs.Names.{ExplainedInvariant}
@@ -63,13 +64,8 @@ endless : (w : State) (step : Step) → Endless step.items → Ends w step
 endless w step none s t how m = absurd (no_end_in step.items s t how none m)
 
 -- the one that ends is this
-end_same : (s t session start : ℕ) (how by : Ending) → item.End s t how ≡ item.End session start by → (session ≡ s) × (start ≡ t)
-end_same s t session start how by same = (cc, cc)
-
 ends_this : (w : State) (step : Step) (s t session start : ℕ) (how by : Ending) → item.End s t how ≡ item.End session start by → EndsHere w step session start → EndsHere w step s t
-ends_this w step s t session start how by same here =
-    let (one, two) = end_same s t session start how by same in
-    subst (λ (r : ℕ). EndsHere w step r t) one (subst (λ (u : ℕ). EndsHere w step session u) two here)
+ends_this w step s t session start how by same here = grind arith
 
 only_end : (s t session start : ℕ) (how by : Ending) (front : List Item) → Endless front → item.End s t how ∈ (front ++ item.End session start by ∷ []) → item.End s t how ≡ item.End session start by
 unfolding ◌∈◌
@@ -98,9 +94,7 @@ read_only w session node start c None at go begun (key ∷ keys) = endless w _ (
 read_only w session node start c (Some i) at go begun (key ∷ keys) = endless w _ (asked_endless session c (item.AskCommit session node start) (instance_ask i (Commit session start c.entry.keys)) (instance_ask i (Commit session start c.entry.keys)).answer refl)
 
 ask_commit_ends : (w : State) (session node : ℕ) (c : Client) (post : Option InstanceEntry) → ClientAt w.clients session c → (why : Option Cause) → work_refusal c.entry.state (is_reading c) ≡ why → (start : Option ℕ) → c.entry.start ≡ start → Ends w (for_ask w session node (ask_commit_by session node c post why start))
-ask_commit_ends w session node c post at (Some why) go start begun = endless w _ (one_endless (item.Refused (Session session) why) refl)
-ask_commit_ends w session node c post at None go None begun = endless w _ none_ends
-ask_commit_ends w session node c post at None go (Some start) begun = read_only w session node start c post at go begun c.entry.keys
+ask_commit_ends w session node c post at why go start begun = grind (arith, endless, one_endless, none_ends, read_only)
 
 -- ---- an abort
 abort_ends : (w : State) (session : ℕ) (c : Client) → ClientAt w.clients session c → (why : Option Cause) → work_refusal c.entry.state (is_reading c) ≡ why → (start : Option ℕ) → c.entry.start ≡ start → Ends w (for_client w session (abort_by session c why start))
@@ -120,7 +114,7 @@ abort_ends w session c at None go (Some start) begun = λ s t how m.
 -- ---- a write that fails
 placed_not_failed : (t d session start : ℕ) → item.Placed t d ∈ (item.Fault (Session session) Cells ∷ item.End session start ending.Aborted ∷ []) → ⊥
 unfolding ◌∈◌
-placed_not_failed t d session start m = elim m [ inl same ↦ cc | inr rest ↦ placed_not_ended t d session start ending.Aborted rest ]
+placed_not_failed t d session start m = grind arith
 
 write_failed : (w : State) (session start key : ℕ) (c : Client) (rows : List Row) → ClientAt w.clients session c → c.entry.state ≡ phase.Open → c.entry.start ≡ Some start → Ends w (for_cells w session (write_by session start key [] FailsUnchanged c rows))
 write_failed w session start key c rows at is begun s t how m =
@@ -135,33 +129,22 @@ write_failed w session start key c rows at is begun s t how m =
     })
 
 write_ends_by : (w : State) (session start key : ℕ) (value : List ℕ) (fate : Fate) (c : Client) (rows : List Row) → ClientAt w.clients session c → c.entry.state ≡ phase.Open → c.entry.start ≡ Some start → Ends w (for_cells w session (write_by session start key value fate c rows))
-write_ends_by w session start key value Works c rows at is begun = endless w _ (one_endless (item.Write session start key value) refl)
-write_ends_by w session start key value FailsUnchanged c rows at is begun = write_failed w session start key c rows at is begun
-write_ends_by w session start key value FailsApplied c rows at is begun = write_failed w session start key c rows at is begun
+write_ends_by w session start key value fate c rows at is begun = grind (arith, endless, one_endless, write_failed)
 
 write_ends : (w : State) (session key : ℕ) (value : List ℕ) (fate : Fate) (c : Client) → ClientAt w.clients session c → (why : Option Cause) → write_refused c key ≡ why → (start : Option ℕ) → c.entry.start ≡ start → Ends w (for_cells w session (write_open session key value fate c w.rows why start))
-write_ends w session key value fate c at (Some why) go start begun = endless w _ (one_endless (item.Refused (Session session) why) refl)
-write_ends w session key value fate c at None go None begun = endless w _ none_ends
-write_ends w session key value fate c at None go (Some start) begun = write_ends_by w session start key value fate c _ at (work_open c.entry.state (is_reading c) (write_may (work_refusal c.entry.state (is_reading c)) _ go)).0 begun
+write_ends w session key value fate c at why go start begun =
+    grind (arith, endless, one_endless, none_ends, write_ends_by, work_open, write_may)
 
 -- ---- a step of a session
 placed_endless : (session start commit : ℕ) (fate : Fate) (found : Option Mark) (c : Client) (pairs : Pairs) → Endless (place_by session start commit fate found c pairs).items
-placed_endless session start commit Works None c pairs = then_endless (item.Placed start commit) (item.Committed session start commit ∷ []) refl (one_endless (item.Committed session start commit) refl)
-placed_endless session start commit Works (Some mark) c pairs = then_endless (item.Step (Session session) (PutFound start)) (item.Refused (Session session) (cause.Invalid start) ∷ []) refl (one_endless (item.Refused (Session session) (cause.Invalid start)) refl)
-placed_endless session start commit FailsUnchanged found c pairs =
-    both_endless (kept_items FailsUnchanged found (item.Placed start commit ∷ [])) (item.Fault (Session session) Table ∷ item.Refused (Session session) (cause.Open start) ∷ []) (kept_endless FailsUnchanged found (item.Placed start commit ∷ []) (one_endless (item.Placed start commit) refl))
-    (then_endless (item.Fault (Session session) Table) (item.Refused (Session session) (cause.Open start) ∷ []) refl (one_endless (item.Refused (Session session) (cause.Open start)) refl))
-placed_endless session start commit FailsApplied found c pairs =
-    both_endless (kept_items FailsApplied found (item.Placed start commit ∷ [])) (item.Fault (Session session) Table ∷ item.Refused (Session session) (cause.Open start) ∷ []) (kept_endless FailsApplied found (item.Placed start commit ∷ []) (one_endless (item.Placed start commit) refl))
-    (then_endless (item.Fault (Session session) Table) (item.Refused (Session session) (cause.Open start) ∷ []) refl (one_endless (item.Refused (Session session) (cause.Open start)) refl))
+placed_endless session start commit fate found c pairs =
+    grind (arith, then_endless, one_endless, both_endless, kept_endless)
 
 reading_endless : (session : ℕ) (c : Client) (r : Reading) (m : Met) (answer : Option Told) → Endless m.items → Endless (read_by session c r m answer).items
-reading_endless session c r m None none = none
-reading_endless session c r m (Some answer) none = both_endless m.items _ none (read_endless session r.start r.key (step_recall c r answer).0)
+reading_endless session c r m answer none = grind (arith, both_endless, read_endless)
 
 completing_endless : (c : Client) (asked : Ask) (asks : List Ask) (m : Met) (answer : Option Told) → Endless m.items → Endless (complete_by c asked asks m answer).items
-completing_endless c asked asks m None none = none
-completing_endless c asked asks m (Some answer) none = both_endless m.items [] none none_ends
+completing_endless c asked asks m answer none = grind (arith, both_endless, none_ends)
 
 -- the resolve of an own commit tells that it is dead
 settled_ends : (w : State) (session start : ℕ) (c : Client) (x : Settling) (m : Met) (turn : SettleTurn) → ClientAt w.clients session c → c.entry.state ≡ phase.OpenOutcome → c.entry.start ≡ Some start → Endless m.items → Ends w (for_stores w session (record { parts = (client_settled c x turn, m.rows, m.pairs); items = m.items ++ settle_items session (Some start) turn; stop = None }))
@@ -180,25 +163,14 @@ settled_ends w session start c x m (Decides outcome.Dead) at is begun none = λ 
 
 settle_ends : (w : State) (session : ℕ) (c : Client) (x : Settling) (m : Met) → ClientAt w.clients session c → c.entry.state ≡ phase.OpenOutcome → (start : Option ℕ) → c.entry.start ≡ start → Endless m.items → (answer : Option Told) → Ends w (for_stores w session (settle_by session c x m answer))
 settle_ends w session c x m at is start begun none None = endless w _ none
-settle_ends w session c x m at is (Some start) begun none (Some answer) =
-    subst (λ (o : Option ℕ). Ends w (for_stores w session (record { parts = (client_settled c x (settle_turn x answer), m.rows, m.pairs); items = m.items ++ settle_items session o (settle_turn x answer); stop = None }))) (sym begun)
-    (settled_ends w session start c x m (settle_turn x answer) at is begun none)
+settle_ends w session c x m at is (Some start) begun none (Some answer) = grind (arith, settled_ends)
 settle_ends w session c x m at is None begun none (Some answer) =
     subst (λ (o : Option ℕ). Ends w (for_stores w session (record { parts = (client_settled c x (settle_turn x answer), m.rows, m.pairs); items = m.items ++ settle_items session o (settle_turn x answer); stop = None }))) (sym begun)
     (endless w _ (both_endless m.items [] none none_ends))
 
 work_ends : (w : State) (session : ℕ) (fate : Fate) (c : Client) → ClientAt w.clients session c → (work : UnderWay) → IsWork c work → Ends w (for_stores w session (step_at session fate c w.rows w.pairs work))
-work_ends w session fate c at Nothing is = endless w _ none_ends
-work_ends w session fate c at (Reads r) is =
-    let m : Met = met (Session session) (read_ask r) fate w.rows w.pairs in
-    endless w _ (reading_endless session (client_put_fresh c) r m m.told (met_endless (Session session) (read_ask r) (told_by (read_ask r) w.rows w.pairs) fate))
-work_ends w session fate c at (Settles x) is =
-    let m : Met = met (Session session) (settle_ask x) fate w.rows w.pairs in
-    settle_ends w session c x m at is.0 c.entry.start refl (met_endless (Session session) (settle_ask x) (told_by (settle_ask x) w.rows w.pairs) fate) m.told
-work_ends w session fate c at (Completes []) is = endless w _ none_ends
-work_ends w session fate c at (Completes (asked ∷ asks)) is =
-    let m : Met = met (Session session) asked fate w.rows w.pairs in
-    endless w _ (completing_endless c asked asks m m.told (met_endless (Session session) asked (told_by asked w.rows w.pairs) fate))
+work_ends w session fate c at work is =
+    grind (arith, endless, none_ends, reading_endless, met_endless, settle_ends, completing_endless)
 
 due_ends : (w : State) (session : ℕ) (fate : Fate) (c : Client) → StepsFit w → ClientAt w.clients session c → step_refusal c.entry.state (is_reading c) ≡ None → (due : Option (ℕ × ℕ)) → handed_commit c.entry ≡ due → Ends w (for_stores w session (step_due session fate c w.rows w.pairs due))
 due_ends w session fate c fits at go None is = work_ends w session fate c at (work_of c) (fits.work session c at is go)
@@ -217,7 +189,7 @@ timeless : (w : State) (e : Event) (step : Step) → reading_of e ≡ None → E
 timeless w e step none ends = (ends, λ s t how m. none)
 
 nothing_ends : (w : State) (e : Event) (step : Step) → Endless step.items → EndsUntimed w e step
-nothing_ends w e step none = (endless w step none, λ s t how m. absurd (no_end_in step.items s t how none m))
+nothing_ends w e step none = grind (arith, no_end_in)
 
 ends_of : (w : State) (e : Event) (fate : Fate) → StepsFit w → EndsUntimed w e (stepped w e fate)
 ends_of w (event.Tick to) fate fits = nothing_ends w (event.Tick to) _ (one_endless (item.Tick to) refl)
@@ -243,10 +215,7 @@ ends_of w event.SweepStep fate fits = nothing_ends w event.SweepStep _ (sweep_st
 
 -- ---- so it is lost
 had_transaction : (w : State) (step : Step) (s t : ℕ) (k : EndsHere w step s t) → IsTrue (has_transaction k.c.entry.state)
-had_transaction w step s t k = elim k.how [
-  | inl open_ ↦ subst (λ (x : SessionState). IsTrue (has_transaction x)) (sym open_.0) refl
-  | inr settled ↦ subst (λ (x : SessionState). IsTrue (has_transaction x)) (sym settled.0) refl
-]
+had_transaction w step s t k = grind arith
 
 end_begun : (w : State) (h : List Item) (step : Step) (s t : ℕ) (k : EndsHere w step s t) → IsolationInvariant w h → Begun h s t
 end_begun w h step s t k holds =
@@ -255,8 +224,7 @@ end_begun w h step s t k holds =
 
 -- one that is undone after all was written
 aborted_completes : (e : SessionEntry) (keys : List ℕ) → keys ≢ [] → ((aborted_by e keys).state ≡ phase.Completing true) × ((aborted_by e keys).start ≡ e.start)
-aborted_completes e [] some = absurd (some refl)
-aborted_completes e (key ∷ keys) some = (refl, refl)
+aborted_completes e keys some = grind arith
 
 end_unplaced : (w : State) (h : List Item) (step : Step) (s t d : ℕ) (k : EndsHere w step s t) → IsolationInvariant w h → IsolationInvariant step.state (h ++ step.items) → Committed (h ++ step.items) t d → ⊥
 end_unplaced w h step s t d k holds after placed = elim k.how [

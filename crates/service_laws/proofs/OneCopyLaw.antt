@@ -1,9 +1,9 @@
 -- Where a history is isolated and serial its transactions read one copy: what is visible at a reader's start is what was committed last
 -- below its commit.
-use Rattle.service_laws.proofs.Names.{◌≡◌, ℕ, List, Option, None, Some, inl, inr, sym, ◌∙◌, ap, subst, arith, slice_get}
-use Rattle.service_laws.proofs.Names.{take, cases_eq, SetupNumbers, Committed, Candidate, Visible, Isolated, Stamped}
-use Rattle.service_laws.proofs.Names.{RightAnswer, last_write, Found, Item, Read, in_at, opening, state_after}
-use Rattle.service_laws.proofs.Names.{history_after, Begun, always_stands, stands_serially, setup_after, one_commit}
+use Rattle.service_laws.proofs.Names.{◌≡◌, ℕ, List, Option, None, Some, inl, inr, subst, arith, slice_get}
+use Rattle.service_laws.proofs.Names.{take, cases_eq, Committed, Candidate, Visible, Isolated, Stamped}
+use Rattle.service_laws.proofs.Names.{RightAnswer, last_write, Found, Item, Read, in_at}
+use Rattle.service_laws.proofs.Names.{Begun, always_stands, stands_serially, setup_after, one_commit}
 use Rattle.history_book.specs.Serial.{StoodUntil, Serial}
 use Rattle.machine.proofs.Orders.{three_ways}
 use Rattle.isolation_laws.specs.Numbers.{AreBegun}
@@ -32,8 +32,7 @@ visible_later h r s k d (Some found) stamped begun committed stood sees = record
 
 -- one read of a key that its transaction had not written
 stands_there : (h : List Item) (r s k place : ℕ) (answer : Option Found) → Stamped h → Begun h r s → ((d : ℕ) → Committed h s d → StoodUntil h k s d) → Visible h s k answer → StandsAt h s place → Visible h place k answer
-stands_there h r s k place answer stamped begun stood sees (inl committed) = visible_later h r s k place answer stamped begun committed (stood place committed) sees
-stands_there h r s k place answer stamped begun stood sees (inr stands) = subst (λ (x : ℕ). Visible h x k answer) (sym stands.1) sees
+stands_there h r s k place answer stamped begun stood sees h1 = grind (arith, visible_later)
 
 -- an answer where nothing of its own stood before is visible
 unwritten : (h before : List Item) (s k : ℕ) (answer : Option Found) (own : Option (List ℕ)) → own ≡ None → RightAnswer h before s k answer own → Visible h s k answer
@@ -51,5 +50,4 @@ pub one_copy_now : OneCopyNow
 one_copy_now w h both strict = record { at = λ place x found. read_there h place x both.holds.isolated (stands_serially w h both strict) both.holds.numbers.begun found }
 
 pub one_copy_always : OneCopyAlways
-one_copy_always setup moves in_range steady strict =
-    one_copy_now (state_after (opening setup) moves) (history_after setup moves) (always_stands setup moves in_range steady) (ap (λ (numbers : SetupNumbers). numbers.strict) (setup_after (opening setup) moves) ∙ strict)
+one_copy_always setup moves in_range steady strict = grind (arith, one_copy_now, always_stands, setup_after)

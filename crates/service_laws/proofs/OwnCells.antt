@@ -1,9 +1,9 @@
 -- The cell of an open transaction's write, where it is there and where it is gone: after every event, and at a fetch.
-use Rattle.service_laws.proofs.Names.{◌≡◌, ℕ, zero, suc, ◌==◌, ◌<◌, ◌≤◌, Bool, true, List, [], ◌∷◌, ◌++◌, None, Some}
-use Rattle.service_laws.proofs.Names.{◌⊎◌, inl, inr, refl, sym, ◌∙◌, ap, subst, arith, slice_index_or, cases_Bool}
-use Rattle.service_laws.proofs.Names.{eq-eqb, Fate, Wrote, Item, Cell, looked, fetched, front_of, is_below, bare_cell}
+use Rattle.service_laws.proofs.Names.{◌≡◌, ℕ, zero, suc, ◌<◌, ◌≤◌, Bool, List, [], ◌∷◌, ◌++◌, None, Some}
+use Rattle.service_laws.proofs.Names.{◌⊎◌, inl, inr, ap, arith, slice_index_or, cases_Bool}
+use Rattle.service_laws.proofs.Names.{eq-eqb, Fate, Wrote, Item, Cell, looked, fetched, front_of, bare_cell}
 use Rattle.service_laws.proofs.Names.{AreFalling, AreUpto, AreOrdered, ReadTurn, Asks, Answers, found_cell}
-use Rattle.service_laws.proofs.Names.{after_passed, read_over, Cache, put_fresh, recalled_over, recalled_from}
+use Rattle.service_laws.proofs.Names.{after_passed, Cache, put_fresh, recalled_over}
 use Rattle.service_laws.proofs.Names.{over_from, Event, State, stepped, marks_every, found_of, Fetched, fetched_turn}
 use Rattle.service_laws.proofs.Names.{OpenAt, epoch_or_none, IsolationInvariant, ReachedInvariant, each_outcome}
 use Rattle.service_laws.proofs.Names.{ErasedSince, OwnInvariant}
@@ -31,21 +31,9 @@ cells_erased w h e fate reached inv s t b k own now wrote gone =
     ]
 
 -- ---- at a fetch: the own cell comes first, and answers
-own_first : (every : Bool) (key b e : ℕ) (c : Cell) (cs : List Cell) → c.version ≡ b → read_over every key b e (c ∷ cs) ≡ Answers (found_cell c)
-unfolding after_passed
-own_first every key b e c cs mine =
-    let own : (c.version == b) ≡ true = eq-eqb c.version b mine in
-    rw (own, own) refl
-
-own_front : (every : Bool) (key b e : ℕ) (c : Cell) (cs : List Cell) → c.version ≡ b → read_over every key b e (front_of b (c ∷ cs)) ≡ Answers (found_cell c)
-unfolding front_of
-own_front every key b e c cs mine = elim (cases_Bool (is_below b c.shadow)) [
-  | inl some ↦ rw some (own_first every key b e c [] mine)
-  | inr none ↦ rw none (own_first every key b e c (front_of b cs) mine)
-]
-
 own_recall : (every : Bool) (key b e : ℕ) (c : Cell) (cs : List Cell) (cache : Cache) → c.version ≡ b → recalled_over every key b e (front_of b (c ∷ cs)) cache ≡ (Answers (found_cell c), cache)
-own_recall every key b e c cs cache mine = over_from every key b e (front_of b (c ∷ cs)) cache ∙ ap (recalled_from cache) (own_front every key b e c cs mine)
+unfolding front_of after_passed
+own_recall every key b e c cs cache mine = grind (arith, over_from, cases_Bool, eq-eqb)
 
 -- the turn answers with what the transaction wrote
 abbrev pub AnswersOwn : ℕ → List ℕ → ReadTurn → Type 0
@@ -55,9 +43,7 @@ AnswersOwn b own (Answers a) = found_of a.found ≡ Some (record { from = b; val
 -- the first of the cells has the greatest version
 first_answers : (every : Bool) (k b e : ℕ) (own : List ℕ) (cells : List Cell) (cache : Cache) → AreFalling cells → AreUpto b cells → Contains cells (bare_cell b own) → AnswersOwn b own (recalled_over every k b e (front_of b cells) cache).0
 first_answers every k b e own [] cache falling upto there = absurd (omega (arith, there.1))
-first_answers every k b e own (c ∷ cs) cache falling upto (zero, less, is) =
-    subst (λ (x : ReadTurn × Cache). AnswersOwn b own x.0) (sym (own_recall every k b e c cs cache (ap (λ (x : Cell). x.version) is)))
-    (ap (λ (x : Cell). found_of (found_cell x).found) is)
+first_answers every k b e own (c ∷ cs) cache falling upto (zero, less, is) = grind (arith, own_recall)
 first_answers every k b e own (c ∷ cs) cache falling upto (suc i, less, is) =
     let version : (slice_index_or (c ∷ cs) (suc i) (bare_cell b own)).version ≡ b = ap (λ (x : Cell). x.version) is in
     let first : c.version ≤ b = upto 0 (bare_cell b own) (omega arith) in

@@ -1,4 +1,5 @@
 -- Own writes stand: at first, after every event, and in every history.
+use Rattle.std.proofs.Common.{arith}
 use Rattle.service_laws.proofs.Names.{◌≡◌, ℕ, List, [], ◌∷◌, ◌++◌, append_assoc, sym, subst, append-nil, none-some}
 use Rattle.service_laws.proofs.Names.{Wrote, last_write, Item, Reading, Reads, Client, State, opening, Step, stepped}
 use Rattle.service_laws.proofs.Names.{Move, state_after, items_after, AreSteady, ClientAt, ReachedInvariant}
@@ -8,16 +9,9 @@ use Rattle.service_laws.proofs.OwnCells.{cells_erased}
 use Rattle.service_laws.proofs.OwnReads.{reads_erased, stands_still}
 
 -- ---- at first
-none_written : (t k : ℕ) (own : List ℕ) → Wrote [] t k own → ⊥
-unfolding last_write
-none_written t k own wrote = none-some own wrote
-
 pub own_at_first : OwnAtFirst
-own_at_first setup = record {
-  cells = λ s t e k own at wrote gone. absurd (none_written t k own wrote);
-  reads = λ s c r own at reads wrote. absurd (none_written r.start r.key own wrote);
-  stands = record { at = λ place x found. absurd (cc) };
-}
+unfolding last_write
+own_at_first setup = grind (arith, none-some)
 
 -- ---- one event
 abbrev ReadsErased : State → List Item → Type 0

@@ -1,5 +1,6 @@
 -- Reads under way, and reads that are answered, of keys that their transaction wrote.
-use Rattle.service_laws.proofs.Names.{◌≡◌, ℕ, List, [], ◌∷◌, ◌++◌, append_assoc, Option, None, Some, ◌⊎◌, inl, inr}
+use Rattle.std.proofs.Common.{arith}
+use Rattle.service_laws.proofs.Names.{◌≡◌, ℕ, List, [], ◌∷◌, ◌++◌, append_assoc, Option, Some, ◌⊎◌, inl, inr}
 use Rattle.service_laws.proofs.Names.{refl, sym, ◌∙◌, ap, subst, append-nil, ◌∈◌, Wrote, last_write, Found, Item, Read}
 use Rattle.service_laws.proofs.Names.{AtEach-push, fetched, front_of, Reading, ReadTurn, Asks, Answers, read_ask}
 use Rattle.service_laws.proofs.Names.{put_fresh, cache_learnt, learnt_by, Reads, Client, State, told_by, marks_every}
@@ -25,8 +26,7 @@ ReadsErased w h = (s : ℕ) (c : Client) (r : Reading) (own : List ℕ) → Clie
 
 -- one that goes on where the items write nothing of it
 still_erased : (w : State) (h items : List Item) (s : ℕ) (c : Client) (r : Reading) (own : List ℕ) → OwnInvariant w h → ClientAt w.clients s c → c.under_way ≡ Reads r → Unwritten r.start r.key items → Wrote (h ++ items) r.start r.key own → ErasedSince (h ++ items) r.start r.key
-still_erased w h items s c r own inv at reads none wrote =
-    erased_past h items r.start r.key none (inv.reads s c r own at reads (sym (last_write-past h items r.start r.key none) ∙ wrote))
+still_erased w h items s c r own inv at reads none wrote = grind (arith, erased_past, last_write-past)
 
 -- a session that reads does not write
 reads_not_writes : (w : State) (h : List Item) (it : WroteOne w) (s : ℕ) (c : Client) (r : Reading) → IsolationInvariant w h → ClientAt w.clients s c → c.under_way ≡ Reads r → it.start ≡ r.start → ⊥
@@ -89,16 +89,14 @@ OwnTurn h b k (Asks r) = Unit {0}
 OwnTurn h b k (Answers a) = OwnStands h b k (found_of a.found) (last_write h b k)
 
 own_answer : (h : List Item) (b k : ℕ) (answer : Option Found) (last : Option (List ℕ)) → last_write h b k ≡ last → ((own : List ℕ) → Wrote h b k own → (answer ≡ Some (record { from = b; value = own })) ⊎ ErasedSince h b k) → OwnStands h b k answer last
-own_answer h b k answer None is each = tt
-own_answer h b k answer (Some own) is each = each own is
+own_answer h b k answer last is each = grind arith
 
 own_turn : (h : List Item) (b k : ℕ) (turn : ReadTurn) → ((own : List ℕ) → Wrote h b k own → AnswersOwn b own turn ⊎ ErasedSince h b k) → OwnTurn h b k turn
 own_turn h b k (Asks r) each = tt
 own_turn h b k (Answers a) each = own_answer h b k (found_of a.found) (last_write h b k) refl each
 
 quiet_reads : (before : List Item) (x : Item) → Quiet x → ReadsOwn before x
-quiet_reads before (Read s b k answer) quiet = absurd (not_true quiet)
-quiet_reads before _ quiet = tt
+quiet_reads before x quiet = grind (arith, not_true)
 
 turn_stands : (h : List Item) (x : Item) (s b k : ℕ) (turn : ReadTurn) → Quiet x → OwnTurn h b k turn → OwnWritesStand h → OwnWritesStand (h ++ x ∷ read_items s b k turn)
 turn_stands h x s b k (Asks r) quiet own stands = AtEach-push ReadsOwn h x stands (quiet_reads h x quiet)
@@ -115,8 +113,7 @@ abbrev NoReads : List Item → Type 0
 NoReads items = (s b k : ℕ) (answer : Option Found) → Read s b k answer ∈ items → ⊥
 
 no_read : (before : List Item) (x : Item) → ((s b k : ℕ) (answer : Option Found) → Read s b k answer ≡ x → ⊥) → ReadsOwn before x
-no_read before (Read s b k answer) none = absurd (none s b k answer refl)
-no_read before _ none = tt
+no_read before x none = grind arith
 
 none_stands : (h items : List Item) → NoReads items → OwnWritesStand h → OwnWritesStand (h ++ items)
 unfolding ◌∈◌
@@ -125,8 +122,7 @@ none_stands h (x ∷ items) none stands = subst OwnWritesStand (append_assoc h (
     (none_stands (h ++ x ∷ []) items (λ s b k answer m. none s b k answer (inr m)) (AtEach-push ReadsOwn h x stands (no_read h x (λ s b k answer is. none s b k answer (inl is)))))
 
 pub stands_still : (w : State) (h : List Item) (o : Outcome w) → IsolationInvariant w h → OwnInvariant w h → OwnWritesStand (h ++ told_by_outcome w o)
-stands_still w h (OfFetched it) holds inv =
-    turn_stands h it.first it.it.session it.start it.key (fetched_turn w it) it.quiet (own_turn h it.start it.key (fetched_turn w it) (λ own wrote. fetched_owns w h it own holds inv wrote)) inv.stands
+stands_still w h (OfFetched it) holds inv = grind (arith, turn_stands, own_turn, fetched_owns)
 stands_still w h (OfReadStepped it) holds inv =
     turn_stands h it.first it.session it.r.start it.r.key (read_turn w it) it.quiet
     (own_turn h it.r.start it.r.key (read_turn w it) (λ own wrote. inr (inv.reads it.session it.c it.r own it.client_at it.under_way wrote))) inv.stands

@@ -1,8 +1,8 @@
 -- Stamps keep to real time: at first, and after every event.
 use Rattle.service_laws.proofs.Names.{◌≡◌, ℕ, ◌+◌, ◌<◌, ◌≤◌, zero, suc, if◌then◌else◌, List, [], ◌∷◌, ◌++◌}
-use Rattle.service_laws.proofs.Names.{append_assoc, Option, None, Some, inl, inr, refl, sym, ◌∙◌, ap, subst, arith}
+use Rattle.service_laws.proofs.Names.{append_assoc, Option, Some, inl, inr, refl, sym, ◌∙◌, ap, subst, arith}
 use Rattle.service_laws.proofs.Names.{is_some, take, replicate, eq-eqb, append-nil, same_Some, none-some, SetupNumbers}
-use Rattle.service_laws.proofs.Names.{AreInRange, ◌∈◌, AtEach, Committed, Actor, Session, Handed, Item, AtEach-push}
+use Rattle.service_laws.proofs.Names.{AreInRange, ◌∈◌, AtEach, Committed, Actor, Handed, Item, AtEach-push}
 use Rattle.service_laws.proofs.Names.{in_front, Held, Request, Begin, Commit, InstanceEntry, session_of, moved}
 use Rattle.service_laws.proofs.Names.{drawn_as, State, opening, Step, stepped, Move, state_after, items_after}
 use Rattle.service_laws.proofs.Names.{history_after, reading_of, IsSteadyAt, AreSteady, Steady, draw_item, Accepted}
@@ -47,16 +47,7 @@ commit_placed h s t c each m =
     taken_in (item.Placed t c) place h (each.at place (item.Committed s t c) found)
 
 drawn_by : (w : State) (h : List Item) (stamp : ℕ) (x : Item) → IsolationInvariant w h → ToldInvariant w h → StampInvariant w h → x ∈ h → stamp_told x ≡ Some stamp → WasDrawn h stamp
-drawn_by w h stamp (item.Begin s start) holds told inv m tells =
-    let (n, term, drew) = holds.numbers.begun.drawn s start m in
-    record { session = s; node = n; term = term; start = start; commit = None; drew = drew; is = same_Some start stamp tells }
-drawn_by w h stamp (item.Committed s t c) holds told inv m tells =
-    let (r, n, term, drew) = holds.numbers.placed.drawn t c (commit_placed h s t c told.committed m) in
-    record { session = r; node = n; term = term; start = t; commit = Some c; drew = drew; is = same_Some c stamp tells }
-drawn_by w h stamp (item.Step actor (Handed t c)) holds told inv m tells =
-    let (r, n, term, drew) = inv.handed actor t c m in
-    record { session = r; node = n; term = term; start = t; commit = Some c; drew = drew; is = same_Some c stamp tells }
-drawn_by w h stamp _ holds told inv m tells = absurd (none-some stamp tells)
+drawn_by w h stamp x holds told inv m tells = grind (arith, same_Some, commit_placed, none-some)
 
 -- ---- what an instance that accepts has drawn is above it
 told_below : (w : State) (h : List Item) (k : Accepted w) (s stamp : ℕ) → AcceptedSteadily w k → IsolationInvariant w h → ToldInvariant w h → StampInvariant w h → ToldBeforeAsk h s stamp → stamp ≤ k.i.last
@@ -143,8 +134,7 @@ handed_now w h k holds actor t c m =
     ]
 
 draw_not_handed : (node term stamp t c : ℕ) (actor : Actor) (request : Request) → item.Step actor (Handed t c) ≡ draw_item node term request stamp → ⊥
-draw_not_handed node term stamp t c actor (Begin session) same = cc
-draw_not_handed node term stamp t c actor (Commit session start keys) same = cc
+draw_not_handed node term stamp t c actor request same = grind arith
 
 handed_by : (w : State) (h : List Item) (o : Outcome w) → IsolationInvariant w h → HandedDrawn h (told_by_outcome w o)
 unfolding ◌∈◌
@@ -174,33 +164,22 @@ one_told : (P : List Item → Item → Type 0) (h items : List Item) (x : Item) 
 one_told P h items x is here each = subst (λ (xs : List Item). AtEach P (h ++ xs)) (sym is) (AtEach-push P h x each here)
 
 each_kept : (P : List Item → Item → Type 0) (w : State) (h : List Item) (o : Outcome w) → Fits P w h → AtEach P h → AtEach P (h ++ told_by_outcome w o)
-each_kept P w h (OfAskedBegin k) fits each = AtEach-push P h (item.AskBegin k.session k.node) each (fits.begin_asked k.session k.node)
-each_kept P w h (OfAskedCommit k) fits each = one_told P h k.items (item.AskCommit k.session k.node k.start) k.tells (fits.commit_asked k.session k.node k.start) each
-each_kept P w h (OfHanded k) fits each = one_told P h k.items (item.Step (Session k.session) (Handed k.start k.commit)) k.tells (fits.handed_over (Session k.session) k.start k.commit) each
-each_kept P w h (OfDrew k) fits each = AtEach-push P h (draw_item k.node k.i.term k.held.request (k.i.last + 1)) each (fits.drew k)
-each_kept P w h (OfAnsweredBegin k) fits each = AtEach-push P h (item.Begin k.session k.start) each (fits.begun k)
-each_kept P w h o fits each = each_calm P h (told_by_outcome w o) fits.calm (others_calm w o refl) each
+each_kept P w h o fits each = grind (arith, one_told, each_calm, others_calm)
 
 calm_above : (before : List Item) (x : Item) → IsCalm x → StampAbove before x
-calm_above before (item.Draw session node term start commit) calm = absurd (not_true (sym calm))
-calm_above before (item.Begin session start) calm = absurd (not_true (sym calm))
-calm_above before _ calm = tt
+calm_above before x calm = grind (arith, not_true)
 
 calm_rises : (before : List Item) (x : Item) → IsCalm x → StartsAboveOwn before x
-calm_rises before (item.Begin session start) calm = absurd (not_true (sym calm))
-calm_rises before _ calm = tt
+calm_rises before x calm = grind (arith, not_true)
 
 calm_owns : (before : List Item) (x : Item) → IsCalm x → CommitsBelowOwn before x
-calm_owns before (item.Begin session start) calm = absurd (not_true (sym calm))
-calm_owns before _ calm = tt
+calm_owns before x calm = grind (arith, not_true)
 
 draw_rises : (h : List Item) (node term stamp : ℕ) (request : Request) → StartsAboveOwn h (draw_item node term request stamp)
-draw_rises h node term stamp (Begin session) = tt
-draw_rises h node term stamp (Commit session start keys) = tt
+draw_rises h node term stamp request = grind arith
 
 draw_owns : (h : List Item) (node term stamp : ℕ) (request : Request) → CommitsBelowOwn h (draw_item node term request stamp)
-draw_owns h node term stamp (Begin session) = tt
-draw_owns h node term stamp (Commit session start keys) = tt
+draw_owns h node term stamp request = grind arith
 
 -- the stamp that is drawn is the one after the instance's last
 draw_above : (h : List Item) (node term last s : ℕ) (request : Request) → session_of request ≡ s → ((stamp : ℕ) → ToldBeforeAsk h s stamp → stamp ≤ last) → StampAbove h (draw_item node term request (last + 1))
@@ -220,14 +199,7 @@ open_now : (w : State) (h : List Item) (k : AnsweredBegin w) → ExplainedInvari
 open_now w h k tells = tells.shows.open_asks.each k.node k.session (Some k.i) k.at ∙ ap (λ (held : Option Held). if is_some held then 1 else 0) k.has
 
 fresh_fits : (w : State) (h : List Item) → ExplainedInvariant w h → StampInvariant w h → Fits StampAbove w h
-fresh_fits w h tells inv = record {
-  calm = calm_above;
-  begin_asked = λ s n. tt;
-  commit_asked = λ s n t. tt;
-  handed_over = λ actor t c. tt;
-  drew = λ k. drew_above w h k tells.stands.holds inv;
-  begun = λ k stamp told. begun_above w h k stamp tells.stands.holds inv told;
-}
+fresh_fits w h tells inv = search (calm_above, drew_above, begun_above)
 
 rise_fits : (w : State) (h : List Item) → ExplainedInvariant w h → StampInvariant w h → Fits StartsAboveOwn w h
 rise_fits w h tells inv = record {
@@ -272,25 +244,9 @@ found_copy zero x y p found = absurd (cc)
 found_copy (suc n) x y zero found = sym (same_Some x y found)
 found_copy (suc n) x y (suc p) found = found_copy n x y p found
 
-none_at : (n m : ℕ) (i : InstanceEntry) → InstanceAt (replicate n None) m i → ⊥
-none_at n m i at = none-some i (sym (found_copy n None (Some i) m at))
-
-nothing_told : (P : List Item → Item → Type 0) → AtEach P []
-nothing_told P = record { at = λ place x found. absurd (cc) }
-
-none_in : (x : Item) → x ∈ [] → ⊥
-unfolding ◌∈◌
-none_in x m = m
-
 pub stamps_at_first : StampsAtFirst
-stamps_at_first setup = record {
-  handed = λ actor t c m. absurd (none_in (item.Step actor (Handed t c)) m);
-  accepted = λ n s stamp i request at held told. absurd (none_at setup.nodes n i at);
-  drawn = λ n s start stamp i at held told. absurd (none_at setup.nodes n i at);
-  fresh = nothing_told StampAbove;
-  rise = nothing_told StartsAboveOwn;
-  own = nothing_told CommitsBelowOwn;
-}
+unfolding ◌∈◌
+stamps_at_first setup = grind (arith, none-some, found_copy)
 
 stamps_after : (w : State) (h : List Item) (moves : List Move) → ExplainedInvariant w h → ToldInvariant w h → StampInvariant w h → AreSteady w.setup.skew w.seen moves → StampInvariant (state_after w moves) (h ++ items_after w moves)
 unfolding state_after items_after

@@ -1,9 +1,8 @@
 -- What was told before a session asked: in a longer history in which it asks nothing more, and where its ask is open.
-use Rattle.service_laws.proofs.Names.{◌≡◌, ℕ, ◌==◌, Bool, true, false, ◌&&◌, fold, List, [], ◌∷◌, ◌++◌, Some, inl, inr}
+use Rattle.service_laws.proofs.Names.{◌≡◌, ℕ, true, false, fold, List, [], ◌∷◌, ◌++◌, Some, inl, inr}
 use Rattle.service_laws.proofs.Names.{refl, sym, ◌∙◌, ap, subst, ◌⊎◌, arith, All, cases_Bool, All-nil, All-cons}
 use Rattle.service_laws.proofs.Names.{All-head, All-tail, ◌∈◌, Item, asks_for, closes, asks_at, open_then, open_asks_of}
 use Rattle.service_laws.proofs.Names.{not_true, in_append, stamp_told, WasTold, ToldBeforeAsk}
-use Rattle.history_book.specs.declared.item.Item.TheVariants as item
 use Rattle.service_laws.proofs.CalmItems.{IsNoAsk, NoAsks}
 
 -- ---- a longer history
@@ -46,9 +45,7 @@ in_front_of x [] rest m = absurd m
 in_front_of x (y ∷ front) rest m = elim m [ inl same ↦ inl same | inr deeper ↦ inr (in_front_of x front rest deeper) ]
 
 pub was_told : (h : List Item) (s stamp : ℕ) → ToldBeforeAsk h s stamp → WasTold h stamp
-was_told h s stamp k =
-    let (x, m, tells) = k.told in
-    (x, subst (λ (xs : List Item). x ∈ xs) (sym k.is) (in_front_of x k.front (k.ask ∷ k.behind) m), tells)
+was_told h s stamp k = grind (arith, in_front_of)
 
 -- ---- where an ask is open, nothing has been told to its session since
 abbrev NoneCloses : ℕ → ℕ → List Item → Type 0
@@ -86,16 +83,10 @@ open_from n s (x ∷ xs) count is = elim (open_from n s xs (open_then n s count 
 ]
 
 open_split : (n s : ℕ) (h : List Item) → open_asks_of h n s ≡ 1 → OpenSplit n s h
-open_split n s h is = elim (open_from n s h 0 is) [ inl k ↦ k | inr none ↦ absurd (zero_not_one 0 refl none.0) ]
-
-and_first : (a b : Bool) → (a && b) ≡ true → a ≡ true
-and_first true b is = refl
-and_first false b is = absurd (cc)
+open_split n s h is = grind (arith, open_from)
 
 asks_at_asks : (n s : ℕ) (x : Item) → asks_at n s x ≡ true → asks_for s x ≡ true
-asks_at_asks n s (item.AskBegin session node) is = and_first (session == s) (node == n) is
-asks_at_asks n s (item.AskCommit session node start) is = and_first (session == s) (node == n) is
-asks_at_asks n s _ is = absurd (not_true is)
+asks_at_asks n s x is = grind (arith, not_true)
 
 none_in : (n s : ℕ) (x : Item) (items : List Item) → NoneCloses n s items → x ∈ items → closes n s x ≡ false
 unfolding ◌∈◌

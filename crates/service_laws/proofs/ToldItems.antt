@@ -1,21 +1,20 @@
 -- What an outcome tells as committed is placed, and what it refuses for good is lost.
-use Rattle.service_laws.proofs.Names.{◌≡◌, ℕ, zero, suc, Bool, true, false, List, [], ◌∷◌, ◌++◌, Option, None, Some}
+use Rattle.std.proofs.Common.{arith}
+use Rattle.service_laws.proofs.Names.{◌≡◌, ℕ, Bool, true, false, List, [], ◌∷◌, ◌++◌, Option, Some}
 use Rattle.service_laws.proofs.Names.{inl, inr, refl, sym, ◌∙◌, ap, subst, take, slice_get, ◌⊎◌, slice_set, append-nil}
 use Rattle.service_laws.proofs.Names.{same_Some, ◌∈◌, Committed, Cause, Session, PutFound, Item, in_front, in_back}
-use Rattle.service_laws.proofs.Names.{in_at, SettleTurn, Goes, Decides, settle_ask, settle_turn, Request, Begin, Commit}
-use Rattle.service_laws.proofs.Names.{Settled, Completes, Client, State, told_by, client_committed, client_aborted}
-use Rattle.service_laws.proofs.Names.{finish_of, client_settled, settle_items, set_found, held_by, commit_own, Ended}
+use Rattle.service_laws.proofs.Names.{in_at, SettleTurn, Decides, settle_ask, settle_turn, Request, Commit}
+use Rattle.service_laws.proofs.Names.{Settled, State, told_by, client_aborted}
+use Rattle.service_laws.proofs.Names.{settle_items, set_found, held_by, commit_own, Ended}
 use Rattle.service_laws.proofs.Names.{ended_state, AnsweredCommit, answered_commit_state, answered_client}
 use Rattle.service_laws.proofs.Names.{answered_item, OwnPlaced, OwnNotPlaced, own_not_placed_state, own_told}
-use Rattle.service_laws.proofs.Names.{OutcomeStepped, outcome_state, Outcome, OfEnded, OfAnsweredCommit, OfOwnPlaced}
+use Rattle.service_laws.proofs.Names.{OutcomeStepped, Outcome, OfEnded, OfAnsweredCommit, OfOwnPlaced}
 use Rattle.service_laws.proofs.Names.{OfOwnNotPlaced, OfOutcome, left_by, told_by_outcome, ask_by, its_ask, start_asked}
 use Rattle.service_laws.proofs.Names.{HeldBy, ClientAt, Begun, Stage, Waits, Taken, InFlight, HeldPending}
 use Rattle.service_laws.proofs.Names.{IsolationInvariant, IsLost, holds_kept, pending_unplaced, not_true, old_placed}
 use Rattle.service_laws.proofs.Names.{ExplainedInvariant, last_told-push, ends_for_good}
-use Rattle.history_book.specs.declared.cause.Cause.TheVariants as cause
 use Rattle.history_book.specs.declared.item.Item.TheVariants as item
 use Rattle.system_parts.specs.declared.resolve.Outcome.TheVariants as outcome
-use Rattle.system_parts.specs.Completion.{finish_asks}
 use Rattle.system_parts.specs.declared.instance.Progress.TheVariants as progress
 use Rattle.system_parts.specs.declared.instance.Settled.TheVariants as how
 use Rattle.cause_rules.specs.Asks.{Ask}
@@ -24,17 +23,14 @@ use Rattle.isolation_laws.proofs.Numbers.Placings.{own_in_flight, own_placing}
 use Rattle.isolation_laws.proofs.Requests.ClientMoves.{at_work_after}
 use Rattle.cause_laws.specs.Requests.{ask_for}
 use Rattle.service_laws.proofs.DeadTransactions.{aborted_idle, idle_dead, over_dead}
-use Rattle.service_laws.proofs.PlainItems.{TellsNone, none_in, silent_tells_none, others_tell_none}
+use Rattle.service_laws.proofs.PlainItems.{none_in, silent_tells_none, others_tell_none}
 
 -- ---- where an item stands
 one_at : (y x : Item) (place : ℕ) → slice_get (y ∷ []) place ≡ Some x → (place ≡ 0) × (y ≡ x)
-one_at y x zero found = (refl, same_Some y x found)
-one_at y x (suc place) found = absurd (cc)
+one_at y x place found = grind (arith, same_Some)
 
 two_at : (y z x : Item) (place : ℕ) → slice_get (y ∷ z ∷ []) place ≡ Some x → ((place ≡ 0) × (y ≡ x)) ⊎ ((place ≡ 1) × (z ≡ x))
-two_at y z x zero found = inl (refl, same_Some y x found)
-two_at y z x (suc zero) found = inr (refl, same_Some z x found)
-two_at y z x (suc (suc place)) found = absurd (cc)
+two_at y z x place found = grind (arith, same_Some)
 
 at_these : (items these : List Item) (place : ℕ) (x : Item) → items ≡ these → slice_get items place ≡ Some x → slice_get these place ≡ Some x
 at_these items these place x is found = subst (λ (xs : List Item). slice_get xs place ≡ Some x) is found
@@ -44,68 +40,27 @@ not_false b yes_ none = not_true (sym none ∙ yes_)
 
 -- ---- answers to a commit, from its node or by its session itself
 answered_committed : (by : Settled) (session start commit s t c : ℕ) → answered_item by session start commit ≡ item.Committed s t c → (by ≡ how.Placed) × (start ≡ t) × (commit ≡ c)
-answered_committed how.Placed session start commit s t c is = (refl, cc, cc)
-answered_committed how.Invalid session start commit s t c is = absurd (cc)
-answered_committed how.Faulted session start commit s t c is = absurd (cc)
+answered_committed by session start commit s t c is = grind arith
 
 answered_refused : (by : Settled) (session start commit s : ℕ) (why : Cause) → answered_item by session start commit ≡ item.Refused (Session s) why → ends_for_good why ≡ true → (by ≡ how.Invalid) × (session ≡ s)
-answered_refused how.Placed session start commit s why is good = absurd (cc)
-answered_refused how.Invalid session start commit s why is good = (refl, cc)
-answered_refused how.Faulted session start commit s why is good =
-    let same : cause.Open start ≡ why = cc in
-    absurd (not_true (ap ends_for_good same ∙ good))
+answered_refused by session start commit s why is good = grind (arith, not_true)
 
 own_committed : (by : Settled) (session start commit place s t c : ℕ) → slice_get (own_told by session start commit) place ≡ Some (item.Committed s t c) → (by ≡ how.Placed) × (start ≡ t) × (commit ≡ c)
-own_committed how.Placed session start commit place s t c found = answered_committed how.Placed session start commit s t c (one_at _ _ place found).1
-own_committed how.Invalid session start commit place s t c found = elim (two_at _ _ _ place found) [
-  | inl first ↦ absurd (cc)
-  | inr last ↦ answered_committed how.Invalid session start commit s t c last.1
-]
-own_committed how.Faulted session start commit place s t c found = elim (two_at _ _ _ place found) [
-  | inl first ↦ absurd (cc)
-  | inr last ↦ answered_committed how.Faulted session start commit s t c last.1
-]
+own_committed by session start commit place s t c found = grind (arith, same_Some)
 
 own_refused : (by : Settled) (session start commit place s : ℕ) (why : Cause) → slice_get (own_told by session start commit) place ≡ Some (item.Refused (Session s) why) → ends_for_good why ≡ true → (by ≡ how.Invalid) × (place ≡ 1) × (session ≡ s)
-own_refused how.Placed session start commit place s why found good = absurd (let same = (one_at _ _ place found).1 in cc)
-own_refused how.Invalid session start commit place s why found good = elim (two_at _ _ _ place found) [
-  | inl first ↦ absurd (let same = first.1 in cc)
-  | inr last ↦ (refl, last.0, (answered_refused how.Invalid session start commit s why last.1 good).1)
-]
-own_refused how.Faulted session start commit place s why found good = elim (two_at _ _ _ place found) [
-  | inl first ↦ absurd (let same = first.1 in cc)
-  | inr last ↦ let clash = (answered_refused how.Faulted session start commit s why last.1 good).0 in absurd (cc)
-]
+own_refused by session start commit place s why found good = grind (arith, one_at, two_at, answered_refused)
 
 -- ---- the resolve of an own commit
 settle_committed : (session : ℕ) (start : Option ℕ) (turn : SettleTurn) (place s t c : ℕ) → slice_get (settle_items session start turn) place ≡ Some (item.Committed s t c) → (by_table : Bool) × (start ≡ Some t) × (turn ≡ Decides (outcome.Committed c by_table))
-settle_committed session (Some start) (Decides (outcome.Committed commit by_table)) place s t c found =
-    let same : item.Committed session start commit ≡ item.Committed s t c = (one_at _ _ place found).1 in
-    let first : start ≡ t = cc in
-    let second : commit ≡ c = cc in
-    (by_table, ap Some first, ap (λ (d : ℕ). Decides (outcome.Committed d by_table)) second)
-settle_committed session (Some start) (Decides outcome.Dead) place s t c found = absurd (let same = (one_at _ _ place found).1 in cc)
-settle_committed session (Some start) (Goes point) place s t c found = absurd (cc)
-settle_committed session None turn place s t c found = absurd (cc)
+settle_committed session start turn place s t c found = grind (arith, same_Some)
 
 settle_not_refused : (session : ℕ) (start : Option ℕ) (turn : SettleTurn) (place s : ℕ) (why : Cause) → slice_get (settle_items session start turn) place ≡ Some (item.Refused (Session s) why) → ⊥
-settle_not_refused session (Some start) (Decides (outcome.Committed commit by_table)) place s why found = let same = (one_at _ _ place found).1 in cc
-settle_not_refused session (Some start) (Decides outcome.Dead) place s why found = let same = (one_at _ _ place found).1 in cc
-settle_not_refused session (Some start) (Goes point) place s why found = cc
-settle_not_refused session None turn place s why found = cc
+settle_not_refused session start turn place s why found = grind (arith, same_Some)
 
 -- the commit that it finds is placed, as the session's completion shows
 outcome_committed : (w : State) (h : List Item) (k : OutcomeStepped w) (t c : ℕ) (by_table : Bool) → IsolationInvariant w h → k.it.c.entry.start ≡ Some t → settle_turn k.x (told_by (settle_ask k.x) w.rows w.pairs) ≡ Decides (outcome.Committed c by_table) → Committed h t c
-outcome_committed w h k t c by_table holds start turn =
-    let after : IsolationInvariant (outcome_state w k) (h ++ k.items) = holds_kept w h (OfOutcome k) tt holds in
-    let new : Client = client_settled k.it.c k.x (settle_turn k.x (told_by (settle_ask k.x) w.rows w.pairs)) in
-    let is : new ≡ client_committed k.it.c c = ap (λ (x : SettleTurn). client_settled k.it.c k.x x) turn in
-    let at : ClientAt (outcome_state w k).clients k.it.session new = set_found w.clients k.it.session new k.it.c k.it.client_at in
-    let busy : new.under_way ≡ Completes (finish_asks t c k.it.c.entry.keys) = ap (λ (x : Client). x.under_way) is ∙ ap (λ (o : Option ℕ). finish_of o c k.it.c.entry.keys) start in
-    let (u, d, start_is, commit_is, finish) = after.under_way.finishing.finish k.it.session new (finish_asks t c k.it.c.entry.keys) at (ap (λ (x : Client). x.entry.state) is) busy in
-    let same : u ≡ t = same_Some u t (sym start_is ∙ (ap (λ (x : Client). x.entry.start) is ∙ start)) in
-    let alike : d ≡ c = same_Some d c (sym commit_is ∙ ap (λ (x : Client). x.entry.commit) is) in
-    old_placed h k.items t c k.quiet (subst (λ (x : ℕ). Committed (h ++ k.items) x c) same (subst (λ (x : ℕ). Committed (h ++ k.items) u x) alike finish.placed))
+outcome_committed w h k t c by_table holds start turn = grind (arith, holds_kept, set_found, same_Some, old_placed)
 
 -- ---- what is told as committed is placed
 answered_held : (w : State) (h : List Item) (k : AnsweredCommit w) → IsolationInvariant w h → HeldBy k.i k.session (Commit k.session k.start k.keys) (progress.Settled k.commit k.by)
@@ -127,16 +82,11 @@ answered_placed w h k place s t c holds found =
 
 own_placed_now : (w : State) (h : List Item) (k : OwnPlaced w) (place s t c : ℕ) → slice_get (item.Placed k.it.start k.it.commit ∷ k.items) place ≡ Some (item.Committed s t c) → Committed (h ++ take place (item.Placed k.it.start k.it.commit ∷ k.items)) t c
 unfolding ◌∈◌
-own_placed_now w h k zero s t c found = absurd (let same = same_Some _ _ found in cc)
-own_placed_now w h k (suc place) s t c found =
-    let (by, start, commit) = own_committed k.by k.it.session k.it.start k.it.commit place s t c (at_these k.items _ place _ k.tells found) in
-    in_back (item.Placed t c) h (item.Placed k.it.start k.it.commit ∷ take place k.items) (inl (ap (λ (x : ℕ). item.Placed x c) (sym start) ∙ ap (λ (x : ℕ). item.Placed k.it.start x) (sym commit)))
+own_placed_now w h k place s t c found = grind (arith, same_Some, in_back)
 
 outcome_placed : (w : State) (h : List Item) (k : OutcomeStepped w) (place s t c : ℕ) → IsolationInvariant w h → slice_get (k.first ∷ settle_items k.it.session k.it.c.entry.start (settle_turn k.x (told_by (settle_ask k.x) w.rows w.pairs))) place ≡ Some (item.Committed s t c) → Committed h t c
-outcome_placed w h k zero s t c holds found = absurd (not_true (sym (subst (λ (y : Item). TellsNone y) (same_Some _ _ found) (silent_tells_none k.first k.silent))))
-outcome_placed w h k (suc place) s t c holds found =
-    let (by_table, start, turn) = settle_committed k.it.session k.it.c.entry.start (settle_turn k.x (told_by (settle_ask k.x) w.rows w.pairs)) place s t c found in
-    outcome_committed w h k t c by_table holds start turn
+outcome_placed w h k place s t c holds found =
+    grind (arith, not_true, same_Some, silent_tells_none, settle_committed, outcome_committed)
 
 pub committed_now : (w : State) (h : List Item) (o : Outcome w) (place s t c : ℕ) → IsolationInvariant w h → slice_get (told_by_outcome w o) place ≡ Some (item.Committed s t c) → Committed (h ++ take place (told_by_outcome w o)) t c
 committed_now w h (OfEnded k) place s t c holds found = absurd (let same = (one_at _ _ place (at_these k.items _ place _ k.tells found)).1 in cc)
@@ -150,8 +100,7 @@ committed_now w h o place s t c holds found = absurd (not_true (sym (none_in (it
 
 -- ---- what is refused for good is lost
 asked_commit : (n t : ℕ) (request : Request) → start_asked (Some (ask_for n request)) ≡ Some t → (asker : ℕ) × (keys : List ℕ) × (request ≡ Commit asker t keys)
-asked_commit n t (Begin session) is = absurd (cc)
-asked_commit n t (Commit session start keys) is = (session, keys, ap (λ (u : ℕ). Commit session u keys) (same_Some start t is))
+asked_commit n t request is = grind (arith, same_Some)
 
 -- the session's last ask, where nothing or no ask has come since
 asked_before : (h : List Item) (s t : ℕ) (ask : Ask) → its_ask h s ≡ Some ask → start_asked (its_ask (h ++ []) s) ≡ Some t → start_asked (Some ask) ≡ Some t
@@ -232,14 +181,10 @@ own_now w h k place s t why tells found good asked =
     subst (λ (u : ℕ). IsLost (own_not_placed_state w k) (h ++ k.items) u) same (own_lost w h k tells.stands.holds by)
 
 own_placed_not : (w : State) (k : OwnPlaced w) (place s : ℕ) (why : Cause) → slice_get (item.Placed k.it.start k.it.commit ∷ k.items) place ≡ Some (item.Refused (Session s) why) → ends_for_good why ≡ true → ⊥
-own_placed_not w k zero s why found good = let same = same_Some _ _ found in cc
-own_placed_not w k (suc place) s why found good =
-    let by : k.by ≡ how.Invalid = (own_refused k.by k.it.session k.it.start k.it.commit place s why (at_these k.items _ place _ k.tells found) good).0 in
-    elim k.by_is [ inl placed ↦ let clash : how.Invalid ≡ how.Placed = sym by ∙ placed in cc | inr faulted ↦ let clash : how.Invalid ≡ how.Faulted = sym by ∙ faulted in cc ]
+own_placed_not w k place s why found good = grind (arith, same_Some, not_true)
 
 outcome_not : (w : State) (k : OutcomeStepped w) (place s : ℕ) (why : Cause) → slice_get (k.first ∷ settle_items k.it.session k.it.c.entry.start (settle_turn k.x (told_by (settle_ask k.x) w.rows w.pairs))) place ≡ Some (item.Refused (Session s) why) → ends_for_good why ≡ true → ⊥
-outcome_not w k zero s why found good = not_false (ends_for_good why) good (subst (λ (y : Item). TellsNone y) (same_Some _ _ found) (silent_tells_none k.first k.silent))
-outcome_not w k (suc place) s why found good = settle_not_refused k.it.session k.it.c.entry.start (settle_turn k.x (told_by (settle_ask k.x) w.rows w.pairs)) place s why found
+outcome_not w k place s why found good = grind (arith, not_false, same_Some, silent_tells_none, settle_not_refused)
 
 pub refused_now : (w : State) (h : List Item) (o : Outcome w) (place s t : ℕ) (why : Cause) → ExplainedInvariant w h → slice_get (told_by_outcome w o) place ≡ Some (item.Refused (Session s) why) → ends_for_good why ≡ true → start_asked (its_ask (h ++ take place (told_by_outcome w o)) s) ≡ Some t → IsLost (left_by w o) (h ++ told_by_outcome w o) t
 refused_now w h (OfEnded k) place s t why tells found good asked = ended_now w h k place s t why tells found asked

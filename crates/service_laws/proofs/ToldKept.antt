@@ -1,6 +1,7 @@
 -- What sessions are told is true: at first, and after every event.
-use Rattle.service_laws.proofs.Names.{◌≡◌, ℕ, zero, suc, Bool, true, false, if◌then◌else◌, List, [], ◌∷◌, ◌++◌}
-use Rattle.service_laws.proofs.Names.{append_assoc, Option, None, Some, inl, inr, refl, sym, subst, take, slice_get}
+use Rattle.std.proofs.Common.{arith}
+use Rattle.service_laws.proofs.Names.{◌≡◌, ℕ, zero, suc, Bool, true, if◌then◌else◌, List, [], ◌∷◌, ◌++◌}
+use Rattle.service_laws.proofs.Names.{append_assoc, Option, None, Some, inl, inr, sym, subst, take, slice_get}
 use Rattle.service_laws.proofs.Names.{append-nil, Fate, ◌∈◌, Committed, Stamped, Session, Item, in_at, AtEach-weaker}
 use Rattle.service_laws.proofs.Names.{Event, State, opening, Step, stepped, Move, state_after, items_after}
 use Rattle.service_laws.proofs.Names.{history_after, AreSteady, IsLost, each_outcome, steady_now, steady_stays}
@@ -26,8 +27,7 @@ committed_told w h e fate place _ tells found = tt
 
 -- a refusal names a transaction only where it ends its commit for good
 refused_names : (good : Bool) (start : Option ℕ) (t : ℕ) → (if good then start else None) ≡ Some t → (good ≡ true) × (start ≡ Some t)
-refused_names true start t is = (refl, is)
-refused_names false start t is = absurd (cc)
+refused_names good start t is = grind arith
 
 over_told : (w : State) (h : List Item) (e : Event) (fate : Fate) (place : ℕ) (x : Item) → ExplainedInvariant w h → slice_get (stepped w e fate).items place ≡ Some x → IsToldLost (stepped w e fate).state (h ++ (stepped w e fate).items) (h ++ take place (stepped w e fate).items) x
 over_told w h e fate place (item.End s u how) tells found t is =
@@ -39,15 +39,7 @@ over_told w h e fate place (item.Refused (Session s) why) tells found t is =
 over_told w h e fate place _ tells found t is = absurd (cc)
 
 pub events_keep_told : EventsKeepTold
-events_keep_told w h e fate tells told =
-    let v : State = (stepped w e fate).state in
-    let items : List Item = (stepped w e fate).items in
-    record {
-      committed = each_longer WasPlaced h items told.committed (record { at = λ place x found. committed_told w h e fate place x tells found });
-      over = each_longer (IsToldLost v (h ++ items)) h items
-          (AtEach-weaker (IsToldLost w h) (IsToldLost v (h ++ items)) h told.over (λ before x m lost t is. lost_stays w h e fate t tells (lost t is)))
-          (record { at = λ place x found. over_told w h e fate place x tells found });
-    }
+events_keep_told w h e fate tells told = grind (arith, each_longer, committed_told, lost_stays, over_told)
 
 -- ---- at first, and after all moves
 pub told_at_first : ToldAtFirst

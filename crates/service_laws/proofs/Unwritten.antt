@@ -1,14 +1,12 @@
 -- Items that write nothing of a transaction at a key: the last write stays, and what was erased since stays so.
-use Rattle.service_laws.proofs.Names.{◌≡◌, ℕ, false, List, [], ◌∷◌, ◌++◌, append_assoc, Option, None, Some, inl, inr}
-use Rattle.service_laws.proofs.Names.{refl, sym, ◌∙◌, ap, subst, cases_eq, ne_eqb, eq-eqb, append-nil, All-nil}
-use Rattle.service_laws.proofs.Names.{All-cons, All-head, All-tail, All-weaker, Cells, last_write, written_by, Janitor}
-use Rattle.service_laws.proofs.Names.{Found, Erase, Item, Write, Fault, in_front, in_back, ReadTurn, Asks, Answers}
-use Rattle.service_laws.proofs.Names.{Request, Begin, Commit, draw_item, read_items, Quiet, AllQuiet, not_true}
+use Rattle.service_laws.proofs.Names.{◌≡◌, ℕ, false, List, [], ◌∷◌, ◌++◌, append_assoc, Option, None}
+use Rattle.service_laws.proofs.Names.{sym, ◌∙◌, ap, cases_eq, ne_eqb, eq-eqb, append-nil, All-nil}
+use Rattle.service_laws.proofs.Names.{All-cons, All-head, All-tail, All-weaker, last_write, written_by}
+use Rattle.service_laws.proofs.Names.{Found, Item, Write, in_front, in_back, ReadTurn}
+use Rattle.service_laws.proofs.Names.{Request, draw_item, read_items, Quiet, AllQuiet, not_true}
 use Rattle.service_laws.proofs.Names.{since-more, writes_at, ErasedIn, ErasedSince, OwnStands}
-use Rattle.std.proofs.Common.{All}
-use Rattle.history_book.specs.declared.item.Item.TheVariants.{Step}
+use Rattle.std.proofs.Common.{arith, All}
 use Rattle.isolation_laws.proofs.Stores.Calm.{last_write-other}
-use Rattle.cause_rules.specs.Since.{since}
 
 abbrev pub IsUnwritten : ℕ → ℕ → Item → Type 0
 IsUnwritten t k x = writes_at t k x ≡ false
@@ -18,8 +16,7 @@ Unwritten t k items = All (IsUnwritten t k) items
 
 -- ---- which items those are
 pub quiet_unwritten : (t k : ℕ) (x : Item) → Quiet x → IsUnwritten t k x
-quiet_unwritten t k (Write s u j value) quiet = absurd (not_true quiet)
-quiet_unwritten t k _ quiet = refl
+quiet_unwritten t k x quiet = grind (arith, not_true)
 
 pub all_unwritten : (t k : ℕ) (items : List Item) → AllQuiet items → Unwritten t k items
 all_unwritten t k items quiet = All-weaker Quiet (IsUnwritten t k) (λ x is. quiet_unwritten t k x is) items quiet
@@ -34,23 +31,17 @@ pub one_unwritten : (t k : ℕ) (x : Item) → IsUnwritten t k x → Unwritten t
 one_unwritten t k x one = then_unwritten t k x [] one (none_unwritten t k)
 
 pub draw_unwritten : (t k node term stamp : ℕ) (request : Request) → IsUnwritten t k (draw_item node term request stamp)
-draw_unwritten t k node term stamp (Begin session) = refl
-draw_unwritten t k node term stamp (Commit session start keys) = refl
+draw_unwritten t k node term stamp request = grind arith
 
 pub turn_unwritten : (t k s b j : ℕ) (turn : ReadTurn) → Unwritten t k (read_items s b j turn)
-turn_unwritten t k s b j (Asks r) = none_unwritten t k
-turn_unwritten t k s b j (Answers a) = one_unwritten t k _ refl
+turn_unwritten t k s b j turn = grind (arith, none_unwritten, one_unwritten)
 
 pub write_unwritten : (t k s u j : ℕ) (value : List ℕ) → (j ≡ k → u ≡ t → ⊥) → IsUnwritten t k (Write s u j value)
-write_unwritten t k s u j value other = elim (cases_eq u t) [
-  | inl same ↦ rw (eq-eqb u t same, ne_eqb j k (λ is. other is same)) refl
-  | inr ne ↦ rw (ne_eqb u t ne) refl
-]
+write_unwritten t k s u j value other = grind (arith, cases_eq, eq-eqb, ne_eqb)
 
 -- ---- what stays
 written_none : (t k : ℕ) (x : Item) → IsUnwritten t k x → written_by t k x ≡ None
-written_none t k (Write s u j value) none = rw none refl
-written_none t k _ none = refl
+written_none t k x none = grind arith
 
 pub last_write-past : (h items : List Item) (t k : ℕ) → Unwritten t k items → last_write (h ++ items) t k ≡ last_write h t k
 last_write-past h [] t k none = ap (λ (xs : List Item). last_write xs t k) (append-nil h)
@@ -58,21 +49,11 @@ last_write-past h (x ∷ items) t k none =
     ap (λ (xs : List Item). last_write xs t k) (sym (append_assoc h (x ∷ []) items))
     ∙ (last_write-past (h ++ x ∷ []) items t k (All-tail (IsUnwritten t k) x items none) ∙ last_write-other h x t k (written_none t k x (All-head (IsUnwritten t k) x items none)))
 
-erased_front : (part items : List Item) (t k : ℕ) → ErasedIn part t k → ErasedIn (part ++ items) t k
-erased_front part items t k (inl m) = inl (in_front (Step Janitor (Erase k t)) part items m)
-erased_front part items t k (inr m) = inr (in_front (Fault Janitor Cells) part items m)
-
-erased_back : (part items : List Item) (t k : ℕ) → ErasedIn items t k → ErasedIn (part ++ items) t k
-erased_back part items t k (inl m) = inl (in_back (Step Janitor (Erase k t)) part items m)
-erased_back part items t k (inr m) = inr (in_back (Fault Janitor Cells) part items m)
-
 pub erased_past : (h items : List Item) (t k : ℕ) → Unwritten t k items → ErasedSince h t k → ErasedSince (h ++ items) t k
-erased_past h items t k none erased = subst (λ (part : List Item). ErasedIn part t k) (sym (since-more (writes_at t k) h items none)) (erased_front (since (writes_at t k) h) items t k erased)
+erased_past h items t k none erased = grind (arith, since-more, in_front)
 
 pub erased_now : (h items : List Item) (t k : ℕ) → Unwritten t k items → ErasedIn items t k → ErasedSince (h ++ items) t k
-erased_now h items t k none erased = subst (λ (part : List Item). ErasedIn part t k) (sym (since-more (writes_at t k) h items none)) (erased_back (since (writes_at t k) h) items t k erased)
+erased_now h items t k none erased = grind (arith, since-more, in_back)
 
 pub own_past : (h items : List Item) (t k : ℕ) (answer : Option Found) (own : Option (List ℕ)) → Unwritten t k items → OwnStands h t k answer own → OwnStands (h ++ items) t k answer own
-own_past h items t k answer None none stands = tt
-own_past h items t k answer (Some own) none (inl is) = inl is
-own_past h items t k answer (Some own) none (inr erased) = inr (erased_past h items t k none erased)
+own_past h items t k answer own none stands = grind (arith, erased_past)

@@ -1,9 +1,11 @@
 -- What an open transaction wrote, where its cell is gone after an outcome, it wrote before it; and of the items only a write writes.
-use Rattle.service_laws.proofs.Names.{◌≡◌, ◌+◌, ℕ, false, List, ◌++◌, None, inl, inr, refl, sym, ◌∙◌, ap, none-some}
-use Rattle.service_laws.proofs.Names.{Wrote, last_write, Item, looked, State, AnsweredBegin, answered_begin_items}
-use Rattle.service_laws.proofs.Names.{WroteOne, wrote_state, wrote_items, fetched_turn, read_turn, Outcome}
-use Rattle.service_laws.proofs.Names.{OfAskedBegin, OfDrew, OfPlaced, OfOwnPlaced, OfAnsweredBegin, OfWrote, OfFetched}
-use Rattle.service_laws.proofs.Names.{OfReadStepped, OfSweepListed, left_by, told_by_outcome, OpenAt}
+use Rattle.std.proofs.Common.{arith}
+use Rattle.std.proofs.lemmas.Grind.{common_steps}
+use Rattle.service_laws.proofs.Names.{◌≡◌, ℕ, false, List, ◌++◌, None, inl, inr, refl, sym, ◌∙◌, none-some}
+use Rattle.service_laws.proofs.Names.{Wrote, Item, looked, State, AnsweredBegin, answered_begin_items}
+use Rattle.service_laws.proofs.Names.{WroteOne, wrote_state, wrote_items, Outcome}
+use Rattle.service_laws.proofs.Names.{OfAnsweredBegin, OfWrote}
+use Rattle.service_laws.proofs.Names.{left_by, told_by_outcome, OpenAt}
 use Rattle.service_laws.proofs.Names.{IsolationInvariant, alone, start_unbegun, put_cases}
 use Rattle.isolation_laws.proofs.Holding.Alone.{changes}
 use Rattle.isolation_laws.proofs.Requests.OpenAfter.{open_answered_begin}
@@ -13,16 +15,8 @@ use Rattle.service_laws.proofs.Unwritten.{Unwritten, quiet_unwritten, all_unwrit
 
 -- ---- all but a write write nothing
 pub nothing_written : (w : State) (h : List Item) (o : Outcome w) (t k : ℕ) → IsolationInvariant w h → (changes o).writes ≡ false → Unwritten t k (told_by_outcome w o)
-nothing_written w h (OfAskedBegin it) t k holds is = one_unwritten t k _ refl
-nothing_written w h (OfDrew it) t k holds is = one_unwritten t k _ (draw_unwritten t k it.node it.i.term (it.i.last + 1) it.held.request)
-nothing_written w h (OfPlaced it) t k holds is = then_unwritten t k _ it.items refl (all_unwritten t k it.items it.quiet)
-nothing_written w h (OfOwnPlaced it) t k holds is = then_unwritten t k _ it.items refl (all_unwritten t k it.items it.quiet)
-nothing_written w h (OfAnsweredBegin it) t k holds is = one_unwritten t k _ refl
-nothing_written w h (OfWrote it) t k holds is = absurd (cc)
-nothing_written w h (OfFetched it) t k holds is = then_unwritten t k it.first _ (quiet_unwritten t k it.first it.quiet) (turn_unwritten t k it.it.session it.start it.key (fetched_turn w it))
-nothing_written w h (OfReadStepped it) t k holds is = then_unwritten t k it.first _ (quiet_unwritten t k it.first it.quiet) (turn_unwritten t k it.session it.r.start it.r.key (read_turn w it))
-nothing_written w h (OfSweepListed it) t k holds is = one_unwritten t k _ refl
-nothing_written w h o t k holds is = all_unwritten t k (told_by_outcome w o) ((alone w h o holds).items.quiet refl)
+nothing_written w h o t k holds is =
+    grind (arith, common_steps, one_unwritten, draw_unwritten, then_unwritten, all_unwritten, quiet_unwritten, turn_unwritten)
 
 -- ---- what was written before
 pub record WasWritten (w : State) (h items : List Item) (s t e k : ℕ) (own : List ℕ) : Type 0 where
@@ -35,9 +29,7 @@ written_by_items w h items s t e k own o none wrote = record { open_at = o; wrot
 
 -- a transaction that begins has written nothing
 begun_wrote_none : (w : State) (h : List Item) (it : AnsweredBegin w) (t k : ℕ) (own : List ℕ) → IsolationInvariant w h → t ≡ it.start → Wrote h t k own → ⊥
-begun_wrote_none w h it t k own holds same wrote =
-    let none : last_write h it.start k ≡ None = last_write-none h it.start k (λ s value m. let was = holds.numbers.begun.writes s it.start k value m in start_unbegun w h it was.0 holds was.1) in
-    none-some own (sym none ∙ (ap (λ u. last_write h u k) (sym same) ∙ wrote))
+begun_wrote_none w h it t k own holds same wrote = grind (arith, last_write-none, start_unbegun, none-some)
 
 -- a write leaves its cell
 wrote_leaves : (w : State) (h : List Item) (it : WroteOne w) (s t e k : ℕ) (own : List ℕ) → IsolationInvariant w h → OpenAt w.clients s t e → Wrote (h ++ wrote_items w it) t k own → looked (wrote_state w it).rows k t ≡ None → WasWritten w h (wrote_items w it) s t e k own
