@@ -1,11 +1,11 @@
 // The next event of a line, made where it is chosen. `next_event` makes a view of all that any line looks at, and an event that is
 // moved out of it; here each of the frequent lines looks at no more than it needs. The others go through `next_event`.
-ghost use Rattle.std.specs.Prelude.{◌≡◌, ◌≤◌, ◌^◌, ℕ, All, IfOk, Some};
+ghost use Rattle.std.specs.Prelude.{◌≡◌, ◌≤◌, ◌^◌, ℕ, true, All, IfOk, Some};
 ghost use Rattle.history_book.specs.declared.item.Actor.TheVariants.{Node, Session};
 ghost use Rattle.machine.specs.Machine.{IsSteadyAt, reading_of};
 ghost use Rattle.command_semantics.specs.Clocks.{clocks};
 ghost use Rattle.command_semantics.specs.Next as next;
-ghost use Rattle.machine.specs.Readers.{doing_of};
+ghost use Rattle.machine.specs.Readers.{asks_commit, doing_of, place_of};
 ghost use Rattle.replay_driver.specs.GoingOn.{CanGoOn, Makes, MakesNext, step_next, step_where};
 
 use crate::play::{make, seen};
@@ -139,12 +139,39 @@ fn drive(
     requires can { CanGoOn play.old leads.now line.now Point.Drives }
     ensures { IfOk result (MakesNext play.old leads.now line.now Point.Drives play.new) }
 {
-    let point = Point::Drives;
     let (request, commit) = play.cluster.in_flight(session);
     match request {
-        None => go_on(play, line, point, session),
-        Some((_, place)) if !is_served(&line.verb, place) => Ok(Point::Over),
-        Some((node, Place::Asked)) => {
+        None => go_on(play, line, Point::Drives, session),
+        Some((node, place)) => {
+            if is_served(&line.verb, place) {
+                serve(play, leads, line, session, (node, place), commit)
+            } else {
+                Ok(Point::Over)
+            }
+        }
+    }
+}
+
+/// The event that serves the session's request, which is in flight at this node, from this place on.
+fn serve(
+    play: &mut PlannedCluster,
+    leads: &[u64],
+    line: &Line,
+    session: SessionNo,
+    request: (NodeNo, Place),
+    commit: bool,
+) -> Result<Point, NoMemory>
+    requires actor { line.now.actor ≡ Session session }
+    requires request { place_of play.old.cluster.state session ≡ Some request }
+    requires commit { asks_commit play.old.cluster.state session ≡ commit }
+    requires served { next.is_served line.now.verb request.1 ≡ true }
+    requires can { CanGoOn play.old leads.now line.now Point.Drives }
+    ensures { IfOk result (MakesNext play.old leads.now line.now Point.Drives play.new) }
+{
+    let point = Point::Drives;
+    let (node, place) = request;
+    match place {
+        Place::Asked => {
             let reading = reading_at(play.clock, leads, node);
             made(
                 play,
@@ -157,13 +184,9 @@ fn drive(
                 },
             )
         }
-        Some((node, Place::Accepted)) => made(play, line, point, &Event::Decide { node, session }),
-        Some((node, Place::Drawn)) if commit => {
-            made(play, line, point, &Event::Put { node, session })
-        }
-        Some((node, Place::Drawn | Place::Settled)) => {
-            made(play, line, point, &Event::Answer { node, session })
-        }
+        Place::Accepted => made(play, line, point, &Event::Decide { node, session }),
+        Place::Drawn if commit => made(play, line, point, &Event::Put { node, session }),
+        Place::Drawn | Place::Settled => made(play, line, point, &Event::Answer { node, session }),
     }
 }
 
