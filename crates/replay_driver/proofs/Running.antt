@@ -62,8 +62,8 @@ pub can_go_on : (script : ScriptData) (line : Line) (p : Played) (play : Planned
 can_go_on script line p play point leads same k room = record {
   room = room;
   steady = λ event is.
-    subst (λ (w : State). IsSteadyAt w.setup.skew w.seen (reading_of event)) (sym k.at.stands.state)
-    (steady_next Nothing script line (p.clock + tick_of line.verb) k.run event k.going (sym (next_same script line k.run play point leads same k.at) ∙ is));
+      subst (λ (w : State). IsSteadyAt w.setup.skew w.seen (reading_of event)) (sym k.at.stands.state)
+      (steady_next Nothing script line (p.clock + tick_of line.verb) k.run event k.going (sym (next_same script line k.run play point leads same k.at) ∙ is));
 }
 
 -- ---- one event more

@@ -1,5 +1,5 @@
-// The next event of a line, made where it is chosen. `next_event` makes a view of all that any line looks at, and an event that is
-// moved out of it; here each of the frequent lines looks at no more than it needs. The others go through `next_event`.
+// The next event of a line, made in the arm that chooses it: so a frequent line looks at no more than its arm needs, and its event
+// is handed to nobody before it is made. The other lines go through `next_event`.
 ghost use Rattle.std.specs.Prelude.{◌≡◌, ◌≤◌, ◌^◌, ℕ, true, All, IfOk, Some};
 ghost use Rattle.history_book.specs.declared.item.Actor.TheVariants.{Node, Session};
 ghost use Rattle.machine.specs.Machine.{IsSteadyAt, reading_of};
@@ -34,7 +34,7 @@ pub(crate) fn make_next(
     }
 }
 
-/// As `make_next`, through the choice that serves any line.
+/// As `make_next`, by the choice that serves any line.
 fn other_next(
     play: &mut PlannedCluster,
     leads: &[u64],
@@ -67,6 +67,7 @@ fn made(
 
 // ---- a session's line
 
+/// As `make_next`, for a line of this session.
 fn session_next(
     play: &mut PlannedCluster,
     leads: &[u64],
@@ -87,7 +88,7 @@ fn session_next(
     }
 }
 
-/// The first event of a session's line.
+/// Makes the first event of a session's line.
 fn open_session(
     play: &mut PlannedCluster,
     leads: &[u64],
@@ -128,7 +129,7 @@ fn open_session(
     }
 }
 
-/// The next event that serves the session's request; where none is left, a placing and then a completion goes on.
+/// Makes the next event that serves the session's request; where none is left, a placing and then a completion goes on.
 fn drive(
     play: &mut PlannedCluster,
     leads: &[u64],
@@ -152,7 +153,7 @@ fn drive(
     }
 }
 
-/// The event that serves the session's request, which is in flight at this node, from this place on.
+/// Makes the event that serves the session's request, which is in flight at this node, from this place on.
 fn serve(
     play: &mut PlannedCluster,
     leads: &[u64],
@@ -190,7 +191,7 @@ fn serve(
     }
 }
 
-/// A step of what the session has under way, where the line goes on with that.
+/// Makes a step of what the session has under way, where the line goes on with that.
 fn go_on(
     play: &mut PlannedCluster,
     line: &Line,
@@ -222,7 +223,7 @@ fn goes_on(verb: &Verb, point: Point, doing: Doing) -> bool
 
 // ---- a node's line
 
-/// The first event of a node's line, which is its only one.
+/// Makes the event of a node's line, which has no second one.
 fn open_node(
     play: &mut PlannedCluster,
     leads: &[u64],
