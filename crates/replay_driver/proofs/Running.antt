@@ -14,7 +14,7 @@ use Rattle.script_data.specs.declared.line.Verb.{Verb}
 use Rattle.script_data.specs.Data.{ScriptData}
 use Rattle.script_data.specs.Ticks.{tick_of}
 use Rattle.command_semantics.specs.declared.point.Point.{Point}
-use Rattle.command_semantics.specs.declared.point.Point.TheVariants.{Opens, Drives, Extends, Finishes, Reads, Steps, Over}
+use Rattle.command_semantics.specs.declared.point.Point.TheVariants.{Opens, Over}
 use Rattle.command_semantics.specs.declared.point.View.{View}
 use Rattle.command_semantics.specs.Clocks.{HaveRoom}
 use Rattle.command_semantics.specs.Laws.{IsReached, EventsLowerWhatIsLeft}
@@ -24,10 +24,10 @@ use Rattle.command_semantics.specs.Runs.{Played, Run, clocks_of, next_in, run_af
 use Rattle.command_semantics.specs.Views.{view_of}
 use Rattle.command_semantics.proofs.Ending.{Keeps, Going, Nothing, less_left, steady_next, goes_on as event_goes_on}
 use Rattle.cluster_core.specs.ClusterModel.{ClusterModel}
-use Rattle.planned_cluster.specs.Standing.{StandsAt, clocks_at}
+use Rattle.planned_cluster.specs.Standing.{StandsAt}
 use Rattle.planned_cluster.specs.declared.planned.PlannedCluster.{PlannedCluster}
 use Rattle.planned_cluster.proofs.Clocks.{clocks_there}
-use Rattle.replay_driver.specs.GoingOn.{CanGoOn, IsAt, Makes, MakesNext, next_at, run_by}
+use Rattle.replay_driver.specs.GoingOn.{CanGoOn, IsAt, MakesNext, next_at, run_by}
 
 -- the run of a line from what was played before it is under way: where it stands, and that what it comes to is what the whole
 -- run comes to
