@@ -1,5 +1,6 @@
 mod Running
 mod Counting
 mod Making
+mod Chosen
 mod Storming
 mod StormValues

@@ -1,3 +1,4 @@
 pub mod Drafts
+pub mod GoingOn
 pub mod Playing
 pub mod Storm

@@ -8,11 +8,11 @@ ghost use Rattle.command_semantics.specs.Planned.{Planned};
 ghost use Rattle.command_semantics.specs.Runs.{replayed, script_played};
 ghost use Rattle.replay_driver.specs.Playing.{IsPlayedTo};
 
-use crate::play::{make, seen};
+use crate::choosing::make_next;
 use crate::progress::{Progress, Silent};
 use cluster_core::Cluster;
 use command_semantics::{
-    Point, events_lower_what_is_left, follows, lines_are_answered, next_event, scripts_are_planned,
+    Point, events_lower_what_is_left, lines_are_answered, scripts_are_planned,
 };
 use planned_cluster::{PlannedCluster, see_session};
 use port_io::{PlannedWeather, Weather};
@@ -69,19 +69,8 @@ fn play_line(play: &mut PlannedCluster, script: &Script, place: usize) -> Result
     events_lower_what_is_left();
     let line = &script.lines[place];
     let mut point = Point::Opens;
-    while let Some(event) = &next_event(
-        play.clock,
-        &script.leads,
-        play.cluster.master(),
-        line,
-        point,
-        &seen(play, line, point),
-    ) {
-        let halt = make(play, event)?;
-        point = follows(&line.verb, point, halt);
-        if let Point::Over = point {
-            return Ok(());
-        }
+    while point != Point::Over {
+        point = make_next(play, &script.leads, line, point)?;
     }
     Ok(())
 }

@@ -2,6 +2,7 @@
 //! plans, at the readings of its clocks. And the storm, a script that is made.
 #![tactic(auto)]
 
+mod choosing;
 mod draft;
 mod driver;
 mod play;
