@@ -1,62 +1,37 @@
 -- Whichever turns are made, the lines that an actor has passed are answered, and whole turns answer every line.
-use Rattle.turn_rules.proofs.Names.{◌≡◌, ℕ, List, [], ◌∷◌, Option, Some, None, inl, inr, refl, sym, ◌∙◌, ap, subst}
-use Rattle.turn_rules.proofs.Names.{filter, All, append-nil, none-some, AreInRange, Actor, Item, Doing, doing_of, Line}
-use Rattle.turn_rules.proofs.Names.{ScriptData, Point, Opens, Drives, Extends, Finishes, Reads, Steps, Over, same_actor}
-use Rattle.turn_rules.proofs.Names.{is_of, asks_some, Answered, AreLinesOf, IsPlayable, read_next, view_of}
-use Rattle.turn_rules.proofs.Names.{read_has_next, walks_end, Seat, Turn, lines_of, lines_left, Carried, seat_of}
+use Rattle.std.proofs.Common.{arith}
+use Rattle.turn_rules.proofs.Names.{◌≡◌, ℕ, List, [], Option, Some, None, refl, sym, subst}
+use Rattle.turn_rules.proofs.Names.{filter, All, append-nil, none-some, AreInRange, Actor, Item, Doing, Line}
+use Rattle.turn_rules.proofs.Names.{ScriptData, Point, same_actor}
+use Rattle.turn_rules.proofs.Names.{is_of, asks_some, Answered, AreLinesOf, IsPlayable, read_next}
+use Rattle.turn_rules.proofs.Names.{read_has_next, walks_end, Seat, Turn, lines_left, Carried, seat_of}
 use Rattle.turn_rules.proofs.Names.{all_passed, at_first, carried, carried_items, AreWhole, IsAnsweredTo, unanswered}
-use Rattle.turn_rules.proofs.Names.{OwesRead, IsAnsweredSoFar, TurnsAnswerSoFar, TurnsAnswer}
+use Rattle.turn_rules.proofs.Names.{IsAnsweredSoFar, TurnsAnswerSoFar, TurnsAnswer}
 use Rattle.machine.specs.declared.event.Doing.TheVariants as doing
 use Rattle.machine.specs.declared.event.Event.TheVariants as event
 use Rattle.turn_rules.proofs.AllSeats.{at_opening, has_seat, no_lines}
 use Rattle.turn_rules.proofs.Facts.{facts_at_first, later_ticks}
 use Rattle.turn_rules.proofs.SeatLists.{Place, find_place, drop_get}
 use Rattle.turn_rules.proofs.SoFar.{IsAt, SoFar, so_far_passed, so_far_all}
-use Rattle.turn_rules.proofs.WalksOn.{Present, ReadUnderWay, StandsSo}
+use Rattle.turn_rules.proofs.WalksOn.{StandsSo}
 
 all_so_far : (script : ScriptData) (turns : List Turn) → AreInRange script.setup → IsPlayable script 0 script.lines → AreLinesOf script.setup script.lines → SoFar script (carried script turns)
 all_so_far script turns in_range playable of_script = so_far_all script playable of_script turns (all_passed script (at_first script)) (so_far_passed script (at_first script) (facts_at_first script in_range) (at_opening script))
 
 -- ---- so far
 pub none_unanswered : (at : Point) → unanswered at [] ≡ []
-none_unanswered Opens = refl
-none_unanswered Drives = refl
-none_unanswered Extends = refl
-none_unanswered Finishes = refl
-none_unanswered Reads = refl
-none_unanswered Steps = refl
-none_unanswered Over = refl
+none_unanswered at = grind arith
 
 is_reading : (s : ℕ) (now : Doing) → read_next s now ≡ Some (event.Step s) → now ≡ doing.Reading
 is_reading s doing.Reading is = refl
 is_reading s _ is = absurd (none-some (event.Step s) is)
 
-owes : (script : ScriptData) (c : Carried) (seat : Seat) (line : Line) (lines : List Line) → lines_left script seat ≡ line ∷ lines → ReadUnderWay seat.actor script.lines c.played.state c.played.items seat.point line lines → OwesRead script c seat
-owes script c seat line lines left k = record {
-  key = k.key;
-  line = line;
-  present = drop_get seat.place (lines_of script seat.actor) line lines left;
-  reads = k.verb_is;
-  point = k.at_is;
-  doing = ap (λ (a : Actor). (view_of c.played.state a).doing) k.actor_is ∙ is_reading k.s (doing_of c.played.state k.s) (read_has_next c.played.state k.s k.key k.reads);
-  answered = subst (λ (ls : List Line). IsAnsweredTo seat.actor script.lines c.played.items (Some k.key) (unanswered seat.point ls)) (sym left) (subst (λ (p : Point). IsAnsweredTo seat.actor script.lines c.played.items (Some k.key) (unanswered p (line ∷ lines))) (sym k.at_is) k.to);
-}
-
-present_so_far : (script : ScriptData) (c : Carried) (seat : Seat) (line : Line) (lines : List Line) → lines_left script seat ≡ line ∷ lines → Present seat.actor script.lines c.played.state c.played.items seat.point line lines → IsAnsweredSoFar script c seat
-present_so_far script c seat line lines left (inl (opens, so)) = inl (subst (λ (ls : List Line). IsAnsweredTo seat.actor script.lines c.played.items None (unanswered seat.point ls)) (sym left) (subst (λ (p : Point). IsAnsweredTo seat.actor script.lines c.played.items None (unanswered p (line ∷ lines))) (sym opens) so))
-present_so_far script c seat line lines left (inr (inl (later, so))) = inl (subst (λ (ls : List Line). IsAnsweredTo seat.actor script.lines c.played.items None (unanswered seat.point ls)) (sym left) (subst (λ (ls : List Line). IsAnsweredTo seat.actor script.lines c.played.items None ls) (sym (later_ticks seat.point line lines later)) so))
-present_so_far script c seat line lines left (inr (inr k)) = inr (owes script c seat line lines left k)
-
 seat_so_far : (script : ScriptData) (c : Carried) (seat : Seat) (rest : List Line) → lines_left script seat ≡ rest → StandsSo seat.actor script.lines c.played.state c.played.items seat.point rest → IsAnsweredSoFar script c seat
-seat_so_far script c seat [] left so = inl (subst (λ (ls : List Line). IsAnsweredTo seat.actor script.lines c.played.items None (unanswered seat.point ls)) (sym left) (subst (λ (ls : List Line). IsAnsweredTo seat.actor script.lines c.played.items None ls) (sym (none_unanswered seat.point)) so))
-seat_so_far script c seat (line ∷ lines) left so = present_so_far script c seat line lines left so
+seat_so_far script c seat rest left so =
+    grind (arith, none_unanswered, later_ticks, drop_get, is_reading, read_has_next)
 
 pub turns_answer_so_far : TurnsAnswerSoFar
-turns_answer_so_far script turns actor seat in_range playable of_script sits =
-    let c : Carried = carried script turns in
-    let at : IsAt script c actor (Some seat) = subst (λ (found : Option Seat). IsAt script c actor found) sits ((all_so_far script turns in_range playable of_script).at actor) in
-    let mine : StandsSo seat.actor script.lines c.played.state c.played.items seat.point (lines_left script seat) = subst (λ (a : Actor). StandsSo a script.lines c.played.state c.played.items seat.point (lines_left script seat)) (sym at.0) at.1 in
-    (at.0, seat_so_far script c seat (lines_left script seat) refl mine)
+turns_answer_so_far script turns actor seat in_range playable of_script sits = grind (arith, all_so_far, seat_so_far)
 
 -- ---- whole turns
 pub whole_seat : (script : ScriptData) (c : Carried) (actor : Actor) (seat : Seat) → All (λ (s : Seat). lines_left script s ≡ []) c.seats → seat_of c.seats actor ≡ Some seat → lines_left script seat ≡ []

@@ -1,15 +1,15 @@
 -- For run_board and grant_laws too.
 -- Whichever turns are made, all facts hold, and the clock has not ticked further than its lines say.
-use Rattle.turn_rules.proofs.Names.{◌≡◌, ℕ, suc, ◌+◌, ◌≤◌, Bool, true, false, cond, List, [], ◌∷◌, Option, Some, None}
+use Rattle.turn_rules.proofs.Names.{◌≡◌, ℕ, suc, ◌+◌, ◌≤◌, Bool, false, cond, List, [], ◌∷◌, Option, Some, None}
 use Rattle.turn_rules.proofs.Names.{refl, sym, ◌∙◌, ap, subst, arith, filter, fold, drop, option_map, AreInRange, Actor}
-use Rattle.turn_rules.proofs.Names.{Clock, Node, Session, Janitor, Event, Step, Line, ScriptData, Point, Opens}
-use Rattle.turn_rules.proofs.Names.{same_actor, ticks_of, IsPlayable, IsReached, clocks_of, step_of, played, view_of}
+use Rattle.turn_rules.proofs.Names.{Clock, Node, Session, Janitor, Event, Step, Line, ScriptData, Point}
+use Rattle.turn_rules.proofs.Names.{same_actor, ticks_of, IsPlayable, IsReached, clocks_of, step_of, view_of}
 use Rattle.turn_rules.proofs.Names.{TakesFit, takes_at_first, Fit, fit_at_first, opening_reached, IsLater}
 use Rattle.turn_rules.proofs.Names.{follows_later, actor_same, tick_ahead, Timed, Seat, Turn, lines_of, lines_left}
 use Rattle.turn_rules.proofs.Names.{with_event_of, Carried, seat_of, event_of, moved, with_event, seat_passed}
 use Rattle.turn_rules.proofs.Names.{all_passed, turned_by, turned, at_first, unanswered, TurnsKeepFacts}
 use Rattle.turn_rules.specs.declared.turn.Turn.TheVariants as turn
-use Rattle.turn_rules.proofs.MadeEvents.{Made, event_made}
+use Rattle.turn_rules.proofs.MadeEvents.{event_made}
 use Rattle.turn_rules.proofs.OwnTimes.{own_tick}
 use Rattle.turn_rules.proofs.OwnTurns.{OwnTurn, own_turn, turn_timed, StageTurn, stage_turn}
 use Rattle.turn_rules.proofs.SeatsOn.{passed_keeps, own_moved, other_stays, seat_after, passed_seat, turned_seat}
@@ -26,12 +26,10 @@ ticks_left script (Some seat) = seat_ticks script seat
 -- a line takes its tick off
 first_tick : (line : Line) (lines : List Line) (at : Point) → ticks_of (unanswered at (line ∷ lines)) ≡ tick_ahead at line.verb + ticks_of lines
 unfolding ticks_of
-first_tick line lines Opens = refl
-first_tick line lines _ = omega arith
+first_tick line lines at = grind arith
 
 pub later_ticks : (at : Point) (line : Line) (lines : List Line) → IsLater at → unanswered at (line ∷ lines) ≡ lines
-later_ticks Opens line lines later = absurd later
-later_ticks _ line lines later = refl
+later_ticks at line lines later = grind arith
 
 -- passing lines adds none
 passing_ticks : (script : ScriptData) (c : Carried) (seat : Seat) → seat_ticks script (seat_passed script c seat) ≤ seat_ticks script seat
@@ -40,8 +38,7 @@ passing_ticks script c seat =
     passed_keeps script (clocks_of script c.played) (view_of c.played.state seat.actor) (λ (after : Seat) (lines : List Line). ticks_of (unanswered after.point lines) ≤ bound) (λ s line lines is passes less. omega (arith, less, first_tick line lines s.point)) (lines_left script seat) seat refl (omega arith)
 
 passed_ticks : (script : ScriptData) (c : Carried) (found : Option Seat) → ticks_left script (option_map (seat_passed script c) found) ≤ ticks_left script found
-passed_ticks script c None = omega arith
-passed_ticks script c (Some seat) = passing_ticks script c seat
+passed_ticks script c found = grind (arith, passing_ticks)
 
 -- ---- all facts of what was carried out
 pub record Facts (script : ScriptData) (c : Carried) : Type 0 where
@@ -52,14 +49,7 @@ pub record Facts (script : ScriptData) (c : Carried) : Type 0 where
 
 -- an event keeps them, where its tick is taken off the clock's seat
 facts_after : (script : ScriptData) (c : Carried) (t : Turn) (tick : ℕ) (e : Event) → IsPlayable script 0 script.lines → Facts script c → Timed (clocks_of script c.played) tick e → ticks_left script (option_map (seat_after script c t e) (seat_of c.seats Clock)) + tick ≤ ticks_left script (seat_of c.seats Clock) → Facts script (all_passed script (with_event script c t e))
-facts_after script c t tick e playable k timed less =
-    let made : Made script c.played tick e = event_made script c.played tick e playable.leads (omega (arith, k.time, less, playable.ticks)) k.reached k.fit k.takes timed in
-    record {
-      reached = made.reached;
-      fit = made.fit;
-      takes = made.takes;
-      time = subst (λ (found : Option Seat). (played script c.played e).clock + ticks_left script found ≤ ticks_of script.lines) (sym (turned_seat script c t e Clock)) (omega (arith, made.at_most, less, k.time));
-    }
+facts_after script c t tick e playable k timed less = grind (arith, event_made, turned_seat)
 
 -- where the clock's seat stays
 still_ticks : (script : ScriptData) (c : Carried) (t : Turn) (e : Event) (found : Option Seat) → ((seat : Seat) → found ≡ Some seat → moved script t (step_of script c.played e) seat ≡ seat) → ticks_left script (option_map (seat_after script c t e) found) ≤ ticks_left script found
@@ -113,8 +103,7 @@ facts_made script c (turn.Answer node session) e playable k is = facts_staged sc
 facts_made script c (turn.Extend node) e playable k is = facts_staged script c (turn.Extend node) e playable k (stage_turn script c (turn.Extend node) e (λ own. own) is) (λ step seat. refl)
 
 facts_by : (script : ScriptData) (c : Carried) (t : Turn) → IsPlayable script 0 script.lines → Facts script c → (found : Option Event) → event_of script c t ≡ found → Facts script (turned_by script c t found)
-facts_by script c t playable k None is = k
-facts_by script c t playable k (Some e) is = facts_made script c t e playable k is
+facts_by script c t playable k found is = grind (arith, facts_made)
 
 pub facts_turned : (script : ScriptData) (c : Carried) (t : Turn) → IsPlayable script 0 script.lines → Facts script c → Facts script (turned script c t)
 facts_turned script c t playable k = facts_by script c t playable k (event_of script c t) refl
@@ -123,8 +112,7 @@ facts_turned script c t playable k = facts_by script c t playable k (event_of sc
 -- no actor has more ticks than all have
 kept_ticks : (test : Line → Bool) (line : Line) (lines : List Line) → ticks_of (filter test lines) ≤ ticks_of lines → (passes : Bool) → ticks_of (cond passes (line ∷ filter test lines) (filter test lines)) ≤ ticks_of (line ∷ lines)
 unfolding ticks_of
-kept_ticks test line lines less true = omega (arith, less)
-kept_ticks test line lines less false = omega (arith, less)
+kept_ticks test line lines less passes = grind arith
 
 filtered_ticks : (test : Line → Bool) (lines : List Line) → ticks_of (filter test lines) ≤ ticks_of lines
 filtered_ticks test [] = omega arith

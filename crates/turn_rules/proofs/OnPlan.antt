@@ -95,8 +95,7 @@ plan_made laws script c (turn.Answer node session) e playable k is facts = quiet
 plan_made laws script c (turn.Extend node) e playable k is facts = quiet_plan laws script c (turn.Extend node) e playable k (stage_reads (clocks_of script c.played) (event.Extend node) e is refl) (λ seat same. refl) facts
 
 plan_by : PlanLaws → (script : ScriptData) (c : Carried) (t : Turn) → IsPlayable script 0 script.lines → OnPlan script c → (found : Option Event) → event_of script c t ≡ found → Facts script (turned_by script c t found) → OnPlan script (turned_by script c t found)
-plan_by laws script c t playable k None is facts = k
-plan_by laws script c t playable k (Some e) is facts = plan_made laws script c t e playable k is facts
+plan_by laws script c t playable k found is facts = grind (arith, plan_made)
 
 pub plan_all : PlanLaws → (script : ScriptData) → IsPlayable script 0 script.lines → (turns : List Turn) (c : Carried) → OnPlan script c → OnPlan script (fold (turned script) c turns)
 plan_all laws script playable [] c k = k

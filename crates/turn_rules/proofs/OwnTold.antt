@@ -1,9 +1,10 @@
 -- Each event of an own turn appends an item, or opens a sweep.
+use Rattle.std.proofs.Common.{arith}
 use Rattle.turn_rules.proofs.Names.{◌≡◌, ℕ, zero, suc, ◌<◌, Bool, true, false, List, [], ◌∷◌, Some, inl, inr, refl, sym}
 use Rattle.turn_rules.proofs.Names.{subst, slice_get, same_Some, none-some, Actor, Session, Janitor, Item, Event}
 use Rattle.turn_rules.proofs.Names.{Client, Line, ScriptData, ReachedInvariant, ClientAt, Point, Opens, same_actor}
 use Rattle.turn_rules.proofs.Names.{has_opening, IsAnswer, asks_some, ActorFits, Played, fate_of, step_of, view_of, Fit}
-use Rattle.turn_rules.proofs.Names.{found, IsLater, NextAction, Makes, Waits, Passes, Carried, aimed_clocks}
+use Rattle.turn_rules.proofs.Names.{found, IsLater, NextAction, Carried, aimed_clocks}
 use Rattle.turn_rules.proofs.Names.{name_posted, made_by, all_passed, at_first, carried, IsTold, IsForThreads}
 use Rattle.turn_rules.proofs.Names.{AreForThreads, OwnTurnsAreTold, own_next}
 use Rattle.machine.specs.declared.event.Event.TheVariants as event
@@ -20,17 +21,14 @@ use Rattle.turn_rules.proofs.ToldEvents.{Appends, step_told, heal_told, abort_to
 
 -- ---- an event that appends an item is told
 pub told_by : (script : ScriptData) (p : Played) (e : Event) → Appends (step_of script p e).items → IsTold script p e
-told_by script p (event.SweepOpen node txn) some = tt
-told_by script p e some = λ none. subst (λ (items : List Item). Appends items) none some
+told_by script p e some = grind arith
 
 begins_appends : (A : Item → Type 0) (items : List Item) → Begins A items → Appends items
 begins_appends A items k = subst (λ (xs : List Item). Appends xs) (sym k.is) tt
 
 -- ---- the kinds of events that open no line
 kind_made : (actor : Actor) (ahead : NextAction) (e : Event) → NextActionKind actor ahead → made_by ahead ≡ Some e → OwnKind actor e
-kind_made actor (Makes x) e kind is = subst (λ (made : Event). OwnKind actor made) (same_Some x e is) kind
-kind_made actor (Waits why) e kind is = absurd (none-some e is)
-kind_made actor Passes e kind is = absurd (none-some e is)
+kind_made actor ahead e kind is = grind (arith, same_Some, none-some)
 
 session_found : (p : Played) (s : ℕ) → Fit p.state → s < 16 → (c : Client) × ClientAt p.state.clients s c
 session_found p s fit less = found p.state.clients s (subst (λ (n : ℕ). s < n) (sym fit.clients) less)

@@ -1,12 +1,12 @@
 -- For run_board and grant_laws too.
 -- What makes an event: a line of the actor's seat, or a stage.
+use Rattle.std.proofs.Common.{arith}
 use Rattle.turn_rules.proofs.Names.{◌≡◌, ℕ, zero, suc, List, [], ◌∷◌, Option, Some, None, refl, sym, ◌∙◌, subst}
 use Rattle.turn_rules.proofs.Names.{slice_get, same_Some, none-some, SetupNumbers, Actor, Event, Line, ScriptData}
-use Rattle.turn_rules.proofs.Names.{same_actor, ActorFits, VerbFits, AreLinesOf, last_master, reading_at, clocks_of}
+use Rattle.turn_rules.proofs.Names.{same_actor, ActorFits, VerbFits, AreLinesOf, clocks_of}
 use Rattle.turn_rules.proofs.Names.{view_of, OpensNone, actor_same, Timed, tick_ahead, Seat, Turn, present_line}
-use Rattle.turn_rules.proofs.Names.{ahead_of, Carried, aimed_node, aimed_clocks, name_posted, ahead_at, ahead_in}
+use Rattle.turn_rules.proofs.Names.{ahead_of, Carried, aimed_clocks, name_posted, ahead_at, ahead_in}
 use Rattle.turn_rules.proofs.Names.{seat_of, made_by, event_of}
-use Rattle.machine.specs.declared.event.Event.TheVariants as event
 use Rattle.turn_rules.specs.declared.turn.Turn.TheVariants as turn
 use Rattle.turn_rules.proofs.OwnEvents.{IsNextOf, own_is_next}
 use Rattle.turn_rules.proofs.OwnTimes.{own_tick, own_timed, timed_anyhow}
@@ -62,16 +62,13 @@ own_line script c actor aim e seat sits (Some line) present makes =
     }
 
 own_seat : (script : ScriptData) (c : Carried) (actor : Actor) (aim : ℕ) (e : Event) (found : Option Seat) → seat_of c.seats actor ≡ found → made_by (ahead_in script c found aim) ≡ Some e → OwnTurn script c actor aim e
-own_seat script c actor aim e None sits makes = absurd (none-some e makes)
-own_seat script c actor aim e (Some seat) sits makes = own_line script c actor aim e seat sits (present_line script seat) refl makes
+own_seat script c actor aim e found sits makes = grind (arith, none-some, own_line)
 
 pub own_turn : (script : ScriptData) (c : Carried) (actor : Actor) (aim : ℕ) (e : Event) → event_of script c (turn.Own actor aim) ≡ Some e → OwnTurn script c actor aim e
 own_turn script c actor aim e makes = own_seat script c actor aim e (seat_of c.seats actor) refl makes
 
 pub turn_timed : (script : ScriptData) (c : Carried) (actor : Actor) (aim : ℕ) (e : Event) (k : OwnTurn script c actor aim e) → Timed (clocks_of script c.played) (own_tick k.line.actor (tick_ahead k.seat.point k.line.verb)) e
-turn_timed script c actor aim e k =
-    let tick : ℕ = own_tick k.line.actor (tick_ahead k.seat.point k.line.verb) in
-    timed_anyhow c.played.clock script.leads (aimed_node c.played.items aim) (last_master c.played.items) tick e (own_timed (aimed_clocks script c aim) k.line.actor k.line.verb k.seat.point (view_of c.played.state k.line.actor) e k.next)
+turn_timed script c actor aim e k = search (timed_anyhow, own_timed)
 
 -- ---- a stage's turn
 pub record StageTurn (script : ScriptData) (c : Carried) (e : Event) : Type 0 where
@@ -83,13 +80,5 @@ abbrev pub IsOwn : Turn → Type 0
 IsOwn (turn.Own actor aim) = Unit {0}
 IsOwn _ = ⊥
 
-stage_event : (script : ScriptData) (c : Carried) (made e : Event) → Some made ≡ Some e → StageTurn script c made → StageTurn script c e
-stage_event script c made e is k = subst (λ (x : Event). StageTurn script c x) (same_Some made e is) k
-
 pub stage_turn : (script : ScriptData) (c : Carried) (t : Turn) (e : Event) → (IsOwn t → ⊥) → event_of script c t ≡ Some e → StageTurn script c e
-stage_turn script c (turn.Own actor aim) e not is = absurd (not tt)
-stage_turn script c (turn.Accept node session) e not is = stage_event script c (event.Accept node session (reading_at (clocks_of script c.played) node)) e is (record { opens_none = tt; of_none = λ s. tt; timed = refl })
-stage_turn script c (turn.Decide node session) e not is = stage_event script c (event.Decide node session) e is (record { opens_none = tt; of_none = λ s. tt; timed = tt })
-stage_turn script c (turn.Put node session) e not is = stage_event script c (event.Put node session) e is (record { opens_none = tt; of_none = λ s. tt; timed = tt })
-stage_turn script c (turn.Answer node session) e not is = stage_event script c (event.Answer node session) e is (record { opens_none = tt; of_none = λ s. tt; timed = tt })
-stage_turn script c (turn.Extend node) e not is = stage_event script c (event.Extend node) e is (record { opens_none = tt; of_none = λ s. tt; timed = tt })
+stage_turn script c t e not is = grind (arith, same_Some)

@@ -1,13 +1,13 @@
 -- Whichever turns are made, each actor's lines are answered up to its seat.
-use Rattle.turn_rules.proofs.Names.{◌≡◌, ℕ, suc, Bool, true, false, cond, List, [], ◌∷◌, ◌++◌, Option, Some, None, inl}
-use Rattle.turn_rules.proofs.Names.{inr, refl, sym, ◌∙◌, ap, subst, drop, fold, option_map, SetupNumbers, Actor}
-use Rattle.turn_rules.proofs.Names.{Session, Item, Event, Step, State, Line, Target, ScriptData, same_actor, asks_some}
-use Rattle.turn_rules.proofs.Names.{ActorFits, VerbFits, AreLinesOf, IsPlayable, has_take, target_node, fate_of}
+use Rattle.std.proofs.Common.{arith}
+use Rattle.turn_rules.proofs.Names.{◌≡◌, ℕ, suc, Bool, true, false, List, [], ◌∷◌, ◌++◌, Option, Some, None, inl}
+use Rattle.turn_rules.proofs.Names.{inr, refl, sym, ◌∙◌, ap, subst, drop, fold, option_map, Actor}
+use Rattle.turn_rules.proofs.Names.{Session, Item, Event, Step, State, Line, ScriptData, same_actor}
+use Rattle.turn_rules.proofs.Names.{AreLinesOf, IsPlayable, fate_of}
 use Rattle.turn_rules.proofs.Names.{clocks_of, step_of, view_of, Drives, any_not, events_plain, ReadsKey, actor_same}
 use Rattle.turn_rules.proofs.Names.{same_itself, some_fits, AllNot, plain_not, Seat, Turn, lines_of, lines_left}
-use Rattle.turn_rules.proofs.Names.{with_event_of, Carried, aimed_node, aimed_clocks, seat_of, event_of, moved}
+use Rattle.turn_rules.proofs.Names.{with_event_of, Carried, aimed_clocks, seat_of, event_of, moved}
 use Rattle.turn_rules.proofs.Names.{with_event, seat_passed, all_passed, turned_by, turned, IsAnsweredTo}
-use Rattle.script_data.specs.declared.line.Target.TheVariants as target
 use Rattle.turn_rules.specs.declared.turn.Turn.TheVariants as turn
 use Rattle.turn_rules.proofs.Facts.{Facts, facts_turned}
 use Rattle.turn_rules.proofs.OwnEvents.{IsNextOf}
@@ -41,45 +41,19 @@ record Apart (script : ScriptData) (c : Carried) (t : Turn) (e : Event) (actor :
   pub stays : (seat : Seat) → seat.actor ≡ actor → moved script t (step_of script c.played e) seat ≡ seat
 
 apart_at : (script : ScriptData) (c : Carried) (t : Turn) (e : Event) (actor : Actor) → Apart script c t e actor → (found : Option Seat) → IsAt script c actor found → IsAt script (with_event script c t e) actor (option_map (moved script t (step_of script c.played e)) found)
-apart_at script c t e actor k None at = answered_past actor script.lines c.played.items (step_of script c.played e).items None script.lines k.none at
-apart_at script c t e actor k (Some seat) (same, so) =
-    let step : Step = step_of script c.played e in
-    subst (λ (after : Seat). IsAt script (with_event script c t e) actor (Some after)) (sym (k.stays seat same)) (same, stands_past actor script.lines c.played.state step.state c.played.items step.items seat.point (lines_left script seat) k.none k.reads so)
+apart_at script c t e actor k found at = grind (arith, answered_past, stands_past)
 
 still_under_way : (script : ScriptData) (c : Carried) (e : Event) → Facts script c → (s key : ℕ) → IsNotOf s e → ReadsKey c.played.state s key → ReadsKey (step_of script c.played e).state s key
 still_under_way script c e k s key not reads = still_reads c.played.state c.played.items s key k.reached.stands reads e (fate_of script c.played e) not
 
 -- a stage's
 apart_staged : (script : ScriptData) (c : Carried) (t : Turn) (e : Event) (actor : Actor) → Facts script c → StageTurn script c e → ((step : Step) (seat : Seat) → moved script t step seat ≡ seat) → Apart script c t e actor
-apart_staged script c t e actor k staged stays = record {
-  none = plain_not actor (step_of script c.played e).items (events_plain c.played.state e (fate_of script c.played e) staged.opens_none);
-  reads = λ s key is reads. still_under_way script c e k s key (staged.of_none s) reads;
-  stays = λ seat same. stays (step_of script c.played e) seat;
-}
-
--- a line asks the node that it names, or the one at which its actor's share is aimed, which has taken the record, or the first
-aimed_by : (h : List Item) (aim : ℕ) (has : Bool) → has_take h aim ≡ has → asks_some h target.Master (cond has aim 0)
-aimed_by h aim true has = inr has
-aimed_by h aim false none = inl refl
-
-may_ask : (script : ScriptData) (c : Carried) (aim : ℕ) (to : Target) → asks_some c.played.items to (target_node (aimed_clocks script c aim) to)
-may_ask script c aim (target.Node node) = refl
-may_ask script c aim target.Master = aimed_by c.played.items aim (has_take c.played.items aim) refl
+apart_staged script c t e actor k staged stays = grind (arith, plain_not, events_plain, still_reads)
 
 -- another actor's
 -- the line that makes it is one of the system
 pub own_fits : (script : ScriptData) (c : Carried) (who : Actor) (aim : ℕ) (e : Event) → AreLinesOf script.setup script.lines → Facts script c → (own : OwnTurn script c who aim e) → OwnLine who (aimed_clocks script c aim) c.played.state c.played.items own.line
-own_fits script c who aim e of_script k own =
-    let fits : ActorFits script.setup own.line.actor × VerbFits script.setup own.line.verb = present_fits script own.seat own.line of_script own.present in
-    record {
-      stands = k.reached.stands;
-      fit = k.fit;
-      in_range = subst (λ (setup : SetupNumbers). ActorFits setup own.line.actor) (sym k.reached.setup) fits.0;
-      asks = subst (λ (setup : SetupNumbers). VerbFits setup own.line.verb) (sym k.reached.setup) fits.1;
-      master = some_fits c.played.state.setup.nodes c.played.items (aimed_node c.played.items aim) k.takes (may_ask script c aim target.Master);
-      may = may_ask script c aim;
-      same = own.own;
-    }
+own_fits script c who aim e of_script k own = grind (arith, present_fits, some_fits)
 
 others_not : (script : ScriptData) (c : Carried) (who : Actor) (aim : ℕ) (actor : Actor) (e : Event) → (own : OwnTurn script c who aim e) → OwnLine who (aimed_clocks script c aim) c.played.state c.played.items own.line → (own.line.actor ≡ actor → ⊥) → IsNextOf (aimed_clocks script c aim) own.line.actor own.line.verb own.seat.point (view_of c.played.state own.line.actor) e → AllNot actor (step_of script c.played e).items
 others_not script c who aim actor e own k other (inl is) = any_not actor (aimed_clocks script c aim) c.played.state c.played.items own.line own.seat.point e (fate_of script c.played e) k.stands k.fit k.in_range k.asks k.master (λ opening same. other same) is
@@ -151,10 +125,7 @@ so_far_turned script c t playable of_script k = record { facts = facts_turned sc
 
 -- once the lines with nothing to do are passed at first
 pub so_far_passed : (script : ScriptData) (c : Carried) → Facts script (all_passed script c) → ((actor : Actor) → IsAt script c actor (seat_of c.seats actor)) → SoFar script (all_passed script c)
-so_far_passed script c facts at = record {
-  facts = facts;
-  at = λ actor. subst (λ (seat : Option Seat). IsAt script (all_passed script c) actor seat) (sym (passed_seat script c actor)) (passed_at script c actor (seat_of c.seats actor) (at actor));
-}
+so_far_passed script c facts at = grind (arith, passed_seat, passed_at)
 
 pub so_far_all : (script : ScriptData) → IsPlayable script 0 script.lines → AreLinesOf script.setup script.lines → (turns : List Turn) (c : Carried) → SoFar script c → SoFar script (fold (turned script) c turns)
 so_far_all script playable of_script [] c k = k

@@ -1,12 +1,13 @@
 -- For grant_laws too.
 -- A session whose transaction is open, or that is to place its commit, has no request in flight. So an event
 -- that is not its own leaves its client as it was, and a read under way goes on.
+use Rattle.std.proofs.Common.{arith}
 use Rattle.turn_rules.proofs.Names.{◌≡◌, ◌⊎◌, ℕ, zero, suc, false, List, [], ◌∷◌, Option, Some, None, inl, inr, refl}
 use Rattle.turn_rules.proofs.Names.{sym, ◌∙◌, ap, subst, slice_get, slice_set, slice_index_or, eqb_tells, Fate, Item}
-use Rattle.turn_rules.proofs.Names.{SessionState, Held, Request, Begin, Commit, InstanceEntry, held_of, stamps_of_held}
+use Rattle.turn_rules.proofs.Names.{SessionState, Held, Request, InstanceEntry, held_of}
 use Rattle.turn_rules.proofs.Names.{Event, Client, State, Step, with_reading, at_client, at_both, stepped, held_at}
-use Rattle.turn_rules.proofs.Names.{accept_request, accept_on, answer_request, answer_on, crashed_client}
-use Rattle.turn_rules.proofs.Names.{crashed_clients, crash_on, decide_request, decide_on, leaves_parts}
+use Rattle.turn_rules.proofs.Names.{accept_on, answer_on, crashed_client}
+use Rattle.turn_rules.proofs.Names.{crashed_clients, crash_on, decide_on, leaves_parts}
 use Rattle.turn_rules.proofs.Names.{ReachedInvariant, InstanceAt, ClientAt, set_found, set_other, one_client, held_by}
 use Rattle.turn_rules.proofs.Names.{ReadsKey}
 use Rattle.system_parts.specs.declared.session.State.TheVariants as phase
@@ -20,14 +21,7 @@ abbrev pub IsUnasked : SessionState → Type 0
 IsUnasked state = (state ≡ phase.Open) ⊎ (state ≡ phase.Placing)
 
 waits_not : (request : Request) (c : Client) → IsUnasked c.entry.state → WaitsFor request c → ⊥
-waits_not (Begin session) c (inl is) (inl gone) = let clash : phase.Open ≡ phase.Gone = sym is ∙ gone in cc
-waits_not (Begin session) c (inl is) (inr asking) = let clash : phase.Open ≡ phase.Asking = sym is ∙ asking in cc
-waits_not (Begin session) c (inr is) (inl gone) = let clash : phase.Placing ≡ phase.Gone = sym is ∙ gone in cc
-waits_not (Begin session) c (inr is) (inr asking) = let clash : phase.Placing ≡ phase.Asking = sym is ∙ asking in cc
-waits_not (Commit session start keys) c (inl is) (inl gone) = let clash : phase.Open ≡ phase.Gone = sym is ∙ gone in cc
-waits_not (Commit session start keys) c (inl is) (inr (committing, start_is)) = let clash : phase.Open ≡ phase.Committing = sym is ∙ committing in cc
-waits_not (Commit session start keys) c (inr is) (inl gone) = let clash : phase.Placing ≡ phase.Gone = sym is ∙ gone in cc
-waits_not (Commit session start keys) c (inr is) (inr (committing, start_is)) = let clash : phase.Placing ≡ phase.Committing = sym is ∙ committing in cc
+waits_not request c h h1 = grind arith
 
 none_by : (w : State) (h : List Item) (s : ℕ) (c : Client) → ReachedInvariant w h → ClientAt w.clients s c → IsUnasked c.entry.state → (node : ℕ) (i : InstanceEntry) → InstanceAt w.nodes node i → (held : Option Held) → held_of i s ≡ held → held ≡ None
 none_by w h s c stands at is node i there None has = refl
@@ -54,20 +48,16 @@ abbrev NoneAt : ℕ → Option InstanceEntry → Type 0
 NoneAt s post = held_at post s ≡ None
 
 none_at : (w : State) (h : List Item) (s : ℕ) (c : Client) → ReachedInvariant w h → ClientAt w.clients s c → IsUnasked c.entry.state → (node : ℕ) (post : Option InstanceEntry) → slice_get w.nodes node ≡ Some post → NoneAt s post
-none_at w h s c stands at is node None there = refl
-none_at w h s c stands at is node (Some i) there = none_held w h s c stands at is node i there
+none_at w h s c stands at is node post there = grind (arith, none_held)
 
 accept_same : (node s reading : ℕ) (post : Option InstanceEntry) (c : Client) → NoneAt s post → (accept_on node s reading post c).parts.1 ≡ c
-accept_same node s reading None c none = refl
-accept_same node s reading (Some i) c none = ap (λ (held : Option Held). (accept_request node s reading i c held).parts.1) none
+accept_same node s reading post c none = grind arith
 
 decide_same : (node s : ℕ) (post : Option InstanceEntry) (c : Client) → NoneAt s post → (decide_on node s post c).parts.1 ≡ c
-decide_same node s None c none = refl
-decide_same node s (Some i) c none = ap (λ (held : Option Held). (decide_request node s i c held).parts.1) none
+decide_same node s post c none = grind arith
 
 answer_same : (node s : ℕ) (post : Option InstanceEntry) (c : Client) → NoneAt s post → (answer_on node s post c).parts.1 ≡ c
-answer_same node s None c none = refl
-answer_same node s (Some i) c none = ap (λ (held : Option Held). (answer_request node s i c (stamps_of_held held)).parts.1) none
+answer_same node s post c none = grind arith
 
 -- the served client, of this session or another
 serve_by : (w : State) (s t : ℕ) (c : Client) (f : Option InstanceEntry → Client → Step) (made : Option InstanceEntry → Client → Client) → ClientAt w.clients s c → (node : ℕ) → ((post : Option InstanceEntry) (d : Client) → (f post d).state.clients ≡ slice_set w.clients t (made post d)) → ((post : Option InstanceEntry) → slice_get w.nodes node ≡ Some post → t ≡ s → made post c ≡ c) → Same w s (at_both w (slice_get w.nodes node) (slice_get w.clients t) f)
@@ -95,8 +85,7 @@ crashed_same (held ∷ others) (c ∷ cs) zero none = ap (λ (x : Option Held). 
 crashed_same (held ∷ others) (c ∷ cs) (suc s) none = crashed_same others cs s none
 
 crash_same : (w : State) (s : ℕ) (node : ℕ) (post : Option InstanceEntry) → NoneAt s post → slice_get (crash_on node post w.clients).parts.1 s ≡ slice_get w.clients s
-crash_same w s node None none = refl
-crash_same w s node (Some i) none = crashed_same i.requests w.clients s none
+crash_same w s node post none = grind (arith, crashed_same)
 
 -- ---- each event that is not the session's own
 abbrev pub IsNotOf : ℕ → Event → Type 0

@@ -1,10 +1,11 @@
 -- Turns keep to the script's plan from the first on, and whole turns make the history that it plans.
-use Rattle.turn_rules.proofs.Names.{◌≡◌, ℕ, Bool, true, false, cond, List, [], ◌∷◌, ◌++◌, Option, Some, None, refl, sym}
-use Rattle.turn_rules.proofs.Names.{◌∙◌, ap, subst, filter, All, append-nil, AreInRange, Actor, Clock, Node, Session}
+use Rattle.std.proofs.Common.{arith}
+use Rattle.turn_rules.proofs.Names.{◌≡◌, ℕ, Bool, true, false, cond, List, [], ◌∷◌, Option, None, refl, sym}
+use Rattle.turn_rules.proofs.Names.{◌∙◌, ap, filter, append-nil, AreInRange, Actor, Clock, Node, Session}
 use Rattle.turn_rules.proofs.Names.{Janitor, opening, Line, ScriptData, same_actor, tick_by, with_tick, ticks_in}
-use Rattle.turn_rules.proofs.Names.{opening_reached, PlannedAtFirst, PlannedInTheEnd, PlannedSoFar, Seat, first_seat}
-use Rattle.turn_rules.proofs.Names.{lines_of, lines_left, Carried, seat_of, all_passed, at_first, carried, unanswered}
-use Rattle.turn_rules.proofs.Names.{ticks_ahead, IsPlannedSoFar, TurnsArePlannedSoFar, TurnsArePlanned}
+use Rattle.turn_rules.proofs.Names.{opening_reached, PlannedAtFirst, PlannedInTheEnd, Seat, first_seat}
+use Rattle.turn_rules.proofs.Names.{lines_of, seat_of, all_passed, at_first}
+use Rattle.turn_rules.proofs.Names.{ticks_ahead, TurnsArePlannedSoFar, TurnsArePlanned}
 use Rattle.cause_laws.specs.ShownInvariant.{ExplainedInvariant}
 use Rattle.turn_rules.proofs.Answered.{none_unanswered, whole_seat}
 use Rattle.turn_rules.proofs.Facts.{facts_at_first}
@@ -40,17 +41,10 @@ plan_at_first first script in_range tells =
     }
 
 -- ---- in the end
-none_ahead : (script : ScriptData) (c : Carried) (found : Option Seat) → All (λ (s : Seat). lines_left script s ≡ []) c.seats → seat_of c.seats Clock ≡ found → ticks_ahead script found ≡ []
-unfolding ticks_in
-none_ahead script c None whole sits = refl
-none_ahead script c (Some seat) whole sits = ap (λ (lines : List Line). ticks_in (unanswered seat.point lines)) (whole_seat script c Clock seat whole sits) ∙ ap (λ (lines : List Line). ticks_in lines) (none_unanswered seat.point)
-
 pub turns_are_planned_so_far : PlanLaws → PlannedAtFirst → ((script : ScriptData) → AreInRange script.setup → ExplainedInvariant (opening script.setup) []) → TurnsArePlannedSoFar
 turns_are_planned_so_far laws first tells script turns in_range playable = (plan_all laws script playable turns (all_passed script (at_first script)) (plan_at_first first script in_range (tells script in_range))).so_far
 
 pub turns_are_planned : PlannedInTheEnd → TurnsArePlannedSoFar → TurnsArePlanned
+unfolding ticks_in
 turns_are_planned ended so_far script turns in_range playable whole =
-    let c : Carried = carried script turns in
-    let k : IsPlannedSoFar script c = so_far script turns in_range playable in
-    let all : k.ticks ≡ ticks_in script.lines = sym (append-nil k.ticks) ∙ ap (λ (rest : List ℕ). k.ticks ++ rest) (sym (none_ahead script c (seat_of c.seats Clock) whole refl)) ∙ k.ahead in
-    ended script c.played (subst (λ (ticks : List ℕ). PlannedSoFar script ticks c.played) all k.planned)
+    grind (arith, append-nil, whole_seat, none_unanswered)
