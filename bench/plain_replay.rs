@@ -35,7 +35,7 @@ enum Verb { Tick(u64), Write(u16, Text), Read(u16), Fetch(u16), Does(fn(&mut Sys
 
 struct Line { number: usize, of: Of, verb: Verb }
 
-#[derive(Clone, Copy, PartialEq)]
+#[derive(Clone, Copy)]
 enum Kind {
     Tick, Take, Renew, Extend, Crash, AskBegin, AskCommit, Accept, DrawStart, DrawCommit, Begin, Write, ReadNone, Read, Placed, Committed,
     Fetch, Absent, Bare, Shadow, Remove, Erase, Conflict, NoStamp,
@@ -346,7 +346,7 @@ impl System {
                 self.tell_plain(Kind::Committed, of, start, commit)
             }
             State::Drawn(false, start) => {
-                let is_below = |it: &Session| it.node == of.node && matches!(it.state, State::Drawn(true, commit) if commit < start);
+                let is_below = |it: &Session| matches!(it.state, State::Drawn(true, commit) if commit < start) && it.node == of.node;
                 if self.sessions.iter().any(is_below) {
                     return Err("not yet");
                 }
@@ -461,17 +461,19 @@ impl System {
             Verb::Does(event) => event(self, line.of),
         }
     }
-
-    fn count(&self, kind: Kind) -> usize { self.items.iter().filter(|it| it.kind == kind).count() }
 }
 
 trait Part { fn put(&self, out: &mut Vec<u8>); }
 impl Part for &str { fn put(&self, out: &mut Vec<u8>) { out.extend_from_slice(self.as_bytes()) } }
 impl Part for &[u8] { fn put(&self, out: &mut Vec<u8>) { out.extend_from_slice(self) } }
+impl Part for u8 { fn put(&self, out: &mut Vec<u8>) { out.push(*self) } }
 impl Part for u64 {
     fn put(&self, out: &mut Vec<u8>) {
+        if *self < 10 {
+            return out.push(b'0' + *self as u8);
+        }
         let (mut digits, mut at, mut rest) = ([0; 20], 20, *self);
-        while at == 20 || rest > 0 {
+        while rest > 0 {
             at -= 1;
             digits[at] = b'0' + (rest % 10) as u8;
             rest /= 10;
@@ -481,7 +483,7 @@ impl Part for u64 {
 }
 
 fn print_text(out: &mut Vec<u8>, item: &Item, script: &Script) {
-    let node = &[b'a' + item.of.node][..];
+    let node = b'a' + item.of.node;
     let (s, k, a, b, text) = (item.of.session as u64, item.key as u64, item.a, item.b, item.value.of(&script.bytes));
     match item.kind {
         Kind::Tick => put!(out, "tick ", a, "\n"),
@@ -515,7 +517,7 @@ fn print_text(out: &mut Vec<u8>, item: &Item, script: &Script) {
 }
 
 fn print_json(out: &mut Vec<u8>, item: &Item, script: &Script) {
-    let node = &[b'a' + item.of.node][..];
+    let node = b'a' + item.of.node;
     let (s, k, a, b, text) = (item.of.session as u64, item.key as u64, item.a, item.b, item.value.of(&script.bytes));
     match item.kind {
         Kind::Tick => put!(out, r#"{"kind":"tick","to":"#, a),
@@ -559,8 +561,16 @@ fn print_json(out: &mut Vec<u8>, item: &Item, script: &Script) {
 }
 
 fn summarize(system: &System) {
-    let (begun, committed, conflict, other) =
-        (system.count(Kind::Begin), system.count(Kind::Committed), system.count(Kind::Conflict), system.count(Kind::NoStamp));
+    let (mut begun, mut committed, mut conflict, mut other) = (0, 0, 0, 0);
+    for item in &system.items {
+        match item.kind {
+            Kind::Begin => begun += 1,
+            Kind::Committed => committed += 1,
+            Kind::Conflict => conflict += 1,
+            Kind::NoStamp => other += 1,
+            _ => {}
+        }
+    }
     println!("transactions={begun} committed={committed} conflict={conflict} hidden=0 other={other} items={}", system.items.len());
 }
 
