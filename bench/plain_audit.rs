@@ -10,6 +10,17 @@ use std::{array, env, process, str};
 const BYTES: usize = 16 * 1024 * 1024;
 const KEYS: usize = 4096;
 const SESSIONS: usize = 16;
+/// The bytes that stand for themselves in a text of JSON, but for those of several bytes.
+static PLAIN: [bool; 256] = plain_bytes();
+
+const fn plain_bytes() -> [bool; 256] {
+    let (mut plain, mut byte) = ([false; 256], b' ');
+    while byte <= b'~' {
+        plain[byte as usize] = byte != b'"' && byte != b'\\';
+        byte += 1;
+    }
+    plain
+}
 
 /// What is left of a text.
 #[derive(Clone, Copy)]
@@ -35,14 +46,14 @@ impl<'a> Words<'a> {
     }
 
     fn number(&mut self) -> Option<u64> {
-        let (mut sum, mut len) = (0u64, 0);
-        while let Some(digit) = self.0.get(len).map(|it| it.wrapping_sub(b'0') as u64).filter(|it| *it < 10) {
-            sum = if len < 19 { 10 * sum + digit } else { sum.checked_mul(10)?.checked_add(digit)? };
-            len += 1;
+        let digits = |text: &'a [u8]| text.iter().map(|it| it.wrapping_sub(b'0') as u64).take_while(|it| *it < 10);
+        let (sum, len) = digits(self.0).fold((0u64, 0), |(sum, len), it| (sum.wrapping_mul(10).wrapping_add(it), len + 1));
+        let (text, plain) = (self.0, len == 1 || (len > 1 && self.0[0] != b'0'));
+        self.0 = &text[len..];
+        match len {
+            0..=19 => plain.then_some(sum),
+            _ => digits(text).try_fold(0u64, |sum, it| sum.checked_mul(10)?.checked_add(it)).filter(|_| plain),
         }
-        let plain = len == 1 || (len > 1 && self.0[0] != b'0');
-        self.0 = &self.0[len..];
-        plain.then_some(sum)
     }
 
     fn field(&mut self, before: &[u8]) -> Option<u64> { self.text(before).and_then(|()| self.number()) }
@@ -115,12 +126,16 @@ impl<'a> Words<'a> {
         Some(())
     }
 
-    fn blanks(&mut self) { self.run(|it| matches!(it, b' ' | b'\t' | b'\r')); }
+    fn blanks(&mut self) {
+        while let Some(b'\t' | b'\r' | b' ') = self.0.first().filter(|it| **it <= b' ') {
+            self.0 = &self.0[1..];
+        }
+    }
 
     /// A text of JSON. One with an escape is kept until the program ends.
     fn quoted(&mut self) -> Option<&'a [u8]> {
         self.text(b"\"")?;
-        let plain = self.run(|it| matches!(it, b' '..=b'~') && it != b'"' && it != b'\\');
+        let plain = self.run(|it| PLAIN[it as usize]);
         if self.text(b"\"").is_some() { Some(plain) } else { self.unescaped(plain) }
     }
 
@@ -167,26 +182,26 @@ const FIELDS: usize = Field::Value as usize + 1;
 
 fn field_of(name: &[u8]) -> Option<Field> {
     Some(match name {
-        b"actor" => Field::Actor,
-        b"ceiling" => Field::Ceiling,
-        b"commit" => Field::Commit,
-        b"epoch" => Field::Epoch,
-        b"from" => Field::From,
-        b"how" => Field::How,
-        b"key" => Field::Key,
-        b"kind" => Field::Kind,
-        b"name" => Field::Name,
-        b"node" => Field::Node,
-        b"note" => Field::Note,
-        b"reading" => Field::Reading,
-        b"session" => Field::Session,
-        b"start" => Field::Start,
-        b"store" => Field::Store,
-        b"term" => Field::Term,
-        b"text" => Field::Text,
-        b"to" => Field::To,
-        b"until" => Field::Until,
-        b"value" => Field::Value,
+        [b'a', ..] if name == b"actor" => Field::Actor,
+        [b'c', b'e', ..] if name == b"ceiling" => Field::Ceiling,
+        [b'c', ..] if name == b"commit" => Field::Commit,
+        [b'e', ..] if name == b"epoch" => Field::Epoch,
+        [b'f', ..] if name == b"from" => Field::From,
+        [b'h', ..] if name == b"how" => Field::How,
+        [b'k', b'e', ..] if name == b"key" => Field::Key,
+        [b'k', ..] if name == b"kind" => Field::Kind,
+        [b'n', b'a', ..] if name == b"name" => Field::Name,
+        [b'n', b'o', b'd', ..] if name == b"node" => Field::Node,
+        [b'n', ..] if name == b"note" => Field::Note,
+        [b'r', ..] if name == b"reading" => Field::Reading,
+        [b's', b'e', ..] if name == b"session" => Field::Session,
+        [b's', b't', b'a', ..] if name == b"start" => Field::Start,
+        [b's', ..] if name == b"store" => Field::Store,
+        [b't', b'e', b'r', ..] if name == b"term" => Field::Term,
+        [b't', b'e', ..] if name == b"text" => Field::Text,
+        [b't', ..] if name == b"to" => Field::To,
+        [b'u', ..] if name == b"until" => Field::Until,
+        [b'v', ..] if name == b"value" => Field::Value,
         _ => return None,
     })
 }
@@ -208,6 +223,16 @@ trait Line<'a> {
 
     /// Whether nothing is left.
     fn is_over(&self) -> bool;
+
+    fn start(&mut self) -> Option<u64> { stamp(self.number(Field::Start, b" start=")?) }
+    fn commit(&mut self) -> Option<u64> { stamp(self.number(Field::Commit, b" commit=")?) }
+    fn term(&mut self) -> Option<u64> { self.number(Field::Term, b" term=").filter(|it| *it > 0) }
+
+    /// The session that asked, and the node.
+    fn asked(&mut self) -> Option<u64> {
+        let session = self.words(Field::Session, Words::session)?;
+        self.words(Field::Node, Words::node).map(|()| session)
+    }
 }
 
 impl<'a> Line<'a> for Words<'a> {
@@ -281,7 +306,6 @@ type Answer<'a> = Option<(u64, &'a [u8])>;
 /// What an item tells the judge.
 enum Told<'a> { Ask(u64), Begin(u64, u64), Write(u64, u64, &'a [u8]), Read(u64, u64, Answer<'a>), Placed(u64, u64), Listed(u64), Else }
 
-#[inline]
 fn item_of<'a, L: Line<'a>>(line: &mut L) -> Option<Told<'a>> {
     use Field::*;
     let told = match line.kind()? {
@@ -289,77 +313,75 @@ fn item_of<'a, L: Line<'a>>(line: &mut L) -> Option<Told<'a>> {
             line.words(Actor, Words::actor)?;
             line.words(Text, Words::step)?.map_or(Told::Else, Told::Listed)
         }
-        b"ask-begin" => {
-            let session = line.words(Session, Words::session)?;
-            line.words(Node, Words::node)?;
-            Told::Ask(session)
-        }
-        b"begin" => Told::Begin(line.words(Session, Words::session)?, stamp(line.number(Start, b" start=")?)?),
+        b"ask-begin" => Told::Ask(line.asked()?),
+        b"begin" => Told::Begin(line.words(Session, Words::session)?, line.start()?),
         b"write" => {
             line.words(Session, Words::session)?;
-            Told::Write(stamp(line.number(Start, b" start=")?)?, line.words(Key, Words::key)?, line.words(Value, Words::value)?)
+            Told::Write(line.start()?, line.words(Key, Words::key)?, line.words(Value, Words::value)?)
         }
         b"read" => {
             line.words(Session, Words::session)?;
-            let (start, key) = (stamp(line.number(Start, b" start=")?)?, line.words(Key, Words::key)?);
+            let (start, key) = (line.start()?, line.words(Key, Words::key)?);
             let answer = match line.has(From, b" from=") {
                 true => Some((stamp(line.number(From, b" from=")?)?, line.words(Value, Words::value)?)),
                 false => line.says(b" none").map(|()| None)?,
             };
             Told::Read(start, key, answer)
         }
-        b"placed" => Told::Placed(stamp(line.number(Start, b" start=")?)?, stamp(line.number(Commit, b" commit=")?)?),
-        kind => silent(kind, line)?,
+        b"placed" => Told::Placed(line.start()?, line.commit()?),
+        kind => {
+            silent(kind, line)?;
+            Told::Else
+        }
     };
     line.is_over().then_some(told)
 }
 
 /// An item that tells the judge nothing.
-fn silent<'a, L: Line<'a>>(kind: &[u8], line: &mut L) -> Option<Told<'a>> {
+fn silent<'a, L: Line<'a>>(kind: &[u8], line: &mut L) -> Option<()> {
     use Field::*;
-    let term = |line: &mut L| line.number(Term, b" term=").filter(|it| *it > 0);
     match kind {
-        b"accept" | b"draw" | b"ask-commit" | b"committed" | b"end" | b"vanish" => _ = line.words(Session, Words::session)?,
-        b"note" | b"mark" | b"refused" | b"fault" => line.words(Actor, Words::actor)?,
-        _ => {}
-    }
-    match kind {
-        b"accept" | b"draw" | b"ask-commit" | b"take" | b"renew" | b"extend" | b"crash" => line.words(Node, Words::node)?,
-        _ => {}
-    }
-    match kind {
-        b"accept" => _ = (term(line)?, line.number(Reading, b" reading=")?),
+        b"accept" => _ = (line.asked()?, line.term()?, line.number(Reading, b" reading=")?),
         b"draw" => {
-            (term(line)?, stamp(line.number(Start, b" start=")?)?);
+            (line.asked()?, line.term()?, line.start()?);
             if line.has(Commit, b" commit=") {
-                stamp(line.number(Commit, b" commit=")?)?;
+                line.commit()?;
             }
         }
-        b"ask-commit" | b"mark" => _ = stamp(line.number(Start, b" start=")?)?,
-        b"committed" => _ = (stamp(line.number(Start, b" start=")?)?, stamp(line.number(Commit, b" commit=")?)?),
-        b"end" => {
-            stamp(line.number(Start, b" start=")?)?;
-            line.words(How, |it| it.one_of(&[b"read-only", b"aborted", b"dead"]))?
-        }
-        b"vanish" => {}
+        b"ask-commit" => _ = (line.asked()?, line.start()?),
+        b"committed" => _ = (line.words(Session, Words::session)?, line.start()?, line.commit()?),
         b"tick" => _ = line.number(To, b" ")?,
         b"take" => {
-            (line.number(Reading, b" reading=")?, term(line)?);
+            (line.words(Node, Words::node)?, line.number(Reading, b" reading=")?, line.term()?);
             (line.number(Epoch, b" epoch=")?, line.number(Until, b" until=")?, line.number(Ceiling, b" ceiling=")?);
         }
-        b"renew" => _ = (line.number(Reading, b" reading=")?, term(line)?, line.number(Until, b" until=")?),
-        b"extend" => _ = (term(line)?, line.number(Ceiling, b" ceiling=")?),
-        b"crash" => _ = term(line)?,
-        b"refused" => line.words(Text, Words::cause)?,
-        b"fault" => line.words(Store, |it| it.one_of(&[b"cells", b"table", b"master"]))?,
-        b"note" => match line.words(Note, |it| Some(it.word()))? {
-            b"post" | b"await" => line.words(Name, Words::name)?,
-            b"hold" | b"free" => line.words(Name, |it| it.one_of(&[b"request", b"persist", b"reply"]))?,
-            _ => return None,
-        },
+        b"renew" => {
+            (line.words(Node, Words::node)?, line.number(Reading, b" reading=")?, line.term()?, line.number(Until, b" until=")?);
+        }
+        b"extend" => _ = (line.words(Node, Words::node)?, line.term()?, line.number(Ceiling, b" ceiling=")?),
+        b"crash" => _ = (line.words(Node, Words::node)?, line.term()?),
+        b"refused" => _ = (line.words(Actor, Words::actor)?, line.words(Text, Words::cause)?),
+        b"mark" => _ = (line.words(Actor, Words::actor)?, line.start()?),
+        b"end" => {
+            (line.words(Session, Words::session)?, line.start()?);
+            line.words(How, |it| it.one_of(&[b"read-only", b"aborted", b"dead"]))?
+        }
+        b"vanish" => _ = line.words(Session, Words::session)?,
+        b"fault" => {
+            line.words(Actor, Words::actor)?;
+            line.words(Store, |it| it.one_of(&[b"cells", b"table", b"master"]))?
+        }
+        b"note" => {
+            line.words(Actor, Words::actor)?;
+            match line.words(Note, |it| Some(it.word()))? {
+                b"post" | b"await" => line.words(Name, Words::name)?,
+                b"hold" | b"free" => line.words(Name, |it| it.one_of(&[b"request", b"persist", b"reply"]))?,
+                _ => return None,
+            }
+        }
         _ => return None,
     }
-    Some(Told::Else)
+    Some(())
 }
 
 /// Spreads a number over all bits.
