@@ -16,14 +16,17 @@ since a run beside others may take many times as long.
 With `--instructions` one table of instructions an item is printed in their place, counted by valgrind's callgrind over an eighth of the
 lines. It is the same on a busy machine, and from one run to the next but for some thousands in all.
 
-With `--plain` one table is printed in their place too: replays beside those of bench/plain_replay.rs, a plain program that prints the
-same, built by `rustc -O`. It has user time, and where valgrind is installed instructions a line, over an eighth of the lines.
+With `--plain` one table is printed in their place too: replays and a storm beside those of bench/plain_replay.rs, and audits beside
+those of bench/plain_audit.rs, plain programs that print the same, built by `rustc -O`. It has user time, and where valgrind is installed
+instructions a line of the script, or an item of the history, over an eighth of the lines.
 """
 import argparse, contextlib, filecmp, os, random, re, shutil, statistics, subprocess, sys, tempfile, time
 from dataclasses import dataclass
 
 ROOT = os.path.dirname(os.path.dirname(os.path.abspath(__file__)))
 LINES = 131_072
+# the most transactions that a storm has
+STORM = 20_000
 # the longest history that is read back, in bytes
 READ_BACK = 16 * 1024 * 1024
 WIDE = ["range 1000000000", "lease 1000000"]
@@ -79,8 +82,8 @@ def ran(words, given, taken, first=None):
 
 
 def instructions(words, given, taken):
-    """How many instructions the words take, with standard input from a file and standard output to one."""
-    with open(given, "rb") as source, open(taken, "wb") as sink:
+    """How many instructions the words take, with standard input from a file (None: nothing) and standard output to one."""
+    with open(given or os.devnull, "rb") as source, open(taken, "wb") as sink:
         said = subprocess.run(["valgrind", "--tool=callgrind", "--callgrind-out-file=/dev/null", *words], stdin=source, stdout=sink,
                               stderr=subprocess.PIPE, text=True)
     found = re.search(r"Collected : (\d+)", said.stderr)
@@ -260,29 +263,56 @@ def counted(program, work, loads):
         print(f"{name:28} {items:9} " + " ".join(f"{it / items:{wide}.0f}" for it, wide in zip(took, (8, 8, 8, 8, 10))), flush=True)
 
 
+def built_plain(work, name):
+    """A plain program of this folder, built."""
+    made = os.path.join(work, name)
+    subprocess.run(["rustc", "-O", os.path.join(ROOT, "bench", f"{name}.rs"), "-o", made], check=True)
+    return made
+
+
+def row_beside_plain(programs, work, runs, load, words, given, few, count):
+    """One row: what the words cost the first program, and how often as much as the second, which has to print the same. Time is over one
+    file, and instructions are over another, each of so many of its lines or items."""
+    taken = [os.path.join(work, it) for it in ("taken", "taken by plain")]
+    costs = [[], []]
+    for _ in range(runs):
+        for program, to, those in zip(programs, taken, costs):
+            those.append(ran([program, *words], given, to))
+    if not filecmp.cmp(*taken, shallow=False):
+        sys.exit(f"bench: {programs[1]} prints something else than {programs[0]} at {words} of {load}")
+    time, of = median(costs[0]), median(costs[1]) or 1e-6
+    line = f"{load:28} {' '.join(words):>15} {time:8.3f} {time / of:8.2f}"
+    if shutil.which("valgrind"):
+        most, least = (instructions([program, *words], few, to) for program, to in zip(programs, taken))
+        line += f" {most / count:8.0f} {most / least:8.2f}"
+    print(line, flush=True)
+
+
 def beside_plain(program, work, runs, loads):
-    """What replays cost, and how often as much as a plain program's that prints the same."""
-    plain = os.path.join(work, "plain_replay")
-    subprocess.run(["rustc", "-O", os.path.join(ROOT, "bench/plain_replay.rs"), "-o", plain], check=True)
-    print(f"{'beside a plain program':28} {'words':>15} {'time':>8} {'of plain':>8} {'a line':>8} {'of plain':>8}")
+    """What replays, audits and a storm cost, and how often as much as a plain program's that prints the same."""
+    replays, audits = ((program, built_plain(work, name)) for name in ("plain_replay", "plain_audit"))
+    print(f"{'beside a plain program':28} {'words':>15} {'time':>8} {'of plain':>8} {'one line':>8} {'of plain':>8}")
     for name, script in loads:
-        given, few, text, other = (os.path.join(work, it) for it in ("script", "few", "text", "other"))
+        given, few = os.path.join(work, "script"), os.path.join(work, "few")
         for file, lines in ((given, script), (few, script[:len(script) // 8])):
             with open(file, "w") as it:
                 it.write("\n".join(lines) + "\n")
-        for words in (["replay"], ["replay", "summary"], ["replay", "json"]):
-            costs = {it: [] for it in (program, plain)}
-            for _ in range(runs):
-                for it, taken in ((program, text), (plain, other)):
-                    costs[it].append(ran([it, *words], given, taken))
-            if not filecmp.cmp(text, other, shallow=False):
-                sys.exit(f"bench: {plain} prints something else than {program} at {words} of {name}")
-            time, of = median(costs[program]), median(costs[plain]) or 1e-6
-            line = f"{name:28} {' '.join(words):>15} {time:8.3f} {time / of:8.2f}"
-            if shutil.which("valgrind"):
-                count, least = (instructions([it, *words], few, other) for it in (program, plain))
-                line += f" {count / (len(script) // 8):8.0f} {count / least:8.2f}"
-            print(line, flush=True)
+        for form in ([], ["summary"], ["json"]):
+            row_beside_plain(replays, work, runs, name, ["replay", *form], given, few, len(script) // 8)
+        for form, forms in ([], (["audit"], ["audit", "strict"])), (["json"], (["audit"],)):
+            whole, eighth = (os.path.join(work, it) for it in ("history", "history of few"))
+            for file, history in ((given, whole), (few, eighth)):
+                ran([program, "replay", *form], file, history)
+            with open(eighth, "rb") as it:
+                items = sum(1 for _ in it)
+            timed = whole if os.path.getsize(whole) <= READ_BACK else eighth
+            for words in forms:
+                row_beside_plain(audits, work, runs, f"{name}, {'json' if form else 'text'}", words, timed, eighth, items)
+    other = os.path.join(work, "other")
+    ran([program, "storm", str(STORM)], None, other)
+    with open(other) as it:
+        items = int(it.read().split("items=")[1])
+    row_beside_plain(replays, work, runs, "a storm, its items", ["storm", str(STORM)], None, None, items)
 
 
 def compactions(program, work, runs, loads):
@@ -384,7 +414,7 @@ def directly(program, work, runs, loads):
 
 
 def storms(program, work, runs):
-    for count in (10_000, 20_000):
+    for count in (STORM // 2, STORM):
         costs = [ran([program, "storm", str(count)], None, os.path.join(work, "other")) for _ in range(runs)]
         print(f"storm {count}: {median(costs):.3f} s of user time", flush=True)
 
@@ -598,7 +628,7 @@ def main():
     words.add_argument("--quick", action="store_true", help="an eighth of the lines, for a look")
     words.add_argument("--ordinary", action="store_true", help="replays and runs at ordinary priority alone, at rest and beside busy processes")
     words.add_argument("--instructions", action="store_true", help="instructions an item alone, counted by callgrind")
-    words.add_argument("--plain", action="store_true", help="replays beside those of a plain program alone")
+    words.add_argument("--plain", action="store_true", help="replays, audits and a storm beside plain programs alone")
     said = words.parse_args()
     if not os.access(said.program, os.X_OK):
         sys.exit(f"bench: {said.program} is not there: run `rt ci` first, or name one by --program")
