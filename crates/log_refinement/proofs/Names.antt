@@ -61,8 +61,7 @@ pub use Rattle.script_data.specs.declared.line.Target.{Target}
 pub use Rattle.script_data.specs.declared.line.Verb.{Verb}
 pub use Rattle.split_parts.specs.Parts.{node_for}
 pub use Rattle.split_parts.specs.declared.event.Event.{Event}
-unfoldable pub use Rattle.split_stores.specs.Logs.{ticks_of}
-pub use Rattle.split_stores.specs.Logs.{Logged, rises_above}
+pub use Rattle.split_stores.specs.Logs.{Logged, rises_above, ticks_of}
 unfoldable pub use Rattle.split_stores.specs.Merged.{entries_played}
 pub use Rattle.split_stores.specs.Merged.{IsReplayed, IsSettledAt, Settled, kept_items, played_with, replayed_items, timed_at, timed_in}
 pub use Rattle.split_stores.specs.Merging.{InTickOrder, logs_of}
