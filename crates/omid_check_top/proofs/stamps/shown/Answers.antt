@@ -1,8 +1,8 @@
 use Rattle.std.proofs.Common.{refl}
-use Rattle.omid_check_top.specs.Verdicts.{subject_of}
+use Rattle.omid_check_top.specs.Subject.{subject_of}
 use Rattle.omid_check_top.proofs.StampLemmas.{has_stamps}
 use Rattle.omid_check_top.proofs.stamps.shown.Goals as goal
 
 pub returns-in-Ok-clause-found : goal.returns-in-Ok-clause-found
 returns-in-Ok-clause-found c =
-    has_stamps c.args.level c.args.wanted (subject_of c.args.recording.now c.args.indexed.now.attempts.items c.args.indexed.now.trace c.args.indexed.now.times.items c.args.indexed.now.ranks.items) c.args.numbers.now 0 c.in-Ok.text.items c.requires.done c.requires.stamps c.in-Ok.ensures refl
+    has_stamps c.args.level c.args.wanted (subject_of c.args.recording.now c.args.indexed.now.attempts.items c.args.indexed.now.trace c.args.indexed.now.times.items c.args.indexed.now.ranks.items c.args.indexed.now.lists.items) c.args.numbers.now 0 c.in-Ok.text.items c.requires.done c.requires.stamps c.in-Ok.ensures refl

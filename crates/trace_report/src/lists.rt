@@ -1,0 +1,51 @@
+// How a wrong list is told.
+ghost use Rattle.std.specs.Prelude.{◌≡◌, ◌++◌, OnOk};
+ghost use Rattle.trace_report.specs.Lists.{beside_text, flaw_name, wrong_list_text};
+
+use crate::parts::{push_line, push_name};
+use list_ranks::{Flaw, WrongList};
+use stamp_base::NoMemory;
+use trace_index::Attempt;
+use trace_reading::{Recording, push_words};
+
+/// What the field calls what is wrong with a list.
+pub fn flaw_name(flaw: Flaw) -> &'static str
+    ensures { result.now ≡ flaw_name flaw }
+{
+    match flaw {
+        Flaw::Dirty => "dirty read (G1a)",
+        Flaw::Turned | Flaw::Split => "list out of order",
+        Flaw::Missing | Flaw::Cut => "list with a gap",
+        Flaw::Different => "incompatible order",
+    }
+}
+
+/// What the other transaction did at the key.
+fn beside_text(flaw: Flaw) -> &'static str
+    ensures { result.now ≡ beside_text flaw }
+{
+    match flaw {
+        Flaw::Dirty | Flaw::Turned | Flaw::Split | Flaw::Missing | Flaw::Cut => " append ",
+        Flaw::Different => " r ",
+    }
+}
+
+/// Adds a wrong list, by its line and that of what it is wrong beside. NoMemory where memory is refused.
+pub fn push_wrong_list(
+    text: &mut Vec<u8>,
+    recording: &Recording,
+    attempts: &[Attempt],
+    wrong: WrongList,
+) -> Result<(), NoMemory>
+    ensures { OnOk result (text.new.items ≡ text.old.items ++ wrong_list_text recording.now.names attempts.now wrong) }
+{
+    push_words(text, "  line ")?;
+    push_line(text, attempts, wrong.reader)?;
+    push_words(text, " r ")?;
+    push_name(text, recording, wrong.key)?;
+    push_words(text, " beside line ")?;
+    push_line(text, attempts, wrong.other)?;
+    push_words(text, beside_text(wrong.flaw))?;
+    push_name(text, recording, wrong.key)?;
+    push_words(text, "\n")
+}
