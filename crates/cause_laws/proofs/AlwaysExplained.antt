@@ -1,21 +1,12 @@
 -- For request_completion, cluster_core, command_semantics and others above too.
 -- What the history shows of the state is kept by every event; so every refusal is shown in each history.
-use Rattle.std.proofs.Common.{◌≡◌, List, [], ◌∷◌, ◌++◌, append_assoc, Option, sym, ◌∙◌, subst}
-use Rattle.std.proofs.lemmas.List.{append-nil}
-use Rattle.stamp_base.specs.SetupNumbers.{SetupNumbers, AreInRange}
-use Rattle.port_io.specs.declared.weather.Fate.{Fate}
-use Rattle.history_book.specs.declared.item.Item.{Item}
-use Rattle.system_parts.specs.Instance.{InstanceEntry}
-use Rattle.machine.specs.declared.event.Event.{Event}
-use Rattle.machine.specs.State.{State, opening}
-use Rattle.machine.specs.Machine.{Step, stepped, Move, state_after, items_after, history_after, reading_of, IsSteadyAt, AreSteady, Steady}
-use Rattle.machine.proofs.PartsKept.{leaves_parts, clients_stay}
-use Rattle.cause_rules.specs.Explained.{Shown, Explained}
-use Rattle.isolation_laws.specs.Sound.{ReachedInvariant}
-use Rattle.isolation_laws.proofs.AlwaysHolds.{dues, facts_stay, steady_stays, steady_now, stands_at_first, setup_after}
-use Rattle.cause_laws.specs.Requests.{AreAsked, AreFaulted, ArePutByNodes, AreOpenAsks}
-use Rattle.cause_laws.specs.Nodes.{AreTaken, AreVacant, AreShownStops, AreLasts}
-use Rattle.cause_laws.specs.ShownInvariant.{ShownInvariant, ExplainedInvariant}
+use Rattle.cause_laws.proofs.Names.{◌≡◌, List, [], ◌∷◌, ◌++◌, append_assoc, Option, sym, ◌∙◌, subst, append-nil}
+use Rattle.cause_laws.proofs.Names.{SetupNumbers, AreInRange, Fate, Item, InstanceEntry, Event, State, opening, Step}
+use Rattle.cause_laws.proofs.Names.{stepped, Move, state_after, items_after, history_after, reading_of, IsSteadyAt}
+use Rattle.cause_laws.proofs.Names.{AreSteady, Steady, leaves_parts, clients_stay, Shown, Explained, ReachedInvariant}
+use Rattle.cause_laws.proofs.Names.{dues, facts_stay, steady_stays, steady_now, stands_at_first, setup_after, AreAsked}
+use Rattle.cause_laws.proofs.Names.{AreFaulted, ArePutByNodes, AreOpenAsks, AreTaken, AreVacant, AreShownStops}
+use Rattle.cause_laws.proofs.Names.{AreLasts, ShownInvariant, ExplainedInvariant}
 use Rattle.cause_laws.proofs.NodeTransitions.{NodeTransitionOf, nodes_by, items_by}
 use Rattle.cause_laws.proofs.NodeTransitionsDone.{deed_of}
 use Rattle.cause_laws.proofs.AsksKept.{asked_kept, faulted_kept, put_kept}

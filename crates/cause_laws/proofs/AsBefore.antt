@@ -1,12 +1,7 @@
 -- No client is gone, or places a commit, that did not so before, but by its vanishing and by a commit that is handed to it.
-use Rattle.std.proofs.Common.{◌≡◌, ℕ, refl}
-use Rattle.system_parts.specs.declared.session.State.{State as Phase}
+use Rattle.cause_laws.proofs.Names.{◌≡◌, ℕ, refl, Phase, SessionEntry, ReadTurn, Asks, Answers, Client, client_begun}
+use Rattle.cause_laws.proofs.Names.{unless_gone, unless_gone_by, client_read}
 use Rattle.system_parts.specs.declared.session.State.TheVariants as phase
-use Rattle.system_parts.specs.SessionSteps.{SessionEntry}
-use Rattle.system_parts.specs.KeyRead.{ReadTurn, Asks, Answers}
-use Rattle.machine.specs.State.{Client}
-use Rattle.machine.specs.Clients.{client_begun, unless_gone, unless_gone_by}
-use Rattle.machine.specs.Events.Fetch.{client_read}
 
 abbrev pub IsGone : Client → Type 0
 IsGone c = c.entry.state ≡ phase.Gone

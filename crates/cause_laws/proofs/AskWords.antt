@@ -1,19 +1,11 @@
 -- What a history tells of a session's request after more items: items that tell nothing of it leave its words as they are,
 -- and make what stands since its ask and since its draw longer.
-use Rattle.std.proofs.Common.{◌≡◌, ℕ, ◌==◌, Bool, true, false, if◌then◌else◌, IsTrue, List, [], ◌∷◌, ◌++◌, None, Some, refl, ◌∙◌, ap}
-use Rattle.std.specs.Prelude.{All}
-use Rattle.std.specs.Option.{option_or}
-use Rattle.std.proofs.lemmas.Bool.{ne_eqb}
-use Rattle.std.proofs.lemmas.List.Elements.{All-cons, All-weaker}
-use Rattle.history_book.specs.declared.item.Item.{Item}
+use Rattle.cause_laws.proofs.Names.{◌≡◌, ℕ, ◌==◌, Bool, true, false, if◌then◌else◌, IsTrue, List, [], ◌∷◌, ◌++◌, None}
+use Rattle.cause_laws.proofs.Names.{Some, refl, ◌∙◌, ap, All, option_or, ne_eqb, All-cons, All-weaker, Item, Request}
+use Rattle.cause_laws.proofs.Names.{Begin, Commit, session_of, draw_item, ask_by, asks_for, term_by, draw_by, draws_for}
+use Rattle.cause_laws.proofs.Names.{its_ask, since_ask, its_term, its_draw, since_draw, its_start, its_node, node_asked}
+use Rattle.cause_laws.proofs.Names.{last_told, since, IsRefusal}
 use Rattle.history_book.specs.declared.item.Item.TheVariants as item
-use Rattle.system_parts.specs.declared.instance.Request.{Request}
-use Rattle.system_parts.specs.declared.instance.Request.TheVariants.{Begin, Commit}
-use Rattle.system_parts.specs.Instance.{session_of}
-use Rattle.machine.specs.Events.Decide.{draw_item}
-use Rattle.cause_rules.specs.Asks.{ask_by, asks_for, term_by, draw_by, draws_for, its_ask, since_ask, its_term, its_draw, since_draw, its_start, its_node, node_asked}
-use Rattle.cause_rules.specs.Since.{last_told, since}
-use Rattle.cause_laws.specs.Due.{IsRefusal}
 use Rattle.cause_laws.proofs.NodeTransitions.{Silent, AllSilent, ask_item}
 use Rattle.cause_laws.proofs.SinceWords.{last_told-push, since-push, last_told-same, since-more}
 

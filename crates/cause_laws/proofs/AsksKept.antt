@@ -1,26 +1,14 @@
 -- Each node transition keeps what the history tells of the requests that are held.
-use Rattle.std.proofs.Common.{◌≡◌, ◌≢◌, ℕ, ◌+◌, Bool, true, false, List, [], ◌∷◌, ◌++◌, Option, None, Some, inl, inr, refl, sym, ◌∙◌, subst}
-use Rattle.std.specs.Prelude.{slice_set}
-use Rattle.history_book.specs.declared.item.Actor.TheVariants.{Node}
-use Rattle.history_book.specs.declared.item.Item.{Item}
+use Rattle.cause_laws.proofs.Names.{◌≡◌, ◌≢◌, ℕ, ◌+◌, Bool, true, false, List, [], ◌∷◌, ◌++◌, Option, None, Some, inl}
+use Rattle.cause_laws.proofs.Names.{inr, refl, sym, ◌∙◌, subst, slice_set, Node, Item, granted, Held, Progress, Request}
+use Rattle.cause_laws.proofs.Names.{Commit, InstanceEntry, with_request, session_of, without_request, moved, just_asked}
+use Rattle.cause_laws.proofs.Names.{drawn_as, decide_drawn, instance_widened, instance_renewed, instance_stopped, State}
+use Rattle.cause_laws.proofs.Names.{rules_of, instance_of, draw_item, InstanceAt, HeldBy, ReachedInvariant}
+use Rattle.cause_laws.proofs.Names.{instance_changed, held_by, heldby_ended, heldby_changed, AreAsked, AreFaulted}
+use Rattle.cause_laws.proofs.Names.{ArePutByNodes, ShownInvariant}
 use Rattle.history_book.specs.declared.item.Item.TheVariants as item
-use Rattle.system_parts.specs.Record.{granted}
-use Rattle.system_parts.specs.declared.instance.Held.{Held}
-use Rattle.system_parts.specs.declared.instance.Progress.{Progress}
 use Rattle.system_parts.specs.declared.instance.Progress.TheVariants as progress
-use Rattle.system_parts.specs.declared.instance.Request.{Request}
-use Rattle.system_parts.specs.declared.instance.Request.TheVariants.{Commit}
-use Rattle.system_parts.specs.Instance.{InstanceEntry, with_request, session_of}
-use Rattle.system_parts.specs.InstanceSteps.{without_request, moved, just_asked, drawn_as, decide_drawn, instance_widened, instance_renewed, instance_stopped}
-use Rattle.machine.specs.State.{State}
-use Rattle.machine.specs.Events.Take.{rules_of, instance_of}
-use Rattle.machine.specs.Events.Decide.{draw_item}
-use Rattle.isolation_laws.specs.Words.{InstanceAt, HeldBy}
-use Rattle.isolation_laws.specs.Sound.{ReachedInvariant}
-use Rattle.machine.proofs.Lookups.{instance_changed, held_by, heldby_ended, heldby_changed}
 use Rattle.isolation_laws.proofs.Requests.PendingAfter.{new_holds_none, same_requests}
-use Rattle.cause_laws.specs.Requests.{AreAsked, AreFaulted, ArePutByNodes}
-use Rattle.cause_laws.specs.ShownInvariant.{ShownInvariant}
 use Rattle.cause_laws.proofs.NodeTransitions.{Granted, Told as ToldToWait, Asked, Serving, Accepted, Drew, SettledOne, NodeTransition, OfRested, OfTook, OfRenewed, OfWidened, OfStopped, OfCrashed, OfAsked, OfAccepted, OfDrew, OfSettled, OfTold, OfEnded, OfLearned, granted_nodes, took_items, renewed_to, widened_to, ask_item, fault_of, nodes_by, items_by, now_at}
 use Rattle.cause_laws.proofs.AskWords.{AllMute, silent_mute, other_ask, other_accept, other_draw}
 use Rattle.cause_laws.proofs.NodeTransitionsMute.{one_mute, always_mute, took_mute, crashed_mute, settled_mute, ended_mute, learned_mute}

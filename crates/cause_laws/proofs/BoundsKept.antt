@@ -1,23 +1,10 @@
 -- For cluster_core too.
 -- The numbers of the state are in bounds at first, and each event keeps them so.
-use Rattle.std.proofs.Common.{◌≡◌, ℕ, ◌≤◌, max, List, Option, Some, None, refl, sym, ◌∙◌, ap, subst, arith}
-use Rattle.std.specs.Prelude.{◌^◌}
-use Rattle.std.proofs.lemmas.List.{length-replicate}
-use Rattle.stamp_base.specs.SetupNumbers.{SetupNumbers}
-use Rattle.port_io.specs.declared.weather.Fate.{Fate}
-use Rattle.history_book.specs.declared.item.Item.{Item}
-use Rattle.system_parts.specs.Record.{MasterRecord}
-use Rattle.machine.specs.declared.event.Event.{Event}
-use Rattle.machine.specs.State.{State, opening}
-use Rattle.machine.specs.Machine.{IsSteadyAt, stepped, reading_of, seen_after}
-use Rattle.machine.specs.Events.Take.{rules_of}
-use Rattle.machine.proofs.PartsKept.{seen_up, leaves_parts, posts_stay}
-use Rattle.isolation_laws.specs.IsolationInvariant.{IsolationInvariant}
-use Rattle.isolation_laws.specs.Sound.{ReachedInvariant}
-use Rattle.machine.specs.Outcome.Outcomes.{Outcome, OfGranted, OfRenewed, OfExtended, left_by}
-use Rattle.isolation_laws.proofs.AlwaysHolds.{each_outcome}
-use Rattle.cause_laws.specs.ShownInvariant.{ExplainedInvariant}
-use Rattle.cause_laws.specs.Bounds.{IsBounded, Bounded}
+use Rattle.cause_laws.proofs.Names.{◌≡◌, ℕ, ◌≤◌, max, List, Option, Some, None, refl, sym, ◌∙◌, ap, subst, arith, ◌^◌}
+use Rattle.cause_laws.proofs.Names.{length-replicate, SetupNumbers, Fate, Item, MasterRecord, Event, State, opening}
+use Rattle.cause_laws.proofs.Names.{IsSteadyAt, stepped, reading_of, seen_after, rules_of, seen_up, leaves_parts}
+use Rattle.cause_laws.proofs.Names.{posts_stay, IsolationInvariant, ReachedInvariant, Outcome, OfGranted, OfRenewed}
+use Rattle.cause_laws.proofs.Names.{OfExtended, left_by, each_outcome, ExplainedInvariant, IsBounded, Bounded}
 use Rattle.cause_laws.proofs.RecordBounds.{bounded_taken, bounded_renewed, bounded_extended, has_room}
 
 -- ---- the opening

@@ -1,30 +1,15 @@
 -- What an outcome makes of the clients: they move as the frame says, or one is put back.
-use Rattle.isolation_laws.proofs.Requests.ClientMoves.{ClientsMove, clients_move}
-use Rattle.std.proofs.Common.{◌≡◌, ℕ, List, [], ◌∷◌, Some, ◌⊎◌, inl, inr, refl, sym, ◌∙◌, ap, subst}
-use Rattle.std.specs.Prelude.{slice_set}
-use Rattle.history_book.specs.Members.{◌∈◌}
-use Rattle.history_book.specs.declared.item.Actor.TheVariants.{Session}
-use Rattle.history_book.specs.declared.item.StoreStep.TheVariants.{Handed as HandedStep}
-use Rattle.history_book.specs.declared.item.Item.{Item}
+use Rattle.cause_laws.proofs.Names.{ClientsMove, clients_move, ◌≡◌, ℕ, List, [], ◌∷◌, Some, ◌⊎◌, inl, inr, refl, sym}
+use Rattle.cause_laws.proofs.Names.{◌∙◌, ap, subst, slice_set, ◌∈◌, Session, HandedStep, Item, in_last, Phase}
+use Rattle.cause_laws.proofs.Names.{SessionEntry, Commit, InstanceEntry, Client, State, client_begun, client_handed}
+use Rattle.cause_laws.proofs.Names.{unless_gone, unless_gone_by, InstanceAt, HeldBy, ClientAt, WaitsFor}
+use Rattle.cause_laws.proofs.Names.{IsolationInvariant, one_client, gone_cases, HandedOver, fetched_turn}
+use Rattle.cause_laws.proofs.Names.{fetched_client, read_turn, read_client, Outcome, OfAnsweredBegin, OfHanded, OfWrote}
+use Rattle.cause_laws.proofs.Names.{OfVanished, OfFetched, OfReadDropped, OfReadStepped, left_by, told_by_outcome}
 use Rattle.history_book.specs.declared.item.Item.TheVariants as item
-use Rattle.history_book.proofs.MemberLemmas.{in_last}
-use Rattle.system_parts.specs.declared.session.State.{State as Phase}
 use Rattle.system_parts.specs.declared.session.State.TheVariants as phase
-use Rattle.system_parts.specs.SessionSteps.{SessionEntry}
 use Rattle.system_parts.specs.declared.instance.Progress.TheVariants as progress
-use Rattle.system_parts.specs.declared.instance.Request.TheVariants.{Commit}
-use Rattle.system_parts.specs.Instance.{InstanceEntry}
-use Rattle.machine.specs.State.{Client, State}
-use Rattle.machine.specs.Clients.{client_begun, client_handed, unless_gone, unless_gone_by}
 use Rattle.machine.specs.Events.Write.{client_wrote}
-use Rattle.isolation_laws.specs.Words.{InstanceAt, HeldBy, ClientAt}
-use Rattle.isolation_laws.specs.Requests.{WaitsFor}
-use Rattle.isolation_laws.specs.IsolationInvariant.{IsolationInvariant}
-use Rattle.machine.proofs.Lookups.{one_client}
-use Rattle.isolation_laws.proofs.Requests.ClientsOpen.{gone_cases}
-use Rattle.machine.specs.Outcome.OutcomesOfStamps.{HandedOver}
-use Rattle.machine.specs.Outcome.OutcomesOfWork.{fetched_turn, fetched_client, read_turn, read_client}
-use Rattle.machine.specs.Outcome.Outcomes.{Outcome, OfAnsweredBegin, OfHanded, OfWrote, OfVanished, OfFetched, OfReadDropped, OfReadStepped, left_by, told_by_outcome}
 use Rattle.cause_laws.proofs.AsBefore.{IsGone, IsPlacing, AsBefore, same_before, begun_before, heard, read_before}
 
 -- a commit that was drawn is handed to the session, which is to place it

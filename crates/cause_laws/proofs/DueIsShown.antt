@@ -1,18 +1,10 @@
 -- What is due is shown by the history, cause by cause.
-use Rattle.std.proofs.Common.{ℕ, List, ◌++◌, inl, inr, sym, subst}
-use Rattle.std.proofs.lemmas.List.{append-nil}
-use Rattle.history_book.specs.declared.cause.Cause.{Cause}
+use Rattle.cause_laws.proofs.Names.{ℕ, List, ◌++◌, inl, inr, sym, subst, append-nil, Cause, Actor, Session, Node}
+use Rattle.cause_laws.proofs.Names.{Janitor, Clock, Item, Refused, State, ShownToSession, ShownToNode, ShownToJanitor}
+use Rattle.cause_laws.proofs.Names.{ShownCause, Shown, ReachedInvariant, ShownInvariant, DueToSession, DueToNode}
+use Rattle.cause_laws.proofs.Names.{DueToJanitor, DueNow, Due}
 use Rattle.history_book.specs.declared.cause.Cause.TheVariants as cause
-use Rattle.history_book.specs.declared.item.Actor.{Actor}
-use Rattle.history_book.specs.declared.item.Actor.TheVariants.{Session, Node, Janitor, Clock}
-use Rattle.history_book.specs.declared.item.Item.{Item}
-use Rattle.history_book.specs.declared.item.Item.TheVariants.{Refused}
 use Rattle.system_parts.specs.declared.instance.Progress.TheVariants as progress
-use Rattle.machine.specs.State.{State}
-use Rattle.cause_rules.specs.Explained.{ShownToSession, ShownToNode, ShownToJanitor, ShownCause, Shown}
-use Rattle.isolation_laws.specs.Sound.{ReachedInvariant}
-use Rattle.cause_laws.specs.ShownInvariant.{ShownInvariant}
-use Rattle.cause_laws.specs.Due.{DueToSession, DueToNode, DueToJanitor, DueNow, Due}
 use Rattle.cause_laws.proofs.ShownOfRequests.{node_of, conflict_shown, hidden_shown, old_epoch_shown, expired_shown}
 use Rattle.cause_laws.proofs.ShownOfDecisions.{replaced_shown, spent_shown, no_stamp_shown, invalid_shown, open_shown, not_yet_shown}
 use Rattle.cause_laws.proofs.ShownOfNodes.{early_shown, spent_record_shown, overtaken_shown, holding_shown, none_shown, gone_shown, full_shown}

@@ -1,20 +1,8 @@
 -- The history goes on to show the sessions that have vanished.
-use Rattle.std.proofs.Common.{ℕ, List, ◌++◌, ◌⊎◌, inl, inr, sym, subst}
-use Rattle.std.specs.Prelude.{slice_set}
-use Rattle.port_io.specs.declared.weather.Fate.{Fate}
-use Rattle.history_book.specs.Members.{◌∈◌}
-use Rattle.history_book.specs.declared.item.Item.{Item}
+use Rattle.cause_laws.proofs.Names.{ℕ, List, ◌++◌, ◌⊎◌, inl, inr, sym, subst, slice_set, Fate, ◌∈◌, Item, in_front}
+use Rattle.cause_laws.proofs.Names.{in_back, Event, Client, State, stepped, ClientAt, ReachedInvariant, client_set}
+use Rattle.cause_laws.proofs.Names.{left_by, told_by_outcome, each_outcome, AreGone}
 use Rattle.history_book.specs.declared.item.Item.TheVariants as item
-use Rattle.history_book.proofs.MemberLemmas.{in_front, in_back}
-use Rattle.machine.specs.declared.event.Event.{Event}
-use Rattle.machine.specs.State.{Client, State}
-use Rattle.machine.specs.Machine.{stepped}
-use Rattle.isolation_laws.specs.Words.{ClientAt}
-use Rattle.isolation_laws.specs.Sound.{ReachedInvariant}
-use Rattle.machine.proofs.Lookups.{client_set}
-use Rattle.machine.specs.Outcome.Outcomes.{left_by, told_by_outcome}
-use Rattle.isolation_laws.proofs.AlwaysHolds.{each_outcome}
-use Rattle.cause_laws.specs.Stores.{AreGone}
 use Rattle.cause_laws.proofs.AsBefore.{IsGone}
 use Rattle.cause_laws.proofs.ClientsMoved.{ClientsMoved, Moves, PutBack, moved}
 

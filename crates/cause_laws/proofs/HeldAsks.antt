@@ -1,23 +1,12 @@
 -- Whose requests a node holds: those that a crash tells of, and none of a session that may ask.
-use Rattle.std.proofs.Common.{◌≡◌, ℕ, suc, List, [], ◌∷◌, Option, Some, None, ◌⊎◌, inl, inr, refl, sym, ◌∙◌, ap, subst}
-use Rattle.std.specs.Prelude.{slice_index_or, All}
-use Rattle.std.proofs.lemmas.List.Elements.{All-nil, All-cons, All-append}
-use Rattle.history_book.specs.declared.cause.Cause.{Cause}
+use Rattle.cause_laws.proofs.Names.{◌≡◌, ℕ, suc, List, [], ◌∷◌, Option, Some, None, ◌⊎◌, inl, inr, refl, sym, ◌∙◌, ap}
+use Rattle.cause_laws.proofs.Names.{subst, slice_index_or, All, All-nil, All-cons, All-append, Cause, Session, Item}
+use Rattle.cause_laws.proofs.Names.{SessionState, Held, Request, Begin, Commit, InstanceEntry, held_of, session_of}
+use Rattle.cause_laws.proofs.Names.{Client, State, loss_heard, loss_items, crashed_items, all_crashed_items, InstanceAt}
+use Rattle.cause_laws.proofs.Names.{ClientAt, WaitsFor, AreRequests, held_by, one_client}
 use Rattle.history_book.specs.declared.cause.Cause.TheVariants as cause
-use Rattle.history_book.specs.declared.item.Actor.TheVariants.{Session}
-use Rattle.history_book.specs.declared.item.Item.{Item}
 use Rattle.history_book.specs.declared.item.Item.TheVariants as item
-use Rattle.system_parts.specs.declared.session.State.{State as SessionState}
 use Rattle.system_parts.specs.declared.session.State.TheVariants as phase
-use Rattle.system_parts.specs.declared.instance.Held.{Held}
-use Rattle.system_parts.specs.declared.instance.Request.{Request}
-use Rattle.system_parts.specs.declared.instance.Request.TheVariants.{Begin, Commit}
-use Rattle.system_parts.specs.Instance.{InstanceEntry, held_of, session_of}
-use Rattle.machine.specs.State.{Client, State}
-use Rattle.machine.specs.Events.Crash.{loss_heard, loss_items, crashed_items, all_crashed_items}
-use Rattle.isolation_laws.specs.Words.{InstanceAt, ClientAt}
-use Rattle.isolation_laws.specs.Requests.{WaitsFor, AreRequests}
-use Rattle.machine.proofs.Lookups.{held_by, one_client}
 use Rattle.cause_laws.proofs.NodeTransitions.{IsLossOf}
 
 -- ---- crash: each session that is told something has its request there

@@ -1,21 +1,11 @@
 -- How many requests of a session are held at a node after a node transition, by what its items do to the asks that are open there.
-use Rattle.std.proofs.Common.{◌≡◌, ◌≢◌, ℕ, ◌<◌, ◌==◌, Bool, true, false, if◌then◌else◌, is_some, length, List, ◌++◌, Option, None, Some, ◌⊎◌, inl, inr, refl, sym, ◌∙◌, ap, subst}
-use Rattle.std.specs.Prelude.{slice_get, slice_set, All}
-use Rattle.std.specs.List.{fold}
-use Rattle.std.proofs.lemmas.Bool.{cases_lt, eqb-true, eqb-false}
-use Rattle.std.proofs.lemmas.List.{get_or_past, length-set}
-use Rattle.std.proofs.lemmas.Option.{none-some}
-use Rattle.stamp_base.specs.SetupNumbers.{SetupNumbers}
-use Rattle.history_book.specs.declared.item.Item.{Item}
-use Rattle.system_parts.specs.declared.instance.Held.{Held}
-use Rattle.system_parts.specs.declared.instance.Progress.{Progress}
-use Rattle.system_parts.specs.declared.instance.Request.{Request}
-use Rattle.system_parts.specs.Instance.{InstanceEntry, held_of, with_request}
-use Rattle.system_parts.proofs.InstanceRequests.{held_of-with_request_same, held_of-with_request_other}
-use Rattle.cause_rules.specs.OpenAsks.{open_then}
-use Rattle.isolation_laws.specs.Words.{InstanceAt, HeldBy}
-use Rattle.machine.proofs.Lookups.{set_cases, instance_changed, instance_ended, held_by}
-use Rattle.cause_laws.specs.Requests.{held_count, AreOpenAsks}
+use Rattle.cause_laws.proofs.Names.{◌≡◌, ◌≢◌, ℕ, ◌<◌, ◌==◌, Bool, true, false, if◌then◌else◌, is_some, length, List}
+use Rattle.cause_laws.proofs.Names.{◌++◌, Option, None, Some, ◌⊎◌, inl, inr, refl, sym, ◌∙◌, ap, subst, slice_get}
+use Rattle.cause_laws.proofs.Names.{slice_set, All, fold, cases_lt, eqb-true, eqb-false, get_or_past, length-set}
+use Rattle.cause_laws.proofs.Names.{none-some, SetupNumbers, Item, Held, Progress, Request, InstanceEntry, held_of}
+use Rattle.cause_laws.proofs.Names.{with_request, held_of-with_request_same, held_of-with_request_other, open_then}
+use Rattle.cause_laws.proofs.Names.{InstanceAt, HeldBy, set_cases, instance_changed, instance_ended, held_by}
+use Rattle.cause_laws.proofs.Names.{held_count, AreOpenAsks}
 use Rattle.cause_laws.proofs.OpenWords.{open_more, open_kept, Calm, all_calm_keep}
 
 -- ---- one session or another

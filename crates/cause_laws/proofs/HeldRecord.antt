@@ -1,14 +1,8 @@
 -- What a master record shows that is held: a term, a lease and a ceiling that were given.
-use Rattle.std.proofs.Common.{◌≡◌, ◌≢◌, ℕ, ◌+◌, ◌<◌, ◌≤◌, ◌^◌, List, Option, Some, None, refl, subst, arith}
-use Rattle.std.specs.Prelude.{IsSome}
-use Rattle.history_book.specs.declared.item.Item.{Item}
-use Rattle.system_parts.specs.Instance.{InstanceEntry}
-use Rattle.machine.specs.State.{State}
-use Rattle.isolation_laws.specs.Words.{InstanceAt}
-use Rattle.isolation_laws.specs.Sound.{ReachedInvariant}
-use Rattle.cause_rules.specs.Posts.{TermTaken, CeilingGiven}
-use Rattle.cause_rules.specs.Refusals.{ShownSpent}
-use Rattle.cause_laws.specs.ShownInvariant.{ShownInvariant}
+use Rattle.cause_laws.proofs.Names.{◌≡◌, ◌≢◌, ℕ, ◌+◌, ◌<◌, ◌≤◌, List, Option, Some, None, refl, subst, arith, IsSome}
+use Rattle.cause_laws.proofs.Names.{Item, InstanceEntry, State, InstanceAt, ReachedInvariant, TermTaken, CeilingGiven}
+use Rattle.cause_laws.proofs.Names.{ShownSpent, ShownInvariant}
+use Rattle.std.proofs.Common.{◌^◌}
 
 pub holder_of : (holder : Option ℕ) → IsSome holder → (n : ℕ) × (holder ≡ Some n)
 holder_of None held = absurd (cc)

@@ -1,9 +1,8 @@
 -- A refusal by some keys is that of one of them, and the number that a start is told of a hidden key is the water of the key's
 -- bucket.
-use Rattle.std.proofs.Common.{◌≡◌, ◌≢◌, ℕ, nat_lt, Bool, true, false, if◌then◌else◌, List, [], ◌∷◌, Option, None, Some, ◌⊎◌, inl, inr, subst}
-use Rattle.system_parts.specs.declared.buckets.Verdict.{Verdict}
-use Rattle.system_parts.specs.declared.buckets.Verdict.TheVariants.{Free, Conflict, Hidden}
-use Rattle.system_parts.specs.Buckets.{Bucket, kept_commit, bucket_of, judged, key_verdict, first_refusal, verdict}
+use Rattle.cause_laws.proofs.Names.{◌≡◌, ◌≢◌, ℕ, nat_lt, Bool, true, false, if◌then◌else◌, List, [], ◌∷◌, Option, None}
+use Rattle.cause_laws.proofs.Names.{Some, ◌⊎◌, inl, inr, subst, Verdict, Free, Conflict, Hidden, Bucket, kept_commit}
+use Rattle.cause_laws.proofs.Names.{bucket_of, judged, key_verdict, first_refusal, verdict}
 
 -- ---- one key
 conflict_or_free : (start first water commit key told : ℕ) (above : Bool) → (if above then Conflict first commit else Free) ≡ Hidden key told → ⊥

@@ -1,21 +1,9 @@
 -- Each node transition keeps what the history shows of ranges: their ends were given, and last stamps were drawn.
-use Rattle.std.proofs.Common.{◌≡◌, ℕ, ◌+◌, ◌<◌, ◌≤◌, List, [], ◌∷◌, ◌++◌, Some, None, ◌⊎◌, inl, inr, refl, arith}
-use Rattle.system_parts.specs.Record.{granted}
-use Rattle.history_book.specs.declared.item.Item.{Item}
+use Rattle.cause_laws.proofs.Names.{◌≡◌, ℕ, ◌+◌, ◌<◌, ◌≤◌, List, [], ◌∷◌, ◌++◌, Some, None, ◌⊎◌, inl, inr, refl, arith}
+use Rattle.cause_laws.proofs.Names.{granted, Item, in_front, in_last, Request, Begin, Commit, InstanceEntry, State}
+use Rattle.cause_laws.proofs.Names.{rules_of, instance_of, take_item, draw_item, InstanceAt, ReachedInvariant}
+use Rattle.cause_laws.proofs.Names.{CeilingGiven, CommitDrawn, StampDrawn, AreLasts, ShownInvariant}
 use Rattle.history_book.specs.declared.item.Item.TheVariants as item
-use Rattle.history_book.proofs.MemberLemmas.{in_front, in_last}
-use Rattle.system_parts.specs.declared.instance.Request.{Request}
-use Rattle.system_parts.specs.declared.instance.Request.TheVariants.{Begin, Commit}
-use Rattle.system_parts.specs.Instance.{InstanceEntry}
-use Rattle.machine.specs.State.{State}
-use Rattle.machine.specs.Events.Take.{rules_of, instance_of, take_item}
-use Rattle.machine.specs.Events.Decide.{draw_item}
-use Rattle.isolation_laws.specs.Words.{InstanceAt}
-use Rattle.isolation_laws.specs.Sound.{ReachedInvariant}
-use Rattle.cause_rules.specs.Posts.{CeilingGiven}
-use Rattle.cause_rules.specs.Commits.{CommitDrawn, StampDrawn}
-use Rattle.cause_laws.specs.Nodes.{AreLasts}
-use Rattle.cause_laws.specs.ShownInvariant.{ShownInvariant}
 use Rattle.cause_laws.proofs.NodeTransitions.{NodeTransition, Granted, took_items, fault_if, widened_to, nodes_by, items_by}
 use Rattle.cause_laws.proofs.PostWords.{ceiling_given_on}
 use Rattle.cause_laws.proofs.PostMoves.{KeptBy, each_by}

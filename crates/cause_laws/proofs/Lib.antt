@@ -1,3 +1,4 @@
+mod Names
 mod RecordBounds
 pub mod BoundsKept
 pub mod RecordCalls

@@ -1,9 +1,7 @@
 -- For command_semantics too.
 -- What holds at each place of a history and of the items behind it holds at each place of both; an item behind a history.
-use Rattle.std.proofs.Common.{suc, List, [], ◌∷◌, ◌++◌, append_assoc, inl, refl, sym, subst, take}
-use Rattle.std.proofs.lemmas.List.{append-nil}
-use Rattle.history_book.specs.Members.{◌∈◌, AtEach}
-use Rattle.history_book.proofs.MemberLemmas.{AtEach-push, in_back}
+use Rattle.cause_laws.proofs.Names.{suc, List, [], ◌∷◌, ◌++◌, append_assoc, inl, refl, sym, subst, take, append-nil}
+use Rattle.cause_laws.proofs.Names.{◌∈◌, AtEach, AtEach-push, in_back}
 
 -- of items behind a history: at the first, and at each behind it
 behind_first : {X : Type 0} (P : List X → X → Type 0) (x : X) (xs : List X) → AtEach P (x ∷ xs) → AtEach (λ told y. P (x ∷ told) y) xs

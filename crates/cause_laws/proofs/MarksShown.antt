@@ -1,19 +1,11 @@
 -- The history goes on to show the marks of the commit table.
-use Rattle.std.proofs.Common.{[], ◌∷◌, ◌++◌, List, inl, inr}
-use Rattle.port_io.specs.declared.weather.Fate.{Fate}
-use Rattle.history_book.specs.declared.item.Item.{Item}
+use Rattle.cause_laws.proofs.Names.{[], ◌∷◌, ◌++◌, List, inl, inr, Fate, Item, in_front, in_back, Pairs, Event, State}
+use Rattle.cause_laws.proofs.Names.{stepped, ReachedInvariant, Outcome, OfPlaced, OfOwnPlaced, OfReadDropped}
+use Rattle.cause_laws.proofs.Names.{OfReadStepped, OfOutcome, OfOutcomeFailed, OfCompleted, OfSwept, OfSweepFailed}
+use Rattle.cause_laws.proofs.Names.{left_by, told_by_outcome, marks_same, marks_behind, placed_marks, each_outcome}
+use Rattle.cause_laws.proofs.Names.{AreMarked}
 use Rattle.history_book.specs.declared.item.Item.TheVariants as item
-use Rattle.history_book.proofs.MemberLemmas.{in_front, in_back}
-use Rattle.system_parts.specs.Pairs.{Pairs}
-use Rattle.machine.specs.declared.event.Event.{Event}
-use Rattle.machine.specs.State.{State}
-use Rattle.machine.specs.Machine.{stepped}
-use Rattle.isolation_laws.specs.Sound.{ReachedInvariant}
-use Rattle.machine.specs.Outcome.Outcomes.{Outcome, OfPlaced, OfOwnPlaced, OfReadDropped, OfReadStepped, OfOutcome, OfOutcomeFailed, OfCompleted, OfSwept, OfSweepFailed, left_by, told_by_outcome}
 use Rattle.machine.specs.MarksTold.{MarksTold}
-use Rattle.machine.proofs.MarksTold.{marks_same, marks_behind, placed_marks}
-use Rattle.isolation_laws.proofs.AlwaysHolds.{each_outcome}
-use Rattle.cause_laws.specs.Stores.{AreMarked}
 
 marked_on : (old new : Pairs) (h items : List Item) → MarksTold old new items → AreMarked old h → AreMarked new (h ++ items)
 marked_on old new h items told are = record {

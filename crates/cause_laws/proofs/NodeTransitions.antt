@@ -1,29 +1,19 @@
 -- What an event does to the nodes and their instances, a short view of its outcome. Each node transition is a record of what was the case, with
 -- the nodes that it leaves and the items that tell it.
-use Rattle.std.proofs.Common.{[], ◌≡◌, ◌≢◌, ℕ, ◌+◌, false, List, ◌∷◌, Option, None, Some, ◌⊎◌, ◌++◌}
-use Rattle.std.specs.Prelude.{IsTrue, slice_set, All}
-use Rattle.history_book.specs.declared.item.Actor.TheVariants.{Node, Session}
-use Rattle.history_book.specs.declared.item.StoreStep.TheVariants.{Handed}
-use Rattle.history_book.specs.declared.item.Item.{Item}
+use Rattle.cause_laws.proofs.Names.{[], ◌≡◌, ◌≢◌, ℕ, ◌+◌, false, List, ◌∷◌, Option, None, Some, ◌⊎◌, ◌++◌, slice_set}
+use Rattle.cause_laws.proofs.Names.{All, Node, Session, Handed, Item, granted, is_spent, renewed_until, Held, Request}
+use Rattle.cause_laws.proofs.Names.{Begin, Commit, Settled, InstanceEntry, held_of, session_of, with_request, Client}
+use Rattle.cause_laws.proofs.Names.{State, rules_of, take_item, ends_request, InstanceAt, ClientAt, Marked}
+use Rattle.cause_laws.proofs.Names.{without_request, moved, just_asked, decide_drawn, instance_widened}
+use Rattle.cause_laws.proofs.Names.{instance_renewed, instance_stopped, draw_item}
+use Rattle.std.specs.Prelude.{IsTrue}
 use Rattle.history_book.specs.declared.item.Item.TheVariants as item
-use Rattle.system_parts.specs.Record.{granted, is_spent, renewed_until}
 use Rattle.system_parts.specs.declared.session.State.TheVariants as phase
-use Rattle.system_parts.specs.declared.instance.Held.{Held}
 use Rattle.system_parts.specs.declared.instance.Progress.TheVariants as progress
-use Rattle.system_parts.specs.declared.instance.Request.{Request}
-use Rattle.system_parts.specs.declared.instance.Request.TheVariants.{Begin, Commit}
-use Rattle.system_parts.specs.declared.instance.Settled.{Settled}
 use Rattle.system_parts.specs.declared.instance.Settled.TheVariants as how
-use Rattle.system_parts.specs.Instance.{InstanceEntry, held_of, session_of, with_request}
-use Rattle.machine.specs.State.{Client, State}
-use Rattle.machine.specs.Events.Take.{rules_of, take_item}
-use Rattle.cause_rules.specs.OpenAsks.{ends_request}
-use Rattle.isolation_laws.specs.Words.{InstanceAt, ClientAt, Marked}
 pub use Rattle.machine.specs.Plain.{is_silent, Silent, AllSilent}
 pub use Rattle.machine.specs.Outcome.OutcomesOfRecord.{Stopped, Serving, Told, Granted, granted_nodes, fault_if}
 pub use Rattle.machine.specs.Outcome.OutcomesOfStamps.{fault_of}
-use Rattle.system_parts.specs.InstanceSteps.{without_request, moved, just_asked, decide_drawn, instance_widened, instance_renewed, instance_stopped}
-use Rattle.machine.specs.Events.Decide.{draw_item}
 
 -- ---- the node transitions
 -- the nodes stay as they were

@@ -1,43 +1,23 @@
 -- Each outcome of an event, as a node transition to the nodes.
-use Rattle.std.proofs.Common.{[], ◌≡◌, ℕ, ◌+◌, Bool, true, false, List, ◌∷◌, ◌++◌, Option, None, Some, inl, inr, refl, sym, ◌∙◌, ap}
-use Rattle.std.specs.Prelude.{slice_set}
+use Rattle.cause_laws.proofs.Names.{[], ◌≡◌, ℕ, ◌+◌, Bool, true, false, List, ◌∷◌, ◌++◌, Option, None, Some, inl, inr}
+use Rattle.cause_laws.proofs.Names.{refl, sym, ◌∙◌, ap, slice_set, Master, Node, Session, Handed, Item, mark_of}
+use Rattle.cause_laws.proofs.Names.{renewed_until, SettleTurn, Goes, Decides, settle_ask, settle_turn, Held, Begin}
+use Rattle.cause_laws.proofs.Names.{Commit, Settled, InstanceEntry, held_of, without_request, Event, Fate, State}
+use Rattle.cause_laws.proofs.Names.{stepped, all_crashed_items, settle_items, rules_of, InstanceAt, Marked}
+use Rattle.cause_laws.proofs.Names.{IsolationInvariant, ReachedInvariant, AllSilent, one_silent, two_silent, all_silent}
+use Rattle.cause_laws.proofs.Names.{StillBy, Rests, Stops, Tells, RenewedLease, renewed_nodes, Extended, extended_nodes}
+use Rattle.cause_laws.proofs.Names.{fault_if, AtDrawn, PlacedOne, settled_nodes, fault_of, found_items, answered_item}
+use Rattle.cause_laws.proofs.Names.{OutcomeStepped, Outcome, OfStill, OfGranted, OfRenewed, OfExtended, OfCrashed}
+use Rattle.cause_laws.proofs.Names.{OfAskedBegin, OfAskedCommit, OfAccepted, OfEnded, OfDrew, OfPlaced, OfNotPlaced}
+use Rattle.cause_laws.proofs.Names.{OfAnsweredBegin, OfAnsweredCommit, OfHanded, OfOwnPlaced, OfOwnNotPlaced, OfOutcome}
+use Rattle.cause_laws.proofs.Names.{left_by, told_by_outcome, in_flight_of, drawn_pending, each_outcome}
 use Rattle.stamp_base.specs.declared.stores.Mark.{Mark}
-use Rattle.stamp_base.specs.declared.stores.Store.TheVariants.{Master}
-use Rattle.history_book.specs.declared.item.Actor.TheVariants.{Node, Session}
-use Rattle.history_book.specs.declared.item.StoreStep.TheVariants.{Handed}
 use Rattle.history_book.specs.declared.item.Ending.TheVariants.{Dead as DeadEnd}
-use Rattle.history_book.specs.declared.item.Item.{Item}
 use Rattle.history_book.specs.declared.item.Item.TheVariants as item
-use Rattle.system_parts.specs.Pairs.{mark_of}
-use Rattle.system_parts.specs.Record.{renewed_until}
 use Rattle.system_parts.specs.declared.resolve.Outcome.TheVariants as outcome
-use Rattle.system_parts.specs.Resolve.{SettleTurn, Goes, Decides, settle_ask, settle_turn}
-use Rattle.system_parts.specs.declared.instance.Held.{Held}
-use Rattle.system_parts.specs.declared.instance.Request.TheVariants.{Begin, Commit}
-use Rattle.system_parts.specs.declared.instance.Settled.{Settled}
 use Rattle.system_parts.specs.declared.instance.Settled.TheVariants as how
-use Rattle.system_parts.specs.Instance.{InstanceEntry, held_of}
-use Rattle.system_parts.specs.InstanceSteps.{without_request}
-use Rattle.machine.specs.declared.event.Event.{Event}
-use Rattle.port_io.specs.declared.weather.Fate.{Fate}
-use Rattle.machine.specs.State.{State}
 use Rattle.machine.specs.StoreSteps.{told_by}
-use Rattle.machine.specs.Machine.{stepped}
-use Rattle.machine.specs.Events.Crash.{all_crashed_items}
-use Rattle.machine.specs.Events.Step.{settle_items}
-use Rattle.machine.specs.Events.Take.{rules_of}
-use Rattle.isolation_laws.specs.Words.{InstanceAt, Marked}
-use Rattle.isolation_laws.specs.IsolationInvariant.{IsolationInvariant}
-use Rattle.isolation_laws.specs.Sound.{ReachedInvariant}
-use Rattle.machine.specs.Plain.{AllSilent}
-use Rattle.machine.proofs.Outcome.PlainItems.{one_silent, two_silent, all_silent}
-use Rattle.machine.specs.Outcome.OutcomesOfRecord.{StillBy, Rests, Stops, Tells, Renewed as RenewedLease, renewed_nodes, Extended, extended_nodes, fault_if}
-use Rattle.machine.specs.Outcome.OutcomesOfStamps.{AtDrawn, PlacedOne, settled_nodes, fault_of, found_items, answered_item}
-use Rattle.machine.specs.Outcome.OutcomesOfWork.{OutcomeStepped}
-use Rattle.machine.specs.Outcome.Outcomes.{Outcome, OfStill, OfGranted, OfRenewed, OfExtended, OfCrashed, OfAskedBegin, OfAskedCommit, OfAccepted, OfEnded, OfDrew, OfPlaced, OfNotPlaced, OfAnsweredBegin, OfAnsweredCommit, OfHanded, OfOwnPlaced, OfOwnNotPlaced, OfOutcome, left_by, told_by_outcome}
-use Rattle.isolation_laws.proofs.Numbers.NumbersKept.{in_flight_of, drawn_pending}
 use Rattle.machine.proofs.Inversions.InversionOfAnswers.{not_invalid}
-use Rattle.isolation_laws.proofs.AlwaysHolds.{each_outcome}
 use Rattle.cause_laws.proofs.NodeTransitions.{Serving, EndsFor, OfRested, OfTook, OfRenewed, OfWidened, OfStopped, OfCrashed, OfAsked, OfAccepted, OfDrew, OfSettled, OfTold, OfEnded, OfLearned, NodeTransitionOf}
 use Rattle.cause_laws.proofs.NodeTransitionsOfPlacings.{answered_ends, own_told_deed, own_placed_deed}
 use Rattle.cause_laws.proofs.SilentOutcomes.{found_silent, silent_items}

@@ -1,17 +1,9 @@
 -- The items of the node transitions that tell nothing of a session's request, each with its reason.
-use Rattle.std.proofs.Common.{ℕ, Bool, true, false, IsTrue, [], ◌∷◌, ◌++◌, refl}
-use Rattle.std.proofs.lemmas.List.Elements.{All-nil, All-cons, All-append, All-weaker}
-use Rattle.stamp_base.specs.declared.stores.Store.TheVariants.{Master, Table}
-use Rattle.history_book.specs.declared.item.Actor.TheVariants.{Node}
-use Rattle.history_book.specs.declared.item.Item.{Item}
+use Rattle.cause_laws.proofs.Names.{ℕ, Bool, true, false, IsTrue, [], ◌∷◌, ◌++◌, refl, All-nil, All-cons, All-append}
+use Rattle.cause_laws.proofs.Names.{All-weaker, Master, Table, Node, Item, Settled, InstanceEntry, granted, State}
+use Rattle.cause_laws.proofs.Names.{rules_of, take_item, IsRefusal}
 use Rattle.history_book.specs.declared.item.Item.TheVariants as item
-use Rattle.system_parts.specs.declared.instance.Settled.{Settled}
 use Rattle.system_parts.specs.declared.instance.Settled.TheVariants as how
-use Rattle.system_parts.specs.Instance.{InstanceEntry}
-use Rattle.system_parts.specs.Record.{granted}
-use Rattle.machine.specs.State.{State}
-use Rattle.machine.specs.Events.Take.{rules_of, take_item}
-use Rattle.cause_laws.specs.Due.{IsRefusal}
 use Rattle.cause_laws.proofs.NodeTransitions.{Granted, Crashed, SettledOne, Ended, Learned, IsLossOf, EndsFor, took_items, fault_if, fault_of}
 use Rattle.cause_laws.proofs.AskWords.{Mute, AllMute, mute_always, tells_no_request, silent_mute, crash_mute}
 

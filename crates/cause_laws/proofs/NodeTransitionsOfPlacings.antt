@@ -1,16 +1,8 @@
 -- What is told last of a commit, and the placing of a session as a node transition to the nodes, which it leaves alone.
-use Rattle.std.proofs.Common.{[], ℕ, List, ◌∷◌, ◌++◌, inr, refl}
-use Rattle.stamp_base.specs.declared.stores.Store.TheVariants.{Table}
-use Rattle.history_book.specs.declared.item.Actor.TheVariants.{Session}
-use Rattle.history_book.specs.declared.item.StoreStep.TheVariants.{PutFound}
-use Rattle.history_book.specs.declared.item.Item.{Item}
+use Rattle.cause_laws.proofs.Names.{[], ℕ, List, ◌∷◌, ◌++◌, inr, refl, Table, Session, PutFound, Item, Settled, State}
+use Rattle.cause_laws.proofs.Names.{AllSilent, none_silent, one_silent, two_silent, answered_item}
 use Rattle.history_book.specs.declared.item.Item.TheVariants as item
-use Rattle.system_parts.specs.declared.instance.Settled.{Settled}
 use Rattle.system_parts.specs.declared.instance.Settled.TheVariants as how
-use Rattle.machine.specs.State.{State}
-use Rattle.machine.specs.Plain.{AllSilent}
-use Rattle.machine.proofs.Outcome.PlainItems.{none_silent, one_silent, two_silent}
-use Rattle.machine.specs.Outcome.OutcomesOfStamps.{answered_item}
 use Rattle.machine.specs.Outcome.OutcomesOfPlacings.{AtPlacing, own_told}
 use Rattle.cause_laws.proofs.NodeTransitions.{EndsFor, OfLearned, NodeTransitionOf}
 

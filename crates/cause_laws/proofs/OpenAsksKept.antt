@@ -1,33 +1,16 @@
 -- Each node transition keeps that a session's asks at a node are open exactly where the node holds its request.
-use Rattle.std.proofs.Common.{◌≡◌, ◌≢◌, ℕ, ◌+◌, suc, ◌<◌, Bool, true, false, ◌&&◌, List, [], ◌∷◌, ◌++◌, length, Option, None, Some, inl, inr, refl, sym, ◌∙◌, ap, subst}
-use Rattle.std.specs.Prelude.{slice_get, slice_set, All}
-use Rattle.std.specs.List.{fold}
-use Rattle.std.proofs.lemmas.Bool.{ne_eqb}
-use Rattle.std.proofs.lemmas.List.{length-replicate}
-use Rattle.std.proofs.lemmas.List.Elements.{All-nil, All-cons, All-append, All-weaker}
-use Rattle.std.proofs.lemmas.Option.{slice_get_within}
-use Rattle.history_book.specs.declared.item.Actor.TheVariants.{Node, Session}
-use Rattle.history_book.specs.declared.item.Item.{Item}
+use Rattle.cause_laws.proofs.Names.{◌≡◌, ◌≢◌, ℕ, ◌+◌, suc, ◌<◌, Bool, true, false, ◌&&◌, List, [], ◌∷◌, ◌++◌, length}
+use Rattle.cause_laws.proofs.Names.{Option, None, Some, inl, inr, refl, sym, ◌∙◌, ap, subst, slice_get, slice_set, All}
+use Rattle.cause_laws.proofs.Names.{fold, ne_eqb, length-replicate, All-nil, All-cons, All-append, All-weaker}
+use Rattle.cause_laws.proofs.Names.{slice_get_within, Node, Session, Item, granted, Held, Progress, Request, Settled}
+use Rattle.cause_laws.proofs.Names.{InstanceEntry, with_request, session_of, without_request, just_asked, drawn_as}
+use Rattle.cause_laws.proofs.Names.{decide_drawn, instance_widened, instance_renewed, instance_stopped}
+use Rattle.cause_laws.proofs.Names.{held_of-instance_new, State, rules_of, instance_of, take_item, draw_item}
+use Rattle.cause_laws.proofs.Names.{ends_request, asks_at, open_then, InstanceAt, HeldBy, ReachedInvariant, held_by}
+use Rattle.cause_laws.proofs.Names.{held_count, AreOpenAsks, ShownInvariant}
 use Rattle.history_book.specs.declared.item.Item.TheVariants as item
-use Rattle.system_parts.specs.Record.{granted}
-use Rattle.system_parts.specs.declared.instance.Held.{Held}
-use Rattle.system_parts.specs.declared.instance.Progress.{Progress}
 use Rattle.system_parts.specs.declared.instance.Progress.TheVariants as progress
-use Rattle.system_parts.specs.declared.instance.Request.{Request}
-use Rattle.system_parts.specs.declared.instance.Settled.{Settled}
 use Rattle.system_parts.specs.declared.instance.Settled.TheVariants as how
-use Rattle.system_parts.specs.Instance.{InstanceEntry, with_request, session_of}
-use Rattle.system_parts.specs.InstanceSteps.{without_request, just_asked, drawn_as, decide_drawn, instance_widened, instance_renewed, instance_stopped}
-use Rattle.system_parts.proofs.InstanceRequests.{held_of-instance_new}
-use Rattle.machine.specs.State.{State}
-use Rattle.machine.specs.Events.Take.{rules_of, instance_of, take_item}
-use Rattle.machine.specs.Events.Decide.{draw_item}
-use Rattle.cause_rules.specs.OpenAsks.{ends_request, asks_at, open_then}
-use Rattle.isolation_laws.specs.Words.{InstanceAt, HeldBy}
-use Rattle.isolation_laws.specs.Sound.{ReachedInvariant}
-use Rattle.machine.proofs.Lookups.{held_by}
-use Rattle.cause_laws.specs.Requests.{held_count, AreOpenAsks}
-use Rattle.cause_laws.specs.ShownInvariant.{ShownInvariant}
 use Rattle.cause_laws.proofs.NodeTransitions.{Granted, Crashed, Asked, Serving, Ended, Learned, NodeTransition, OfRested, OfTook, OfRenewed, OfWidened, OfStopped, OfCrashed, OfAsked, OfAccepted, OfDrew, OfSettled, OfTold, OfEnded, OfLearned, IsLossOf, granted_nodes, took_items, fault_if, fault_of, renewed_to, widened_to, ask_item, nodes_by, items_by}
 use Rattle.cause_laws.proofs.OpenWords.{Keeps, open_kept, Calm, calm_keeps, all_calm_keep, none_keeps, closed, all_silent_calm, draw_calm, ask_of_other, ask_elsewhere, ask_opens, crash_elsewhere, crash_closes, ends_no_ask, ends_closes, ends_of_other}
 use Rattle.cause_laws.proofs.HeldCounts.{same_or_other, count_of, held_within, count_other, count_now, count_same, no_count, AllCame, came_all, calm_stays, came_at, came_calm, AllShaped, shaped_put, shaped_ended, shape_request, shaped_of, open_asks_by}

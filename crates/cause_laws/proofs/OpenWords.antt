@@ -1,20 +1,10 @@
 -- How many asks are open after more items: items that are no ask and close nothing leave the count as it is.
-use Rattle.std.proofs.Common.{◌≡◌, ◌≢◌, ℕ, suc, ◌==◌, Bool, true, false, ◌&&◌, if◌then◌else◌, List, [], ◌∷◌, ◌++◌, refl, sym, ◌∙◌, ap}
-use Rattle.std.specs.Prelude.{All}
-use Rattle.std.specs.List.{fold}
-use Rattle.std.proofs.lemmas.Bool.{eq-eqb, ne_eqb}
-use Rattle.std.proofs.lemmas.List.Elements.{All-head, All-tail, All-weaker}
-use Rattle.std.proofs.lemmas.List.Sums.{fold-append}
-use Rattle.history_book.specs.declared.cause.Cause.{Cause}
-use Rattle.history_book.specs.declared.item.Actor.TheVariants.{Node, Session, Janitor, Clock}
-use Rattle.history_book.specs.declared.item.StoreStep.TheVariants.{Handed}
-use Rattle.history_book.specs.declared.item.Item.{Item}
+use Rattle.cause_laws.proofs.Names.{◌≡◌, ◌≢◌, ℕ, suc, ◌==◌, Bool, true, false, ◌&&◌, if◌then◌else◌, List, [], ◌∷◌, ◌++◌}
+use Rattle.cause_laws.proofs.Names.{refl, sym, ◌∙◌, ap, All, fold, eq-eqb, ne_eqb, All-head, All-tail, All-weaker}
+use Rattle.cause_laws.proofs.Names.{fold-append, Cause, Node, Session, Janitor, Clock, Handed, Item, Request, Begin}
+use Rattle.cause_laws.proofs.Names.{Commit, session_of, draw_item, ends_request, closes, asks_at, open_then}
+use Rattle.cause_laws.proofs.Names.{open_asks_of}
 use Rattle.history_book.specs.declared.item.Item.TheVariants as item
-use Rattle.system_parts.specs.declared.instance.Request.{Request}
-use Rattle.system_parts.specs.declared.instance.Request.TheVariants.{Begin, Commit}
-use Rattle.system_parts.specs.Instance.{session_of}
-use Rattle.machine.specs.Events.Decide.{draw_item}
-use Rattle.cause_rules.specs.OpenAsks.{ends_request, closes, asks_at, open_then, open_asks_of}
 use Rattle.cause_laws.proofs.NodeTransitions.{Silent, AllSilent, EndsFor, ask_item}
 
 -- ---- the count after items

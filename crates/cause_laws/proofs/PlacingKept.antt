@@ -1,30 +1,12 @@
 -- Every event keeps that a session which places its commit asked for it last: until then it tells nothing of another request.
-use Rattle.isolation_laws.proofs.Requests.ClientMoves.{at_work_moved}
-use Rattle.isolation_laws.specs.Pending.{is_placing}
-use Rattle.std.proofs.Common.{ap, inl, ◌≡◌, ℕ, ◌+◌, List, ◌++◌, Some, ◌⊎◌, inr, refl, sym, ◌∙◌, subst}
-use Rattle.std.specs.Prelude.{slice_set}
-use Rattle.std.proofs.lemmas.Option.{same_Some}
-use Rattle.port_io.specs.declared.weather.Fate.{Fate}
-use Rattle.history_book.specs.declared.item.Actor.TheVariants.{Session}
-use Rattle.history_book.specs.declared.item.StoreStep.TheVariants.{Handed as HandedStep}
-use Rattle.history_book.specs.declared.item.Item.{Item}
+use Rattle.cause_laws.proofs.Names.{at_work_moved, is_placing, ap, inl, ◌≡◌, ℕ, ◌+◌, List, ◌++◌, Some, ◌⊎◌, inr, refl}
+use Rattle.cause_laws.proofs.Names.{sym, ◌∙◌, subst, slice_set, same_Some, Fate, Session, HandedStep, Item, Phase}
+use Rattle.cause_laws.proofs.Names.{SessionEntry, Commit, session_of, Event, Client, State, stepped, HeldBy, ClientAt}
+use Rattle.cause_laws.proofs.Names.{ReachedInvariant, client_set, held_by, one_client, Outcome, left_by}
+use Rattle.cause_laws.proofs.Names.{told_by_outcome, each_outcome, AskedToPlace, ArePlacingAsked, ShownInvariant}
 use Rattle.history_book.specs.declared.item.Item.TheVariants as item
-use Rattle.system_parts.specs.declared.session.State.{State as Phase}
 use Rattle.system_parts.specs.declared.session.State.TheVariants as phase
-use Rattle.system_parts.specs.SessionSteps.{SessionEntry}
 use Rattle.system_parts.specs.declared.instance.Progress.TheVariants as progress
-use Rattle.system_parts.specs.declared.instance.Request.TheVariants.{Commit}
-use Rattle.system_parts.specs.Instance.{session_of}
-use Rattle.machine.specs.declared.event.Event.{Event}
-use Rattle.machine.specs.State.{Client, State}
-use Rattle.machine.specs.Machine.{stepped}
-use Rattle.isolation_laws.specs.Words.{HeldBy, ClientAt}
-use Rattle.isolation_laws.specs.Sound.{ReachedInvariant}
-use Rattle.machine.proofs.Lookups.{client_set, held_by, one_client}
-use Rattle.machine.specs.Outcome.Outcomes.{Outcome, left_by, told_by_outcome}
-use Rattle.isolation_laws.proofs.AlwaysHolds.{each_outcome}
-use Rattle.cause_laws.specs.Requests.{AskedToPlace, ArePlacingAsked}
-use Rattle.cause_laws.specs.ShownInvariant.{ShownInvariant}
 use Rattle.cause_laws.proofs.NodeTransitions.{Asked, Serving, NodeTransition, OfRested, OfTook, OfRenewed, OfWidened, OfStopped, OfCrashed, OfAsked, OfAccepted, OfDrew, OfSettled, OfTold, OfEnded, OfLearned, NodeTransitionOf, ask_item, items_by}
 use Rattle.cause_laws.proofs.NodeTransitionsDone.{outcome_deed}
 use Rattle.cause_laws.proofs.AskWords.{AllMute, silent_mute, other_ask, other_accept, other_draw, its_ask-mute, its_draw-mute}

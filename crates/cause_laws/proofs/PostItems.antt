@@ -1,11 +1,8 @@
 -- Which items are neither takes nor crashes of a node: silent ones, refusals, and those that tell of requests.
-use Rattle.std.proofs.Common.{◌≡◌, ◌≢◌, ℕ, Bool, true, false, List, [], ◌∷◌, ◌++◌, refl, sym, All, ne_eqb}
-use Rattle.std.proofs.lemmas.List.Elements.{All-nil, All-cons, All-weaker}
-use Rattle.history_book.specs.declared.item.Item.{Item}
+use Rattle.cause_laws.proofs.Names.{◌≡◌, ◌≢◌, ℕ, Bool, true, false, List, [], ◌∷◌, ◌++◌, refl, sym, All-nil, All-cons}
+use Rattle.cause_laws.proofs.Names.{All-weaker, Item, not_true, takes_for, crashes_for, StandsSince, IsRefusal}
+use Rattle.std.proofs.Common.{All, ne_eqb}
 use Rattle.history_book.specs.declared.item.Item.TheVariants as item
-use Rattle.isolation_laws.proofs.Pushed.{not_true}
-use Rattle.cause_rules.specs.Posts.{takes_for, crashes_for, StandsSince}
-use Rattle.cause_laws.specs.Due.{IsRefusal}
 use Rattle.cause_laws.proofs.NodeTransitions.{Silent, AllSilent}
 use Rattle.cause_laws.proofs.PostWords.{NoTakes, NoCrashes, stands_on}
 

@@ -1,24 +1,13 @@
 -- What each node transition does to posts: the items that it tells of them, and which instances stand afterwards.
-use Rattle.std.proofs.Common.{◌≡◌, ◌≢◌, ℕ, ◌+◌, Bool, true, false, List, [], ◌∷◌, ◌++◌, Option, Some, None, inl, inr, refl, sym, ◌∙◌, ap, subst, All, ne_eqb}
-use Rattle.std.specs.Prelude.{slice_get, slice_set}
-use Rattle.std.proofs.lemmas.Option.{same_Some, none-some}
-use Rattle.std.proofs.lemmas.List.Elements.{All-nil, All-cons, All-append, All-weaker}
-use Rattle.system_parts.specs.Record.{granted}
-use Rattle.history_book.specs.declared.item.Item.{Item}
+use Rattle.cause_laws.proofs.Names.{◌≡◌, ◌≢◌, ℕ, ◌+◌, Bool, true, false, List, [], ◌∷◌, ◌++◌, Option, Some, None, inl}
+use Rattle.cause_laws.proofs.Names.{inr, refl, sym, ◌∙◌, ap, subst, slice_get, slice_set, same_Some, none-some, All-nil}
+use Rattle.cause_laws.proofs.Names.{All-cons, All-append, All-weaker, granted, Item, Held, Request, Begin, Commit}
+use Rattle.cause_laws.proofs.Names.{Settled, InstanceEntry, decide_drawn, instance_widened, instance_renewed}
+use Rattle.cause_laws.proofs.Names.{instance_stopped, State, rules_of, instance_of, draw_item, InstanceAt}
+use Rattle.cause_laws.proofs.Names.{instance_changed, instance_ended, takes_for, crashes_for}
+use Rattle.std.proofs.Common.{All, ne_eqb}
 use Rattle.history_book.specs.declared.item.Item.TheVariants as item
-use Rattle.system_parts.specs.declared.instance.Held.{Held}
-use Rattle.system_parts.specs.declared.instance.Request.{Request}
-use Rattle.system_parts.specs.declared.instance.Request.TheVariants.{Begin, Commit}
-use Rattle.system_parts.specs.declared.instance.Settled.{Settled}
 use Rattle.system_parts.specs.declared.instance.Settled.TheVariants as how
-use Rattle.system_parts.specs.Instance.{InstanceEntry}
-use Rattle.system_parts.specs.InstanceSteps.{decide_drawn, instance_widened, instance_renewed, instance_stopped}
-use Rattle.machine.specs.State.{State}
-use Rattle.machine.specs.Events.Take.{rules_of, instance_of}
-use Rattle.machine.specs.Events.Decide.{draw_item}
-use Rattle.isolation_laws.specs.Words.{InstanceAt}
-use Rattle.machine.proofs.Lookups.{instance_changed, instance_ended}
-use Rattle.cause_rules.specs.Posts.{takes_for, crashes_for}
 use Rattle.cause_laws.proofs.NodeTransitions.{NodeTransition, OfRested, OfTook, OfRenewed, OfWidened, OfStopped, OfCrashed, OfAsked, OfAccepted, OfDrew, OfSettled, OfTold, OfEnded, OfLearned, Granted, Renewed, Widened, Stopped, Crashed, Drew, SettledOne, Learned, granted_nodes, took_items, fault_if, fault_of, renewed_to, widened_to, IsLossOf, EndsFor, ask_item, now_at, nodes_by, items_by}
 use Rattle.cause_laws.proofs.PostWords.{NoTakes, NoCrashes}
 use Rattle.cause_laws.proofs.PostItems.{is_calm, AllCalm, calm_no_takes, calm_no_crashes, calm_one, silent_calm, crash_no_takes, crash_no_crashes}

@@ -1,15 +1,11 @@
 -- What a longer history tells of a node: items that are neither takes nor crashes of it leave its words as they are.
-use Rattle.std.proofs.Common.{◌≡◌, ℕ, Bool, true, false, if◌then◌else◌, List, [], ◌∷◌, ◌++◌, Some, None, inl, inr, refl, sym, ◌∙◌, ap, subst, All, fold, eq-eqb}
-use Rattle.std.specs.Option.{option_or}
-use Rattle.std.proofs.lemmas.List.Sums.{fold-append}
-use Rattle.std.proofs.lemmas.List.Elements.{All-head, All-tail, All-nil, All-cons}
-use Rattle.history_book.specs.Members.{◌∈◌}
-use Rattle.history_book.specs.declared.item.Item.{Item}
+use Rattle.cause_laws.proofs.Names.{◌≡◌, ℕ, Bool, true, false, if◌then◌else◌, List, [], ◌∷◌, ◌++◌, Some, None, inl, inr}
+use Rattle.cause_laws.proofs.Names.{refl, sym, ◌∙◌, ap, subst, option_or, fold-append, All-head, All-tail, All-nil}
+use Rattle.cause_laws.proofs.Names.{All-cons, ◌∈◌, Item, in_front, in_append, not_true, told_then, since_then, since}
+use Rattle.cause_laws.proofs.Names.{take_by, takes_for, crashes_for, last_take, since_take, TookLast, LeasedUntil}
+use Rattle.cause_laws.proofs.Names.{StandsSince, HasNone, TermTaken, LeaseGiven, CeilingGiven}
+use Rattle.std.proofs.Common.{All, fold, eq-eqb}
 use Rattle.history_book.specs.declared.item.Item.TheVariants as item
-use Rattle.history_book.proofs.MemberLemmas.{in_front}
-use Rattle.isolation_laws.proofs.Pushed.{in_append, not_true}
-use Rattle.cause_rules.specs.Since.{told_then, since_then, since}
-use Rattle.cause_rules.specs.Posts.{take_by, takes_for, crashes_for, last_take, since_take, TookLast, LeasedUntil, StandsSince, HasNone, TermTaken, LeaseGiven, CeilingGiven}
 use Rattle.cause_laws.proofs.SinceWords.{last_told-past, last_told-same, since-more, since-anew}
 
 -- no item is a take, or a crash, of the node

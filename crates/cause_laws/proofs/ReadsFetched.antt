@@ -1,49 +1,26 @@
 -- Every event keeps that what clients keep as read was fetched since the begin of the transaction.
-use Rattle.std.proofs.Common.{◌≡◌, ◌≢◌, ℕ, ◌+◌, ◌==◌, Bool, true, false, if◌then◌else◌, List, [], ◌∷◌, ◌++◌, Option, None, Some, ◌⊎◌, inl, inr, refl, sym, ◌∙◌, ap, subst, arith, Contains, All}
-use Rattle.std.specs.Prelude.{slice_set}
-use Rattle.std.specs.Option.{option_or}
-use Rattle.std.proofs.lemmas.Bool.{cases_Bool, eqb-true, eq-eqb, ne_eqb}
-use Rattle.std.proofs.lemmas.Option.{same_Some, none-some}
-use Rattle.std.proofs.lemmas.List.Elements.{All-nil, All-cons, All-weaker, Contains-push_cases}
-use Rattle.port_io.specs.declared.weather.Fate.{Fate}
-use Rattle.history_book.specs.Members.{◌∈◌}
-use Rattle.history_book.specs.declared.item.Actor.TheVariants.{Session}
-use Rattle.history_book.specs.declared.item.StoreStep.TheVariants.{Fetch}
-use Rattle.history_book.specs.declared.item.Item.{Item}
+use Rattle.cause_laws.proofs.Names.{◌≡◌, ◌≢◌, ℕ, ◌+◌, ◌==◌, Bool, true, false, if◌then◌else◌, List, [], ◌∷◌, ◌++◌}
+use Rattle.cause_laws.proofs.Names.{Option, None, Some, ◌⊎◌, inl, inr, refl, sym, ◌∙◌, ap, subst, arith, Contains}
+use Rattle.cause_laws.proofs.Names.{slice_set, option_or, cases_Bool, eqb-true, eq-eqb, ne_eqb, same_Some, none-some}
+use Rattle.cause_laws.proofs.Names.{All-nil, All-cons, All-weaker, Contains-push_cases, Fate, ◌∈◌, Session, Fetch, Item}
+use Rattle.cause_laws.proofs.Names.{in_front, in_back, has_key, key_added, ReadTurn, Asks, Answers, Request, Begin}
+use Rattle.cause_laws.proofs.Names.{Commit, session_of, Event, Client, State, client_begun, client_handed, unless_gone}
+use Rattle.cause_laws.proofs.Names.{stepped, draw_item, client_read, keeps_read, AnsweredBegin, answered_begin_state}
+use Rattle.cause_laws.proofs.Names.{answered_begin_items, Fetched, fetched_turn, fetched_client, fetched_items}
+use Rattle.cause_laws.proofs.Names.{read_turn, read_client, Outcome, OfPlaced, OfOwnPlaced, OfAnsweredBegin, OfHanded}
+use Rattle.cause_laws.proofs.Names.{OfWrote, OfVanished, OfFetched, OfReadDropped, OfReadStepped, left_by}
+use Rattle.cause_laws.proofs.Names.{told_by_outcome, client_set, one_client, Ask, ask_by, its_ask, begin_by, begins_for}
+use Rattle.cause_laws.proofs.Names.{last_begun, since_begin, ClientAt, HeldBy, IsolationInvariant, ReachedInvariant}
+use Rattle.cause_laws.proofs.Names.{WorksNoMore, gone_cases, read_keeps_entry, ClientsMove, clients_move, each_outcome}
+use Rattle.cause_laws.proofs.Names.{ask_for, AreFetched, AreReadsShown, ShownInvariant}
+use Rattle.std.proofs.Common.{All}
 use Rattle.history_book.specs.declared.item.Item.TheVariants as item
-use Rattle.history_book.proofs.MemberLemmas.{in_front, in_back}
 use Rattle.system_parts.specs.declared.session.State.TheVariants as phase
-use Rattle.system_parts.specs.SessionSteps.{has_key, key_added}
-use Rattle.system_parts.specs.KeyRead.{ReadTurn, Asks, Answers}
 use Rattle.system_parts.specs.declared.instance.Progress.TheVariants as progress
-use Rattle.system_parts.specs.declared.instance.Request.{Request}
-use Rattle.system_parts.specs.declared.instance.Request.TheVariants.{Begin, Commit}
-use Rattle.system_parts.specs.Instance.{session_of}
-use Rattle.machine.specs.declared.event.Event.{Event}
-use Rattle.machine.specs.State.{Client, State}
-use Rattle.machine.specs.Clients.{client_begun, client_handed, unless_gone}
-use Rattle.machine.specs.Machine.{stepped}
 use Rattle.machine.specs.Quiet.{AllQuiet}
-use Rattle.machine.specs.Events.Decide.{draw_item}
-use Rattle.machine.specs.Events.Fetch.{client_read, keeps_read}
-use Rattle.machine.specs.Outcome.OutcomesOfStamps.{AnsweredBegin, answered_begin_state, answered_begin_items}
-use Rattle.machine.specs.Outcome.OutcomesOfWork.{Fetched, fetched_turn, fetched_client, fetched_items, read_turn, read_client}
-use Rattle.machine.specs.Outcome.Outcomes.{Outcome, OfPlaced, OfOwnPlaced, OfAnsweredBegin, OfHanded, OfWrote, OfVanished, OfFetched, OfReadDropped, OfReadStepped, left_by, told_by_outcome}
-use Rattle.machine.proofs.Lookups.{client_set, one_client}
-use Rattle.cause_rules.specs.Asks.{Ask, ask_by, its_ask}
-use Rattle.cause_rules.specs.OwnKeys.{begin_by, begins_for, last_begun, since_begin}
-use Rattle.isolation_laws.specs.Words.{ClientAt, HeldBy}
-use Rattle.isolation_laws.specs.IsolationInvariant.{IsolationInvariant}
-use Rattle.isolation_laws.specs.Sound.{ReachedInvariant}
-use Rattle.isolation_laws.proofs.Requests.ClientsOpen.{WorksNoMore, gone_cases, read_keeps_entry}
-use Rattle.isolation_laws.proofs.Requests.ClientMoves.{ClientsMove, clients_move}
 use Rattle.isolation_laws.proofs.Holding.NoStamps.{NoStamp, quiet_no_stamps}
 use Rattle.isolation_laws.proofs.Holding.Alone.{changes}
 use Rattle.isolation_laws.proofs.Holding.LeftAlone.{alone}
-use Rattle.isolation_laws.proofs.AlwaysHolds.{each_outcome}
-use Rattle.cause_laws.specs.Requests.{ask_for}
-use Rattle.cause_laws.specs.Reads.{AreFetched, AreReadsShown}
-use Rattle.cause_laws.specs.ShownInvariant.{ShownInvariant}
 use Rattle.cause_laws.proofs.SinceWords.{last_told-push, last_told-same, since-more}
 use Rattle.cause_laws.proofs.AskWords.{its_ask-mute, its_ask-push, silent_mute, other_ask, none_unless}
 use Rattle.cause_laws.proofs.NodeTransitionsMute.{one_mute, always_mute, took_mute, crashed_mute, settled_mute, ended_mute, learned_mute}

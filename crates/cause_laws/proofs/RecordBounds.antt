@@ -1,16 +1,11 @@
 -- The master record stays in bounds: what takes, renewals and extensions leave of it.
-use Rattle.std.proofs.Common.{◌≡◌, ℕ, ◌+◌, ◌≤◌, max, Bool, true, false, if◌then◌else◌, Option, Some, None, refl, arith}
-use Rattle.std.specs.Prelude.{◌^◌, IsSome}
-use Rattle.std.proofs.lemmas.Bool.{ltb-false}
-use Rattle.stamp_base.specs.SetupNumbers.{AreInRange}
+use Rattle.cause_laws.proofs.Names.{◌≡◌, ℕ, ◌+◌, ◌≤◌, max, Bool, true, false, if◌then◌else◌, Option, Some, None, refl}
+use Rattle.cause_laws.proofs.Names.{arith, ◌^◌, IsSome, ltb-false, AreInRange, MasterRecord, Leasing, is_early}
+use Rattle.cause_laws.proofs.Names.{is_spent, take_refused, renewed_until, extend_refused, State, rules_of, IsBounded}
 use Rattle.system_parts.specs.declared.record.TakeRefused.{TakeRefused}
 use Rattle.system_parts.specs.declared.record.TakeRefused.TheVariants as take
-use Rattle.system_parts.specs.Record.{MasterRecord, Leasing, is_early, is_spent, take_refused, renewed_until, extend_refused}
-use Rattle.machine.specs.State.{State}
-use Rattle.machine.specs.Events.Take.{rules_of}
 use Rattle.isolation_laws.proofs.Numbers.NumbersOfTakes.{record_taken}
 use Rattle.machine.proofs.Inversions.InversionOfExtensions.{extend_room}
-use Rattle.cause_laws.specs.Bounds.{IsBounded}
 
 -- ---- room in the record for one more range
 granted_room : (early spent : Bool) (why full : TakeRefused) → (if early then Some why else if spent then Some full else None) ≡ None → spent ≡ false

@@ -1,14 +1,9 @@
 -- For cluster_core too.
 -- What takes, renewals, extensions and draws need follows from the bounds and the ranges of instances.
-use Rattle.std.proofs.Common.{◌≢◌, ℕ, ◌+◌, ◌<◌, ◌≤◌, max, List, Option, Some, None, arith}
-use Rattle.std.specs.Prelude.{◌^◌}
-use Rattle.history_book.specs.declared.item.Item.{Item}
-use Rattle.system_parts.specs.Instance.{InstanceEntry}
-use Rattle.machine.specs.State.{State}
-use Rattle.machine.specs.Events.Take.{rules_of}
-use Rattle.cause_laws.specs.ShownInvariant.{ExplainedInvariant}
-use Rattle.cause_laws.specs.RequestCalls.{PostAt}
-use Rattle.cause_laws.specs.Bounds.{Bounded, PartsAreCounted, TakeMayBeMade, RenewalMayBeMade, CanExtend, ExtensionMayBeMade, DrawMayBeMade}
+use Rattle.cause_laws.proofs.Names.{◌≢◌, ℕ, ◌+◌, ◌<◌, ◌≤◌, max, List, Option, Some, None, arith, ◌^◌, Item}
+use Rattle.cause_laws.proofs.Names.{InstanceEntry, State, rules_of, ExplainedInvariant, PostAt, Bounded}
+use Rattle.cause_laws.proofs.Names.{PartsAreCounted, TakeMayBeMade, RenewalMayBeMade, CanExtend, ExtensionMayBeMade}
+use Rattle.cause_laws.proofs.Names.{DrawMayBeMade}
 use Rattle.cause_laws.proofs.RecordBounds.{take_room, extension_room}
 
 pub counted : (w : State) (h : List Item) → ExplainedInvariant w h → Bounded w → PartsAreCounted w

@@ -1,22 +1,12 @@
 -- The history goes on to show the master record: what changed it is told before any fault.
-use Rattle.std.proofs.Common.{◌≡◌, ℕ, ◌+◌, List, ◌∷◌, ◌++◌, Option, Some, None, inl, inr, sym, subst}
-use Rattle.std.specs.Prelude.{IsSome}
-use Rattle.port_io.specs.declared.weather.Fate.{Fate}
-use Rattle.history_book.specs.Members.{◌∈◌}
-use Rattle.history_book.specs.declared.item.Item.{Item}
+use Rattle.cause_laws.proofs.Names.{◌≡◌, ℕ, ◌+◌, List, ◌∷◌, ◌++◌, Option, Some, None, inl, inr, sym, subst, IsSome}
+use Rattle.cause_laws.proofs.Names.{Fate, ◌∈◌, Item, MasterRecord, granted, renewed_until, Event, State, stepped}
+use Rattle.cause_laws.proofs.Names.{rules_of, take_item, IsolationInvariant, ReachedInvariant, fault_if, Outcome}
+use Rattle.cause_laws.proofs.Names.{OfGranted, OfRenewed, OfExtended, left_by, told_by_outcome, each_outcome}
+use Rattle.cause_laws.proofs.Names.{IsRecordShown}
 use Rattle.history_book.specs.declared.item.Item.TheVariants as item
 use Rattle.system_parts.specs.declared.record.Grant.{Grant}
-use Rattle.system_parts.specs.Record.{MasterRecord, granted, held_by, renewed_until}
-use Rattle.machine.specs.declared.event.Event.{Event}
-use Rattle.machine.specs.State.{State}
-use Rattle.machine.specs.Machine.{stepped}
-use Rattle.machine.specs.Events.Take.{rules_of, take_item}
-use Rattle.isolation_laws.specs.IsolationInvariant.{IsolationInvariant}
-use Rattle.isolation_laws.specs.Sound.{ReachedInvariant}
-use Rattle.machine.specs.Outcome.OutcomesOfRecord.{fault_if}
-use Rattle.machine.specs.Outcome.Outcomes.{Outcome, OfGranted, OfRenewed, OfExtended, left_by, told_by_outcome}
-use Rattle.isolation_laws.proofs.AlwaysHolds.{each_outcome}
-use Rattle.cause_laws.specs.Stores.{IsRecordShown}
+use Rattle.system_parts.specs.Record.{held_by}
 use Rattle.cause_laws.proofs.PostWords.{term_taken_on, lease_given_on, ceiling_given_on}
 use Rattle.cause_laws.proofs.LongerHistories.{in_second}
 

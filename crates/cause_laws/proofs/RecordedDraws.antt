@@ -1,16 +1,10 @@
 -- What is recorded in a term was drawn in it, for a transaction that wrote the key.
-use Rattle.std.proofs.Common.{◌≡◌, ℕ, zero, suc, List, [], ◌∷◌, Some, ◌⊎◌, inl, inr, refl, sym, ◌∙◌, ap, subst, arith, Contains}
-use Rattle.std.proofs.lemmas.Bool.{cases_eq}
-use Rattle.std.proofs.lemmas.List.Elements.{Contains-append_cases}
-use Rattle.history_book.specs.Members.{◌∈◌}
-use Rattle.history_book.specs.declared.item.Item.{Item}
-use Rattle.history_book.specs.declared.item.Item.TheVariants.{Draw}
+use Rattle.cause_laws.proofs.Names.{◌≡◌, ℕ, zero, suc, List, [], ◌∷◌, Some, ◌⊎◌, inl, inr, refl, sym, ◌∙◌, ap, subst}
+use Rattle.cause_laws.proofs.Names.{arith, Contains, cases_eq, Contains-append_cases, ◌∈◌, Item, Draw, pair_of}
+use Rattle.cause_laws.proofs.Names.{pairs_of, place_of, last_commit, IsRecordedAt, CommitDrawn, written_keys}
+use Rattle.cause_laws.proofs.Names.{recorded_by, recorded_in, recorded, recorded_by_own, recorded_by_other}
 use Rattle.system_parts.specs.declared.buckets.Recorded.{Recorded}
-use Rattle.system_parts.specs.Buckets.{pair_of, pairs_of, place_of, last_commit, IsRecordedAt}
 use Rattle.system_parts.proofs.LastCommits.{contains_later, last_commit_recorded}
-use Rattle.cause_rules.specs.Commits.{CommitDrawn}
-use Rattle.cause_rules.specs.Written.{written_keys, recorded_by, recorded_in, recorded}
-use Rattle.isolation_laws.proofs.Memory.RecordedCommits.{recorded_by_own, recorded_by_other}
 
 -- a pair of a commit has the commit, and one of its keys
 unpaired : (keys : List ℕ) (commit : ℕ) (pair : Recorded) → Contains (pairs_of keys commit) pair → (pair.commit ≡ commit) × Contains keys pair.key

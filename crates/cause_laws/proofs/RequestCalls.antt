@@ -1,31 +1,16 @@
 -- For cluster_core too.
 -- What asks, the calls of a node on its requests, and its crash need follows from whom requests wait for.
-use Rattle.std.proofs.Common.{◌≡◌, ℕ, List, Option, Some, None, ◌⊎◌, inl, inr, refl, sym, ap, subst}
-use Rattle.std.proofs.lemmas.Option.{same_Some, none-some}
-use Rattle.history_book.specs.declared.item.Item.{Item}
-use Rattle.system_parts.specs.declared.session.State.{State as SessionState}
+use Rattle.cause_laws.proofs.Names.{◌≡◌, ℕ, List, Option, Some, None, ◌⊎◌, inl, inr, refl, sym, ap, subst, same_Some}
+use Rattle.cause_laws.proofs.Names.{none-some, Item, SessionState, begin_refusal, Held, Progress, Request, Begin}
+use Rattle.cause_laws.proofs.Names.{Commit, InstanceEntry, held_of, Client, State, is_reading, Waits, ServesFor}
+use Rattle.cause_laws.proofs.Names.{WaitsAt, HoldsNone, InstanceAt, ClientAt, HasRecord, WaitsFor, IsolationInvariant}
+use Rattle.cause_laws.proofs.Names.{held_by, one_client, in_flight_of, drawn_pending, pending_unplaced, work_open}
+use Rattle.cause_laws.proofs.Names.{ExplainedInvariant, PostAt, BeginMayBeAsked, CommitMayBeAsked, RequestsAreWaitedFor}
+use Rattle.cause_laws.proofs.Names.{PutMayBeMade}
 use Rattle.system_parts.specs.declared.session.State.TheVariants as phase
-use Rattle.system_parts.specs.SessionSteps.{begin_refusal}
-use Rattle.system_parts.specs.declared.instance.Held.{Held}
-use Rattle.system_parts.specs.declared.instance.Progress.{Progress}
 use Rattle.system_parts.specs.declared.instance.Progress.TheVariants as progress
-use Rattle.system_parts.specs.declared.instance.Request.{Request}
-use Rattle.system_parts.specs.declared.instance.Request.TheVariants.{Begin, Commit}
-use Rattle.system_parts.specs.Instance.{InstanceEntry, held_of}
-use Rattle.machine.specs.State.{Client, State}
-use Rattle.machine.specs.Clients.{is_reading}
-use Rattle.machine.specs.Calls.{Waits, WaitsFor as ServesFor, WaitsAt, HoldsNone}
 use Rattle.machine.specs.Events.Put.{to_place, to_place_by}
-use Rattle.isolation_laws.specs.Words.{InstanceAt, ClientAt, HasRecord}
-use Rattle.isolation_laws.specs.Requests.{WaitsFor}
-use Rattle.isolation_laws.specs.IsolationInvariant.{IsolationInvariant}
-use Rattle.machine.proofs.Lookups.{held_by, one_client}
 use Rattle.machine.specs.Outcome.Outcomes.{AtDrawn}
-use Rattle.isolation_laws.proofs.Numbers.NumbersKept.{in_flight_of, drawn_pending}
-use Rattle.isolation_laws.proofs.Owners.{pending_unplaced}
-use Rattle.machine.proofs.Inversions.InversionOfSessions.{work_open}
-use Rattle.cause_laws.specs.ShownInvariant.{ExplainedInvariant}
-use Rattle.cause_laws.specs.RequestCalls.{PostAt, BeginMayBeAsked, CommitMayBeAsked, RequestsAreWaitedFor, PutMayBeMade}
 
 -- ---- who waits
 -- the session of a request that is held

@@ -1,28 +1,14 @@
 -- What a history tells of a request that is held: its ask, the term in which it was accepted, its draw, and how its put
 -- ended. Items that say nothing of its session keep that; the item of each of its steps tells the next.
-use Rattle.std.proofs.Common.{◌≡◌, ◌≢◌, ℕ, ◌==◌, Bool, true, false, if◌then◌else◌, List, [], ◌∷◌, ◌++◌, Option, None, Some, refl, sym, ◌∙◌, ap, subst}
-use Rattle.std.specs.Option.{option_or}
-use Rattle.std.proofs.lemmas.Bool.{eq-eqb}
-use Rattle.stamp_base.specs.SetupNumbers.{SetupNumbers}
-use Rattle.stamp_base.specs.declared.stores.Store.TheVariants.{Table}
-use Rattle.history_book.specs.Members.{◌∈◌}
-use Rattle.history_book.specs.declared.item.Actor.{Actor}
-use Rattle.history_book.specs.declared.item.Actor.TheVariants.{Node}
-use Rattle.history_book.specs.declared.item.Item.{Item}
+use Rattle.cause_laws.proofs.Names.{◌≡◌, ◌≢◌, ℕ, ◌==◌, Bool, true, false, if◌then◌else◌, List, [], ◌∷◌, ◌++◌, Option}
+use Rattle.cause_laws.proofs.Names.{None, Some, refl, sym, ◌∙◌, ap, subst, option_or, eq-eqb, SetupNumbers, Table, ◌∈◌}
+use Rattle.cause_laws.proofs.Names.{Actor, Node, Item, in_front, in_back, in_last, Progress, Request, Begin, Commit}
+use Rattle.cause_laws.proofs.Names.{Settled, InstanceEntry, session_of, stamps_by, drawn_as, draw_item, its_ask}
+use Rattle.cause_laws.proofs.Names.{its_term, its_draw, since_draw, InstanceAt, HeldBy, ask_for, AreAsked, AreFaulted}
+use Rattle.cause_laws.proofs.Names.{WhereNodesPut, ArePutByNodes}
 use Rattle.history_book.specs.declared.item.Item.TheVariants as item
-use Rattle.history_book.proofs.MemberLemmas.{in_front, in_back, in_last}
-use Rattle.system_parts.specs.declared.instance.Progress.{Progress}
 use Rattle.system_parts.specs.declared.instance.Progress.TheVariants as progress
-use Rattle.system_parts.specs.declared.instance.Request.{Request}
-use Rattle.system_parts.specs.declared.instance.Request.TheVariants.{Begin, Commit}
-use Rattle.system_parts.specs.declared.instance.Settled.{Settled}
 use Rattle.system_parts.specs.declared.instance.Settled.TheVariants as how
-use Rattle.system_parts.specs.Instance.{InstanceEntry, session_of, stamps_by}
-use Rattle.system_parts.specs.InstanceSteps.{drawn_as}
-use Rattle.machine.specs.Events.Decide.{draw_item}
-use Rattle.cause_rules.specs.Asks.{its_ask, its_term, its_draw, since_draw}
-use Rattle.isolation_laws.specs.Words.{InstanceAt, HeldBy}
-use Rattle.cause_laws.specs.Requests.{ask_for, AreAsked, AreFaulted, WhereNodesPut, ArePutByNodes}
 use Rattle.cause_laws.proofs.NodeTransitions.{ask_item, fault_of}
 use Rattle.cause_laws.proofs.AskWords.{AllMute, its_ask-mute, its_term-mute, its_draw-mute, since_draw-mute, its_ask-push, its_term-push, its_draw-push}
 

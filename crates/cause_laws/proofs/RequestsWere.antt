@@ -1,18 +1,10 @@
 -- Where the requests come from that are held after a node transition: they were held before, or the node transition changed one of them.
-use Rattle.std.proofs.Common.{◌≡◌, ◌≢◌, ℕ, Bool, List, Option, None, Some, ◌⊎◌, inl, inr, refl, sym, ◌∙◌, ap, subst}
-use Rattle.std.specs.Prelude.{slice_set}
-use Rattle.history_book.specs.declared.item.Item.{Item}
+use Rattle.cause_laws.proofs.Names.{◌≡◌, ◌≢◌, ℕ, Bool, List, Option, None, Some, ◌⊎◌, inl, inr, refl, sym, ◌∙◌, ap}
+use Rattle.cause_laws.proofs.Names.{subst, slice_set, Item, Held, Progress, Request, Begin, Commit, InstanceEntry}
+use Rattle.cause_laws.proofs.Names.{with_request, session_of, Client, State, InstanceAt, HeldBy, ClientAt, WaitsFor}
+use Rattle.cause_laws.proofs.Names.{ReachedInvariant, instance_changed, instance_ended, held_by, one_client}
+use Rattle.cause_laws.proofs.Names.{heldby_changed}
 use Rattle.system_parts.specs.declared.session.State.TheVariants as phase
-use Rattle.system_parts.specs.declared.instance.Held.{Held}
-use Rattle.system_parts.specs.declared.instance.Progress.{Progress}
-use Rattle.system_parts.specs.declared.instance.Request.{Request}
-use Rattle.system_parts.specs.declared.instance.Request.TheVariants.{Begin, Commit}
-use Rattle.system_parts.specs.Instance.{InstanceEntry, with_request, session_of}
-use Rattle.machine.specs.State.{Client, State}
-use Rattle.isolation_laws.specs.Words.{InstanceAt, HeldBy, ClientAt}
-use Rattle.isolation_laws.specs.Requests.{WaitsFor}
-use Rattle.isolation_laws.specs.Sound.{ReachedInvariant}
-use Rattle.machine.proofs.Lookups.{instance_changed, instance_ended, held_by, one_client, heldby_changed}
 use Rattle.cause_laws.proofs.NodeTransitions.{Serving, Asked, Learned}
 use Rattle.cause_laws.proofs.RequestsTold.{Told, AllTold}
 

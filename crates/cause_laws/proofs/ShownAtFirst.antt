@@ -1,21 +1,12 @@
 -- The opening state, of an empty history, has nothing to show.
-use Rattle.std.proofs.Common.{◌≡◌, ℕ, [], Option, None, Some, inl, refl, sym, ◌∙◌, ap}
+use Rattle.cause_laws.proofs.Names.{◌≡◌, ℕ, [], Option, None, Some, inl, refl, sym, ◌∙◌, ap, none-some}
+use Rattle.cause_laws.proofs.Names.{length-replicate, SetupNumbers, ◌∈◌, Vanish, InstanceEntry, Client, client_new}
+use Rattle.cause_laws.proofs.Names.{opening, open_asks_of, ClientAt, Marked, held_count, ShownInvariant}
 use Rattle.std.specs.FinMap as map
 use Rattle.std.specs.Ordering.{nat_cmp}
-use Rattle.std.proofs.lemmas.Option.{none-some}
-use Rattle.std.proofs.lemmas.List.{length-replicate}
-use Rattle.stamp_base.specs.SetupNumbers.{SetupNumbers}
 use Rattle.stamp_base.specs.declared.stores.Mark.TheVariants.{Invalid as InvalidMark}
-use Rattle.history_book.specs.Members.{◌∈◌}
-use Rattle.history_book.specs.declared.item.Item.TheVariants.{Vanish}
 use Rattle.system_parts.specs.declared.session.State.TheVariants as phase
-use Rattle.system_parts.specs.Instance.{InstanceEntry}
-use Rattle.machine.specs.State.{Client, client_new, opening}
-use Rattle.cause_rules.specs.OpenAsks.{open_asks_of}
-use Rattle.isolation_laws.specs.Words.{ClientAt, Marked}
 use Rattle.isolation_laws.proofs.Inversions.InversionSound.{found_copy, none_at}
-use Rattle.cause_laws.specs.Requests.{held_count}
-use Rattle.cause_laws.specs.ShownInvariant.{ShownInvariant}
 
 nobody_asked : (n s : ℕ) (post : Option InstanceEntry) → post ≡ None → open_asks_of [] n s ≡ held_count post s
 nobody_asked n s post none = sym (ap (λ p. held_count p s) none)

@@ -1,35 +1,17 @@
 -- What is due at a decision and at an answer is shown.
-use Rattle.std.proofs.Common.{◌≡◌, ℕ, ◌<◌, Bool, false, List, Option, None, Some, ◌⊎◌, inl, inr, refl, sym, ◌∙◌, ap, subst, arith}
-use Rattle.std.proofs.lemmas.List.{get_or_default}
-use Rattle.std.proofs.lemmas.Option.{same_Some, none-some}
-use Rattle.stamp_base.specs.declared.stores.Store.TheVariants.{Table}
-use Rattle.history_book.specs.Members.{◌∈◌}
-use Rattle.history_book.specs.Isolation.{Committed}
-use Rattle.history_book.specs.declared.cause.Cause.{Cause}
+use Rattle.cause_laws.proofs.Names.{◌≡◌, ℕ, ◌<◌, Bool, false, List, Option, None, Some, ◌⊎◌, inl, inr, refl, sym, ◌∙◌}
+use Rattle.cause_laws.proofs.Names.{ap, subst, arith, get_or_default, same_Some, none-some, Table, ◌∈◌, Committed}
+use Rattle.cause_laws.proofs.Names.{Cause, Item, Draw, Fault, Held, Progress, Request, Begin, Commit, InstanceEntry}
+use Rattle.cause_laws.proofs.Names.{held_of, unsettled_by, unsettled_commit, State, its_draw, since_draw, CeilingGiven}
+use Rattle.cause_laws.proofs.Names.{StampDrawn, placer, ShownReplaced, ShownNoStamp, ShownInvalid, ShownOpen}
+use Rattle.cause_laws.proofs.Names.{ShownNotYet, ShownSpent, InstanceAt, HeldBy, DrewCommit, InFlight, HeldPending, Has}
+use Rattle.cause_laws.proofs.Names.{ReachedInvariant, drawn_once, ShownStop, ShownInvariant, DueStop, DueNoStamp}
+use Rattle.cause_laws.proofs.Names.{DueSettled, DueNotYet}
 use Rattle.history_book.specs.declared.cause.Cause.TheVariants as cause
-use Rattle.history_book.specs.declared.item.Item.{Item}
-use Rattle.history_book.specs.declared.item.Item.TheVariants.{Draw, Fault}
-use Rattle.system_parts.specs.declared.instance.Held.{Held}
-use Rattle.system_parts.specs.declared.instance.Progress.{Progress}
 use Rattle.system_parts.specs.declared.instance.Progress.TheVariants as progress
-use Rattle.system_parts.specs.declared.instance.Request.{Request}
-use Rattle.system_parts.specs.declared.instance.Request.TheVariants.{Begin, Commit}
 use Rattle.system_parts.specs.declared.instance.Settled.TheVariants as how
-use Rattle.system_parts.specs.Instance.{InstanceEntry, held_of, unsettled_by, unsettled_commit}
 use Rattle.system_parts.specs.InstanceLaws.{IsLeastUnsettled}
 use Rattle.system_parts.proofs.InstanceBegins.{least_is_least}
-use Rattle.machine.specs.State.{State}
-use Rattle.cause_rules.specs.Asks.{its_draw, since_draw}
-use Rattle.cause_rules.specs.Posts.{CeilingGiven}
-use Rattle.cause_rules.specs.Commits.{StampDrawn, placer, ShownReplaced, ShownNoStamp, ShownInvalid, ShownOpen, ShownNotYet}
-use Rattle.cause_rules.specs.Refusals.{ShownSpent}
-use Rattle.isolation_laws.specs.Words.{InstanceAt, HeldBy, DrewCommit}
-use Rattle.isolation_laws.specs.Pending.{InFlight, HeldPending, Has}
-use Rattle.isolation_laws.specs.Sound.{ReachedInvariant}
-use Rattle.isolation_laws.proofs.Owners.{drawn_once}
-use Rattle.cause_laws.specs.Nodes.{ShownStop}
-use Rattle.cause_laws.specs.ShownInvariant.{ShownInvariant}
-use Rattle.cause_laws.specs.Due.{DueStop, DueNoStamp, DueSettled, DueNotYet}
 use Rattle.cause_laws.proofs.ShownOfRequests.{node_of, start_of, start_of_begin, term_of, accepted_not_asked, drawn_not_asked}
 
 -- ---- decision

@@ -1,21 +1,7 @@
 -- What a session is told behind the crash of its node is shown by the crash.
-use Rattle.std.proofs.Common.{ℕ, List, ◌∷◌, ◌++◌, inl, inr, refl, sym, ◌∙◌, subst}
-use Rattle.history_book.specs.Members.{◌∈◌}
-use Rattle.history_book.specs.declared.cause.Cause.{Cause}
-use Rattle.history_book.specs.declared.item.Actor.{Actor}
-use Rattle.history_book.specs.declared.item.Actor.TheVariants.{Session}
-use Rattle.history_book.specs.declared.item.Item.{Item}
-use Rattle.history_book.specs.declared.item.Item.TheVariants.{Crash}
-use Rattle.history_book.proofs.MemberLemmas.{in_back}
-use Rattle.system_parts.specs.declared.instance.Progress.{Progress}
-use Rattle.system_parts.specs.declared.instance.Request.{Request}
-use Rattle.system_parts.specs.declared.instance.Request.TheVariants.{Begin, Commit}
-use Rattle.system_parts.specs.Instance.{InstanceEntry}
-use Rattle.machine.specs.State.{State}
-use Rattle.cause_rules.specs.Asks.{since_ask}
-use Rattle.cause_rules.specs.Explained.{ShownCause}
-use Rattle.cause_laws.specs.ShownInvariant.{ShownInvariant}
-use Rattle.cause_laws.specs.Due.{Serves, DueLoss, cause_of_loss}
+use Rattle.cause_laws.proofs.Names.{ℕ, List, ◌∷◌, ◌++◌, inl, inr, refl, sym, ◌∙◌, subst, ◌∈◌, Cause, Actor, Session}
+use Rattle.cause_laws.proofs.Names.{Item, Crash, in_back, Progress, Request, Begin, Commit, InstanceEntry, State}
+use Rattle.cause_laws.proofs.Names.{since_ask, ShownCause, ShownInvariant, Serves, DueLoss, cause_of_loss}
 use Rattle.cause_laws.proofs.AskWords.{AllMute, its_node-mute, its_start-mute, since_ask-mute, crash_mute}
 use Rattle.cause_laws.proofs.ShownOfRequests.{node_of, start_of}
 

@@ -1,17 +1,12 @@
 -- What is due of a node, of a session that asks and of a sweep is shown.
-use Rattle.std.proofs.Common.{◌≡◌, ℕ, zero, suc, ◌+◌, ◌<◌, if◌then◌else◌, List, [], ◌∷◌, Option, None, Some, refl, sym, ◌∙◌, ap, subst, arith}
-use Rattle.std.specs.Prelude.{is_some, length, slice_index_or, count_by}
+use Rattle.cause_laws.proofs.Names.{◌≡◌, ℕ, zero, suc, ◌+◌, ◌<◌, if◌then◌else◌, List, [], ◌∷◌, Option, None, Some, refl}
+use Rattle.cause_laws.proofs.Names.{sym, ◌∙◌, ap, subst, arith, slice_index_or, count_by, Item, Held, in_flight, State}
+use Rattle.cause_laws.proofs.Names.{open_asks_of, open_asks_from, open_asks, TookLast, HasNone, TermTaken, LeaseGiven}
+use Rattle.cause_laws.proofs.Names.{ShownFull, ShownGone, ShownEarly, ShownSpent, ShownHolding, ShownOvertaken}
+use Rattle.cause_laws.proofs.Names.{ReachedInvariant, ShownInvariant, DueFull, DueGone, DueNone, DueEarly, DueSpent}
+use Rattle.cause_laws.proofs.Names.{DueHolding, DueOvertaken}
+use Rattle.std.specs.Prelude.{is_some, length}
 use Rattle.std.proofs.lemmas.List.Recursion.{is_count_by}
-use Rattle.history_book.specs.declared.item.Item.{Item}
-use Rattle.system_parts.specs.declared.instance.Held.{Held}
-use Rattle.system_parts.specs.Instance.{in_flight}
-use Rattle.machine.specs.State.{State}
-use Rattle.cause_rules.specs.OpenAsks.{open_asks_of, open_asks_from, open_asks}
-use Rattle.cause_rules.specs.Posts.{TookLast, HasNone, TermTaken, LeaseGiven}
-use Rattle.cause_rules.specs.Refusals.{ShownFull, ShownGone, ShownEarly, ShownSpent, ShownHolding, ShownOvertaken}
-use Rattle.isolation_laws.specs.Sound.{ReachedInvariant}
-use Rattle.cause_laws.specs.ShownInvariant.{ShownInvariant}
-use Rattle.cause_laws.specs.Due.{DueFull, DueGone, DueNone, DueEarly, DueSpent, DueHolding, DueOvertaken}
 use Rattle.cause_laws.proofs.HeldRecord.{holder_of, replaced_shown, spent_shown}
 
 -- ---- the record

@@ -1,26 +1,12 @@
 -- What a session is told of the placing of its own commit is shown.
-use Rattle.std.proofs.Common.{◌≡◌, ℕ, Bool, true, false, List, [], ◌∷◌, ◌++◌, Option, Some, ◌⊎◌, inl, inr, refl, sym, ◌∙◌, ap, subst}
-use Rattle.std.specs.Option.{option_or}
-use Rattle.std.proofs.lemmas.List.Elements.{All-cons}
-use Rattle.stamp_base.specs.declared.stores.Store.TheVariants.{Table}
-use Rattle.history_book.specs.Members.{◌∈◌}
-use Rattle.history_book.specs.declared.cause.Cause.{Cause}
+use Rattle.cause_laws.proofs.Names.{◌≡◌, ℕ, Bool, true, false, List, [], ◌∷◌, ◌++◌, Option, Some, ◌⊎◌, inl, inr, refl}
+use Rattle.cause_laws.proofs.Names.{sym, ◌∙◌, ap, subst, option_or, All-cons, Table, ◌∈◌, Cause, Actor, Session}
+use Rattle.cause_laws.proofs.Names.{PutFound, Item, in_front, in_back, in_last, State, Ask, its_node, its_start}
+use Rattle.cause_laws.proofs.Names.{its_draw, since_draw, node_asked, start_asked, start_drawn, placer, ShownInvalid}
+use Rattle.cause_laws.proofs.Names.{ShownOpen, ShownToSession, ShownCause, is_placing, ReachedInvariant, AskedToPlace}
+use Rattle.cause_laws.proofs.Names.{ShownInvariant, Places, MetMark, FailedToPlace, HowPlaced, DuePlacing}
 use Rattle.history_book.specs.declared.cause.Cause.TheVariants as cause
-use Rattle.history_book.specs.declared.item.Actor.{Actor}
-use Rattle.history_book.specs.declared.item.Actor.TheVariants.{Session}
-use Rattle.history_book.specs.declared.item.StoreStep.TheVariants.{PutFound}
-use Rattle.history_book.specs.declared.item.Item.{Item}
 use Rattle.history_book.specs.declared.item.Item.TheVariants as item
-use Rattle.history_book.proofs.MemberLemmas.{in_front, in_back, in_last}
-use Rattle.machine.specs.State.{State}
-use Rattle.cause_rules.specs.Asks.{Ask, its_node, its_start, its_draw, since_draw, node_asked, start_asked, start_drawn}
-use Rattle.cause_rules.specs.Commits.{placer, ShownInvalid, ShownOpen}
-use Rattle.cause_rules.specs.Explained.{ShownToSession, ShownCause}
-use Rattle.isolation_laws.specs.Pending.{is_placing}
-use Rattle.isolation_laws.specs.Sound.{ReachedInvariant}
-use Rattle.cause_laws.specs.Requests.{AskedToPlace}
-use Rattle.cause_laws.specs.ShownInvariant.{ShownInvariant}
-use Rattle.cause_laws.specs.Due.{Places, MetMark, FailedToPlace, HowPlaced, DuePlacing}
 use Rattle.cause_laws.proofs.AskWords.{AllMute, Mute, mute_always, its_node-mute, its_start-mute, its_draw-mute, since_draw-mute}
 use Rattle.cause_laws.proofs.NodeTransitionsMute.{always_mute}
 

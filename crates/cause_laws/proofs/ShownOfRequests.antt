@@ -1,32 +1,15 @@
 -- For command_semantics too.
 -- What is due of a request is shown: by its ask, its term and its draw, and by the facts of isolation.
-use Rattle.std.proofs.Common.{◌≡◌, ◌≢◌, ℕ, true, List, [], Option, None, Some, ◌⊎◌, inl, inr, refl, sym, ◌∙◌, ap, subst, Contains}
-use Rattle.std.specs.Option.{option_or}
-use Rattle.std.proofs.lemmas.Bool.{cases_Bool}
-use Rattle.history_book.specs.declared.item.Item.{Item}
-use Rattle.system_parts.specs.declared.buckets.Verdict.{Verdict}
-use Rattle.system_parts.specs.declared.buckets.Verdict.TheVariants.{Free, Conflict, Hidden}
-use Rattle.system_parts.specs.declared.instance.Progress.{Progress}
+use Rattle.cause_laws.proofs.Names.{◌≡◌, ◌≢◌, ℕ, true, List, [], Option, None, Some, ◌⊎◌, inl, inr, refl, sym, ◌∙◌, ap}
+use Rattle.cause_laws.proofs.Names.{subst, Contains, option_or, cases_Bool, Item, Verdict, Free, Conflict, Hidden}
+use Rattle.cause_laws.proofs.Names.{Progress, Request, Begin, Commit, Bucket, contents, verdict, IsShown, InstanceEntry}
+use Rattle.cause_laws.proofs.Names.{State, Ask, its_ask, its_term, its_draw, its_start, its_node, start_asked}
+use Rattle.cause_laws.proofs.Names.{start_drawn, node_asked, written_keys, recorded, WroteOrRead, ShownConflict}
+use Rattle.cause_laws.proofs.Names.{ShownHidden, ShownOldEpoch, ShownExpired, TookLast, LeasedUntil, HeldBy, InFlight}
+use Rattle.cause_laws.proofs.Names.{HeldPending, Taken, ReachedInvariant, recorded_rise, ask_for, AreFetched}
+use Rattle.cause_laws.proofs.Names.{ShownInvariant, Serves, DueVerdict, DueOldEpoch, DueExpired}
 use Rattle.system_parts.specs.declared.instance.Progress.TheVariants as progress
-use Rattle.system_parts.specs.declared.instance.Request.{Request}
-use Rattle.system_parts.specs.declared.instance.Request.TheVariants.{Begin, Commit}
-use Rattle.system_parts.specs.Buckets.{Bucket, contents, verdict, IsShown}
-use Rattle.system_parts.specs.Instance.{InstanceEntry}
 use Rattle.system_parts.proofs.BucketVerdicts.{verdict_shown}
-use Rattle.machine.specs.State.{State}
-use Rattle.cause_rules.specs.Asks.{Ask, its_ask, its_term, its_draw, its_start, its_node, start_asked, start_drawn, node_asked}
-use Rattle.cause_rules.specs.Written.{written_keys, recorded}
-use Rattle.cause_rules.specs.OwnKeys.{WroteOrRead}
-use Rattle.cause_rules.specs.Commits.{ShownConflict, ShownHidden, ShownOldEpoch, ShownExpired}
-use Rattle.cause_rules.specs.Posts.{TookLast, LeasedUntil}
-use Rattle.isolation_laws.specs.Words.{HeldBy}
-use Rattle.isolation_laws.specs.Pending.{InFlight, HeldPending, Taken}
-use Rattle.isolation_laws.specs.Sound.{ReachedInvariant}
-use Rattle.isolation_laws.proofs.Memory.RecordedCommits.{recorded_rise}
-use Rattle.cause_laws.specs.Requests.{ask_for}
-use Rattle.cause_laws.specs.Reads.{AreFetched}
-use Rattle.cause_laws.specs.ShownInvariant.{ShownInvariant}
-use Rattle.cause_laws.specs.Due.{Serves, DueVerdict, DueOldEpoch, DueExpired}
 use Rattle.cause_laws.proofs.HiddenWaters.{refused_first, hidden_water}
 use Rattle.cause_laws.proofs.RecordedDraws.{last_drawn, drawn_at}
 

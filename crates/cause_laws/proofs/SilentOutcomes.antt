@@ -1,26 +1,18 @@
 -- For request_completion too.
 -- Which outcomes tell of requests, commits and instances: all others are silent.
-use Rattle.std.proofs.Common.{◌≡◌, ℕ, ◌+◌, Bool, true, false, List, [], ◌∷◌, Option, refl, sym, subst}
-use Rattle.std.proofs.lemmas.List.Elements.{All-cons, All-append}
-use Rattle.stamp_base.specs.declared.stores.Store.TheVariants.{Master, Table}
-use Rattle.history_book.specs.declared.item.Actor.TheVariants.{Node, Janitor}
-use Rattle.history_book.specs.declared.item.StoreStep.TheVariants.{PutFound, Keys}
-use Rattle.history_book.specs.declared.item.Item.{Item}
+use Rattle.cause_laws.proofs.Names.{◌≡◌, ℕ, ◌+◌, Bool, true, false, List, [], ◌∷◌, Option, refl, sym, subst, All-cons}
+use Rattle.cause_laws.proofs.Names.{All-append, Master, Table, Node, Janitor, PutFound, Keys, Item, renewed_until}
+use Rattle.cause_laws.proofs.Names.{ReadTurn, Asks, Answers, Settled, InstanceEntry, State, found_of, read_items}
+use Rattle.cause_laws.proofs.Names.{rules_of, Silent, AllSilent, none_silent, one_silent, all_silent, StillBy, Rests}
+use Rattle.cause_laws.proofs.Names.{Stops, TellsOne, fault_if, fault_of, found_items, fetched_turn, read_turn, Outcome}
+use Rattle.cause_laws.proofs.Names.{OfStill, OfGranted, OfRenewed, OfExtended, OfCrashed, OfAskedBegin, OfAskedCommit}
+use Rattle.cause_laws.proofs.Names.{OfAccepted, OfEnded, OfDrew, OfPlaced, OfNotPlaced, OfAnsweredBegin}
+use Rattle.cause_laws.proofs.Names.{OfAnsweredCommit, OfHanded, OfOwnPlaced, OfOwnNotPlaced, OfEndedReadOnly, OfWrote}
+use Rattle.cause_laws.proofs.Names.{OfWriteFailed, OfAborted, OfVanished, OfHealed, OfFetched, OfReadDropped}
+use Rattle.cause_laws.proofs.Names.{OfReadStepped, OfOutcome, OfOutcomeFailed, OfCompleted, OfSweepOpened, OfSwept}
+use Rattle.cause_laws.proofs.Names.{OfSweepListed, OfSweepFailed, told_by_outcome}
 use Rattle.history_book.specs.declared.item.Item.TheVariants as item
-use Rattle.system_parts.specs.Record.{renewed_until}
-use Rattle.system_parts.specs.KeyRead.{ReadTurn, Asks, Answers}
-use Rattle.system_parts.specs.declared.instance.Settled.{Settled}
 use Rattle.system_parts.specs.declared.instance.Settled.TheVariants as how
-use Rattle.system_parts.specs.Instance.{InstanceEntry}
-use Rattle.machine.specs.State.{State}
-use Rattle.machine.specs.Events.Fetch.{found_of, read_items}
-use Rattle.machine.specs.Events.Take.{rules_of}
-use Rattle.machine.specs.Plain.{Silent, AllSilent}
-use Rattle.machine.proofs.Outcome.PlainItems.{none_silent, one_silent, all_silent}
-use Rattle.machine.specs.Outcome.OutcomesOfRecord.{StillBy, Rests, Stops, Tells as TellsOne, fault_if}
-use Rattle.machine.specs.Outcome.OutcomesOfStamps.{fault_of, found_items}
-use Rattle.machine.specs.Outcome.OutcomesOfWork.{fetched_turn, read_turn}
-use Rattle.machine.specs.Outcome.Outcomes.{Outcome, OfStill, OfGranted, OfRenewed, OfExtended, OfCrashed, OfAskedBegin, OfAskedCommit, OfAccepted, OfEnded, OfDrew, OfPlaced, OfNotPlaced, OfAnsweredBegin, OfAnsweredCommit, OfHanded, OfOwnPlaced, OfOwnNotPlaced, OfEndedReadOnly, OfWrote, OfWriteFailed, OfAborted, OfVanished, OfHealed, OfFetched, OfReadDropped, OfReadStepped, OfOutcome, OfOutcomeFailed, OfCompleted, OfSweepOpened, OfSwept, OfSweepListed, OfSweepFailed, told_by_outcome}
 
 -- ---- items that some outcomes share
 pub fault_if_silent : (failed : Bool) (node : ℕ) → AllSilent (fault_if failed node)

@@ -1,13 +1,9 @@
 -- For request_completion, command_semantics and log_refinement too.
 -- What a history told last, and what stands in it since an item, after more items.
-use Rattle.std.proofs.Common.{◌≡◌, refl, fold, Bool, true, false, if◌then◌else◌, List, [], ◌∷◌, ◌++◌, append_assoc, Option, None, sym, ◌∙◌, ap}
-use Rattle.std.specs.Option.{option_or}
-use Rattle.std.specs.Prelude.{All}
-use Rattle.std.proofs.lemmas.List.{append-nil}
-use Rattle.std.proofs.lemmas.List.Elements.{All-head, All-tail}
-use Rattle.std.proofs.lemmas.List.Sums.{fold_push, fold-append}
-use Rattle.history_book.specs.declared.item.Item.{Item}
-use Rattle.cause_rules.specs.Since.{told_then, last_told, since_then, since}
+use Rattle.cause_laws.proofs.Names.{◌≡◌, refl, Bool, true, false, if◌then◌else◌, List, [], ◌∷◌, ◌++◌, append_assoc}
+use Rattle.cause_laws.proofs.Names.{Option, None, sym, ◌∙◌, ap, option_or, All, append-nil, All-head, All-tail}
+use Rattle.cause_laws.proofs.Names.{fold_push, fold-append, Item, told_then, last_told, since_then, since}
+use Rattle.std.proofs.Common.{fold}
 
 -- ---- one more item
 pub last_told-push : {A : Type 0} (told : Item → Option A) (h : List Item) (x : Item) → last_told told (h ++ x ∷ []) ≡ option_or (told x) (last_told told h)

@@ -1,38 +1,21 @@
 -- For cluster_core too.
 -- What a session's step needs: something is asked next, and it fits the session's state.
-use Rattle.std.proofs.Common.{◌≡◌, ◌≢◌, ℕ, Bool, true, false, IsTrue, if◌then◌else◌, List, [], ◌∷◌, Option, Some, None, inl, inr, refl, sym, ◌∙◌, ap, subst, arith}
-use Rattle.std.proofs.lemmas.Option.{same_Some}
-use Rattle.stamp_base.specs.declared.stores.Store.TheVariants.{Cells}
-use Rattle.history_book.specs.Isolation.{Committed}
-use Rattle.history_book.specs.declared.cause.Cause.TheVariants.{Idle}
-use Rattle.history_book.specs.declared.item.Actor.TheVariants.{Session}
-use Rattle.history_book.specs.declared.item.Item.{Item}
-use Rattle.history_book.specs.declared.item.Item.TheVariants.{Fault}
+use Rattle.cause_laws.proofs.Names.{◌≡◌, ◌≢◌, ℕ, Bool, true, false, IsTrue, if◌then◌else◌, List, [], ◌∷◌, Option, Some}
+use Rattle.cause_laws.proofs.Names.{None, inl, inr, refl, sym, ◌∙◌, ap, subst, arith, same_Some, Cells, Committed, Idle}
+use Rattle.cause_laws.proofs.Names.{Session, Item, Fault, SettlePoint, SessionState, ask_at, EndsFrom, step_refusal}
+use Rattle.cause_laws.proofs.Names.{has_transaction, handed_by, handed_commit, UnderWay, Nothing, Reads, Settles}
+use Rattle.cause_laws.proofs.Names.{Completes, Client, State, is_reading, is_reading_by, client_freed, MayStep, CanWork}
+use Rattle.cause_laws.proofs.Names.{own_resolve, work_by, work_of, next_of, store_asked, asked_next, ClientAt, Has}
+use Rattle.cause_laws.proofs.Names.{is_placing, IsPending, IsolationInvariant, pending_unplaced, one_silent}
+use Rattle.cause_laws.proofs.Names.{completed_fills, marks_same, ExplainedInvariant, StepMayBeMade, PlacingMayBeMade}
 use Rattle.system_parts.specs.declared.asks.Ask.{Ask}
 use Rattle.system_parts.specs.declared.asks.Ask.TheVariants.{Shadow}
-use Rattle.system_parts.specs.declared.resolve.SettlePoint.{SettlePoint}
 use Rattle.system_parts.specs.declared.resolve.SettlePoint.TheVariants as point
-use Rattle.system_parts.specs.declared.session.State.{State as SessionState}
 use Rattle.system_parts.specs.declared.session.State.TheVariants as phase
 use Rattle.system_parts.specs.Completion.{finish_asks, undo_asks, first_ask}
-use Rattle.system_parts.specs.Resolve.{ask_at}
-use Rattle.system_parts.specs.SessionSteps.{EndsFrom, step_refusal, has_transaction, handed_by, handed_commit}
-use Rattle.machine.specs.State.{UnderWay, Nothing, Reads, Settles, Completes, Client, State}
-use Rattle.machine.specs.Clients.{is_reading, is_reading_by, client_freed}
-use Rattle.machine.specs.Calls.{MayStep, CanWork}
-use Rattle.machine.specs.Events.Step.{own_resolve, work_by, work_of, next_of, store_asked, asked_next}
-use Rattle.isolation_laws.specs.Words.{ClientAt}
-use Rattle.isolation_laws.specs.Pending.{Has, is_placing, IsPending}
-use Rattle.isolation_laws.specs.IsolationInvariant.{IsolationInvariant}
-use Rattle.isolation_laws.proofs.Owners.{pending_unplaced}
 use Rattle.machine.proofs.Outcome.QuietItems.{one_quiet}
-use Rattle.machine.proofs.Outcome.PlainItems.{one_silent}
 use Rattle.machine.specs.Fits.{IsWork}
 use Rattle.isolation_laws.proofs.Inversions.StepsFitting.{work_fits}
-use Rattle.isolation_laws.proofs.Stores.StoresStay.{completed_fills}
-use Rattle.machine.proofs.MarksTold.{marks_same}
-use Rattle.cause_laws.specs.ShownInvariant.{ExplainedInvariant}
-use Rattle.cause_laws.specs.StoreCalls.{StepMayBeMade, PlacingMayBeMade}
 use Rattle.cause_laws.proofs.StoreCalls.{only_shadow, keeps_next}
 
 -- ---- something is asked

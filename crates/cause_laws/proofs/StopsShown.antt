@@ -1,18 +1,9 @@
 -- Each node transition keeps that the refusals which instances keep are shown: a later term was taken, or the ceiling is spent.
-use Rattle.std.proofs.Common.{◌≡◌, ℕ, ◌+◌, ◌^◌, List, ◌++◌, Option, Some, None, inl, inr, refl, sym, subst}
-use Rattle.std.specs.Option.{option_or}
-use Rattle.std.proofs.lemmas.Bool.{ltb-true}
-use Rattle.std.proofs.lemmas.Option.{same_Some, none-some}
-use Rattle.stamp_base.specs.SetupNumbers.{SetupNumbers}
-use Rattle.history_book.specs.declared.cause.Cause.{Cause}
-use Rattle.history_book.specs.declared.cause.Cause.TheVariants.{Replaced, Spent}
-use Rattle.history_book.specs.declared.item.Item.{Item}
-use Rattle.system_parts.specs.Instance.{InstanceEntry}
-use Rattle.machine.specs.State.{State}
-use Rattle.isolation_laws.specs.Sound.{ReachedInvariant}
-use Rattle.cause_rules.specs.Refusals.{ShownSpent}
-use Rattle.cause_laws.specs.Nodes.{ShownStop, AreShownStops}
-use Rattle.cause_laws.specs.ShownInvariant.{ShownInvariant}
+use Rattle.cause_laws.proofs.Names.{◌≡◌, ℕ, ◌+◌, List, ◌++◌, Option, Some, None, inl, inr, refl, sym, subst, option_or}
+use Rattle.cause_laws.proofs.Names.{ltb-true, same_Some, none-some, SetupNumbers, Cause, Replaced, Spent, Item}
+use Rattle.cause_laws.proofs.Names.{InstanceEntry, State, ReachedInvariant, ShownSpent, ShownStop, AreShownStops}
+use Rattle.cause_laws.proofs.Names.{ShownInvariant}
+use Rattle.std.proofs.Common.{◌^◌}
 use Rattle.cause_laws.proofs.NodeTransitions.{NodeTransition, OfStopped, Stopped, nodes_by, items_by}
 use Rattle.cause_laws.proofs.PostWords.{term_taken_on, ceiling_given_on}
 use Rattle.cause_laws.proofs.PostMoves.{KeptBy, each_by}

@@ -1,38 +1,24 @@
 -- For cluster_core too.
 -- What the calls of sessions and of the janitor on the stores need follows from the facts of cells and of what is under way.
-use Rattle.std.proofs.Common.{◌≡◌, ℕ, ◌<◌, ◌≤◌, Bool, true, false, List, [], ◌∷◌, Option, Some, None, inl, inr, refl, sym, subst, arith}
-use Rattle.std.specs.Prelude.{All, IfSome}
-use Rattle.std.proofs.lemmas.Option.{none-some}
-use Rattle.std.proofs.lemmas.List.Elements.{All-nil, All-cons, All-head, All-tail}
+use Rattle.cause_laws.proofs.Names.{◌≡◌, ℕ, ◌<◌, ◌≤◌, Bool, true, false, List, [], ◌∷◌, Option, Some, None, inl, inr}
+use Rattle.cause_laws.proofs.Names.{refl, sym, subst, arith, All, IfSome, none-some, All-nil, All-cons, All-head}
+use Rattle.cause_laws.proofs.Names.{All-tail, Committed, Stamped, last_write, Item, SettlePoint, SessionState, Reading}
+use Rattle.cause_laws.proofs.Names.{may_mark, work_refusal, key_refusal, Client, State, is_reading, KeepsShadowNext}
+use Rattle.cause_laws.proofs.Names.{ClientAt, epoch_or_none, cell_with, IsOpen, IsolationInvariant, Sound, swept_fills}
+use Rattle.cause_laws.proofs.Names.{work_open, write_may, ExplainedInvariant, WriteMayBeMade, HealMayBeMade}
+use Rattle.cause_laws.proofs.Names.{ReadsFetched, ReadMayGoOn, SweepMayStep}
 use Rattle.std.specs.Bool.{IsTrue}
-use Rattle.history_book.specs.Isolation.{Committed, Stamped, last_write}
-use Rattle.history_book.specs.declared.item.Item.{Item}
 use Rattle.system_parts.specs.declared.rows.Cell.{Cell}
 use Rattle.system_parts.specs.Rows.{Row, looked, IsBare, HasOnly}
 use Rattle.system_parts.specs.declared.asks.Ask.{Ask}
 use Rattle.system_parts.specs.declared.asks.Ask.TheVariants as ask
-use Rattle.system_parts.specs.declared.resolve.SettlePoint.{SettlePoint}
 use Rattle.system_parts.specs.declared.resolve.SettlePoint.TheVariants.{Marking}
-use Rattle.system_parts.specs.declared.session.State.{State as SessionState}
 use Rattle.system_parts.specs.declared.session.State.TheVariants as phase
-use Rattle.system_parts.specs.KeyRead.{Reading, may_mark}
 use Rattle.system_parts.specs.Sweep.{Sweeping, sweep_ask}
-use Rattle.system_parts.specs.SessionSteps.{work_refusal, key_refusal}
-use Rattle.machine.specs.State.{Client, State}
-use Rattle.machine.specs.Clients.{is_reading}
-use Rattle.machine.specs.Calls.{KeepsShadowNext}
 use Rattle.machine.specs.Events.Heal.{offer_by, offer_of}
-use Rattle.isolation_laws.specs.Words.{ClientAt, epoch_or_none, cell_with}
-use Rattle.isolation_laws.specs.Pending.{IsOpen}
 use Rattle.isolation_laws.specs.Cells.{AreRows}
 use Rattle.isolation_laws.specs.Reads.{IsReading, IsResolvedTo}
-use Rattle.isolation_laws.specs.IsolationInvariant.{IsolationInvariant}
-use Rattle.isolation_laws.specs.Sound.{Sound}
 use Rattle.isolation_laws.proofs.OnceEach.{one_commit}
-use Rattle.isolation_laws.proofs.Stores.StoresStay.{swept_fills}
-use Rattle.machine.proofs.Inversions.InversionOfSessions.{work_open, write_may}
-use Rattle.cause_laws.specs.ShownInvariant.{ExplainedInvariant}
-use Rattle.cause_laws.specs.StoreCalls.{WriteMayBeMade, HealMayBeMade, ReadsFetched, ReadMayGoOn, SweepMayStep}
 
 -- ---- the only shadow that a cell may have
 shadow_only : (rows : List Row) (h : List Item) (k t commit : ℕ) (cell : Cell) → AreRows rows h → Stamped h → Committed h t commit → looked rows k t ≡ Some cell → (shadow : Option ℕ) → cell.shadow ≡ shadow → IfSome shadow (λ there. there ≡ commit)

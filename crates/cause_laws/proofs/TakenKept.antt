@@ -1,20 +1,9 @@
 -- Each node transition keeps what the history shows of instances: their last take, their lease, and that they have not crashed.
-use Rattle.std.proofs.Common.{◌≡◌, ℕ, ◌+◌, ◌≤◌, max, Bool, true, false, List, [], ◌∷◌, ◌++◌, inl, inr, refl, sym, subst, arith}
-use Rattle.std.proofs.lemmas.List.Elements.{All-nil}
-use Rattle.system_parts.specs.Record.{granted}
-use Rattle.history_book.specs.Members.{◌∈◌}
-use Rattle.history_book.specs.declared.item.Item.{Item}
+use Rattle.cause_laws.proofs.Names.{◌≡◌, ℕ, ◌+◌, ◌≤◌, max, Bool, true, false, List, [], ◌∷◌, ◌++◌, inl, inr, refl, sym}
+use Rattle.cause_laws.proofs.Names.{subst, arith, All-nil, granted, ◌∈◌, Item, in_last, InstanceEntry, instance_renewed}
+use Rattle.cause_laws.proofs.Names.{State, rules_of, instance_of, take_item, InstanceAt, ReachedInvariant, takes_for}
+use Rattle.cause_laws.proofs.Names.{since_take, TookLast, LeasedUntil, StandsSince, AreTaken, ShownInvariant}
 use Rattle.history_book.specs.declared.item.Item.TheVariants as item
-use Rattle.history_book.proofs.MemberLemmas.{in_last}
-use Rattle.system_parts.specs.Instance.{InstanceEntry}
-use Rattle.system_parts.specs.InstanceSteps.{instance_renewed}
-use Rattle.machine.specs.State.{State}
-use Rattle.machine.specs.Events.Take.{rules_of, instance_of, take_item}
-use Rattle.isolation_laws.specs.Words.{InstanceAt}
-use Rattle.isolation_laws.specs.Sound.{ReachedInvariant}
-use Rattle.cause_rules.specs.Posts.{takes_for, since_take, TookLast, LeasedUntil, StandsSince}
-use Rattle.cause_laws.specs.Nodes.{AreTaken}
-use Rattle.cause_laws.specs.ShownInvariant.{ShownInvariant}
 use Rattle.cause_laws.proofs.NodeTransitions.{NodeTransition, OfRenewed, Granted, Renewed, fault_if, renewed_to, nodes_by, items_by}
 use Rattle.cause_laws.proofs.PostWords.{NoTakes, NoCrashes, since_take_on, took_on, leased_on, stands_on, last_take_new, since_take_new}
 use Rattle.cause_laws.proofs.PostItems.{calm_no_takes}

@@ -1,21 +1,9 @@
 -- Each node transition keeps that a node without an instance has taken no term since its last crash, or that its last take failed.
-use Rattle.std.proofs.Common.{◌≡◌, ◌≢◌, ℕ, Bool, true, false, List, [], ◌∷◌, ◌++◌, Some, None, inl, inr, refl, sym, subst}
-use Rattle.std.specs.Prelude.{slice_get, slice_set}
-use Rattle.std.proofs.lemmas.Bool.{cases_eq}
-use Rattle.std.proofs.lemmas.Option.{none-some}
-use Rattle.stamp_base.specs.declared.stores.Store.TheVariants.{Master}
-use Rattle.system_parts.specs.Record.{granted}
-use Rattle.history_book.specs.declared.item.Actor.TheVariants.{Node}
-use Rattle.history_book.specs.declared.item.Item.{Item}
+use Rattle.cause_laws.proofs.Names.{◌≡◌, ◌≢◌, ℕ, Bool, true, false, List, [], ◌∷◌, ◌++◌, Some, None, inl, inr, refl}
+use Rattle.cause_laws.proofs.Names.{sym, subst, slice_get, slice_set, cases_eq, none-some, Master, granted, Node, Item}
+use Rattle.cause_laws.proofs.Names.{InstanceEntry, State, rules_of, take_item, ReachedInvariant, set_cases, HasNone}
+use Rattle.cause_laws.proofs.Names.{AreVacant, ShownInvariant}
 use Rattle.history_book.specs.declared.item.Item.TheVariants as item
-use Rattle.system_parts.specs.Instance.{InstanceEntry}
-use Rattle.machine.specs.State.{State}
-use Rattle.machine.specs.Events.Take.{rules_of, take_item}
-use Rattle.isolation_laws.specs.Sound.{ReachedInvariant}
-use Rattle.machine.proofs.Lookups.{set_cases}
-use Rattle.cause_rules.specs.Posts.{HasNone}
-use Rattle.cause_laws.specs.Nodes.{AreVacant}
-use Rattle.cause_laws.specs.ShownInvariant.{ShownInvariant}
 use Rattle.cause_laws.proofs.NodeTransitions.{NodeTransition, OfRested, OfTook, OfRenewed, OfWidened, OfStopped, OfCrashed, OfAsked, OfAccepted, OfDrew, OfSettled, OfTold, OfEnded, OfLearned, Granted, Crashed, granted_nodes, took_items, fault_if, now_at, nodes_by, items_by}
 use Rattle.cause_laws.proofs.PostWords.{since_take_new, none_on, none_crashed}
 use Rattle.cause_laws.proofs.PostItems.{AllCalm, calm_one, calm_no_takes, crash_no_takes}

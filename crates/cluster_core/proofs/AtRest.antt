@@ -1,15 +1,10 @@
 -- The stores of a state that is reached stand at rest with its history.
-use Rattle.std.proofs.Common.{◌≡◌, ℕ, ◌⊎◌, inl, inr, ⊎_elim, refl, sym, ap, ◌∙◌, List}
+use Rattle.cluster_core.proofs.Names.{◌≡◌, ℕ, ◌⊎◌, inl, inr, ⊎_elim, refl, sym, ap, ◌∙◌, List, none-some, Item, looked}
+use Rattle.cluster_core.proofs.Names.{Pairs, cell_with, HasRecord, State}
 use Rattle.std.specs.Prelude.{Option, None, Some}
-use Rattle.std.proofs.lemmas.Option.{none-some}
 use Rattle.history_book.specs.Isolation.{last_write}
-use Rattle.history_book.specs.declared.item.Item.{Item}
 use Rattle.system_parts.specs.declared.rows.Cell.{Cell}
-use Rattle.system_parts.specs.Rows.{looked}
-use Rattle.system_parts.specs.Pairs.{Pairs}
-use Rattle.isolation_laws.specs.Words.{cell_with, HasRecord}
 use Rattle.isolation_laws.specs.Cells.{AreShadowed}
-use Rattle.machine.specs.State.{State}
 use Rattle.isolation_laws.specs.Sound.{ReachedInvariant}
 use Rattle.cell_compaction.specs.Rest.{IsWritten, StandsAtRest}
 

@@ -1,27 +1,12 @@
 -- For this crate's own proofs.
 -- The fate that an event meets is the first that its store has ahead; where it asks none, any would do.
-use Rattle.std.proofs.Common.{◌≡◌, ℕ, List, Option, Some, None, Result, refl, sym, subst}
-use Rattle.stamp_base.specs.SetupNumbers.{SetupNumbers}
-use Rattle.stamp_base.specs.declared.stores.Store.{Store}
-use Rattle.stamp_base.specs.declared.stores.Store.TheVariants.{Cells, Table, Master}
-use Rattle.port_io.specs.declared.weather.Fate.{Fate}
-use Rattle.history_book.specs.declared.cause.Cause.{Cause}
-use Rattle.history_book.specs.declared.item.Item.{Item}
-use Rattle.system_parts.specs.Rows.{Row}
-use Rattle.system_parts.specs.Pairs.{Pairs}
-use Rattle.system_parts.specs.Record.{MasterRecord}
-use Rattle.system_parts.specs.Instance.{InstanceEntry, held_of}
-use Rattle.machine.specs.State.{Client}
-use Rattle.machine.specs.Effect.{Effect}
-use Rattle.machine.specs.Events.Take.{take_on, take_asks}
-use Rattle.machine.specs.Events.Renew.{renew_on, renew_asks}
-use Rattle.machine.specs.Events.Extend.{extend_on, extend_asks}
-use Rattle.machine.specs.Events.Put.{put_on, put_commit, to_place, commit_asks, put_asks}
-use Rattle.machine.specs.Events.Write.{write_on, write_open, write_refused, write_asks, open_asks}
-use Rattle.machine.specs.Events.Fetch.{fetch_on, fetch_open, fetch_asks, fetch_refused, epoch_asks}
-use Rattle.machine.specs.Events.Heal.{heal_on, heal_at, heal_asks, offer_of, offer_asks}
-use Rattle.event_parts.specs.Made.{Makes, fate_ahead}
-use Rattle.event_parts.specs.declared.stopped.Stopped.{Stopped}
+use Rattle.cluster_core.proofs.Names.{◌≡◌, ℕ, List, Option, Some, None, Result, refl, sym, subst, SetupNumbers, Store}
+use Rattle.cluster_core.proofs.Names.{Cells, Table, Master, Fate, Cause, Item, Row, Pairs, MasterRecord, InstanceEntry}
+use Rattle.cluster_core.proofs.Names.{held_of, Client, Effect, take_on, take_asks, renew_on, renew_asks, extend_on}
+use Rattle.cluster_core.proofs.Names.{extend_asks, put_on, put_commit, to_place, commit_asks, put_asks, write_on}
+use Rattle.cluster_core.proofs.Names.{write_open, write_refused, write_asks, open_asks, fetch_on, fetch_open}
+use Rattle.cluster_core.proofs.Names.{fetch_asks, fetch_refused, epoch_asks, heal_on, heal_at, heal_asks, offer_of}
+use Rattle.cluster_core.proofs.Names.{offer_asks, Makes, fate_ahead, Stopped}
 
 pub by_fate : {P : Type 0} → (effect other : Effect P) (old now : P) (before after : List Item) (result : Result Unit Stopped) → effect ≡ other → Makes other old now before after result → Makes effect old now before after result
 by_fate effect other old now before after result same made = subst (λ (e : Effect _). Makes e old now before after result) (sym same) made

@@ -1,3 +1,4 @@
+mod Names
 pub mod PutBack
 pub mod PartsTouched
 pub mod Fates

@@ -1,21 +1,12 @@
 -- What requests may still append, and how its sum goes when the history grows and when one request moves on.
-use Rattle.std.proofs.Common.{◌≡◌, ℕ, zero, suc, ◌+◌, ◌≤◌, ◌||◌, Bool, true, false, List, [], ◌∷◌, ◌++◌, Option, Some, None, refl, ap, arith}
-use Rattle.std.specs.Prelude.{slice_get, slice_set, slice_index_or, replicate}
-use Rattle.std.specs.List.{sum_by}
+use Rattle.cluster_core.proofs.Names.{◌≡◌, ℕ, zero, suc, ◌+◌, ◌≤◌, ◌||◌, Bool, true, false, List, [], ◌∷◌, ◌++◌, Option}
+use Rattle.cluster_core.proofs.Names.{Some, None, refl, ap, arith, slice_get, slice_set, slice_index_or, replicate}
+use Rattle.cluster_core.proofs.Names.{sum_by, same_Some, sum_by-cons, Item, Held, Progress, Asked, Accepted, Drawn}
+use Rattle.cluster_core.proofs.Names.{Settled, Handed, Request, Begin, Commit, How, InstanceEntry, once, is_record_of}
+use Rattle.cluster_core.proofs.Names.{was_placed, told_besides, spent, need_by, need, needs_of}
 use Rattle.std.proofs.lemmas.Bool.{eq-eqb}
-use Rattle.std.proofs.lemmas.Option.{same_Some}
-use Rattle.std.proofs.lemmas.List.Sums.{sum_by-cons}
-use Rattle.history_book.specs.declared.item.Item.{Item}
 use Rattle.history_book.specs.declared.item.Item.TheVariants.{Placed}
-use Rattle.system_parts.specs.declared.instance.Held.{Held}
-use Rattle.system_parts.specs.declared.instance.Progress.{Progress}
-use Rattle.system_parts.specs.declared.instance.Progress.TheVariants.{Asked, Accepted, Drawn, Settled, Handed}
-use Rattle.system_parts.specs.declared.instance.Request.{Request}
-use Rattle.system_parts.specs.declared.instance.Request.TheVariants.{Begin, Commit}
-use Rattle.system_parts.specs.declared.instance.Settled.{Settled as How}
 use Rattle.system_parts.specs.declared.instance.Settled.TheVariants as how
-use Rattle.system_parts.specs.Instance.{InstanceEntry}
-use Rattle.cluster_core.specs.Room.{once, is_record_of, was_placed, told_besides, spent, need_by, need, needs_of}
 
 -- ---- a commit that stands in the history stands in a longer one
 or_up : (a b c : Bool) → (b ≡ true → c ≡ true) → a || b ≡ true → a || c ≡ true

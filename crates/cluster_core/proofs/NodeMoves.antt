@@ -1,38 +1,19 @@
 -- What each event makes of the requests of all nodes.
-use Rattle.std.proofs.Common.{◌≡◌, ℕ, ◌+◌, ◌≤◌, Bool, true, false, List, [], ◌++◌, Option, Some, None, inl, inr, ◌⊎◌, refl, sym, ap, subst, ◌∙◌, arith}
-use Rattle.std.specs.Prelude.{slice_get, slice_set, IsTrue}
-use Rattle.std.specs.List.{sum_by}
+use Rattle.cluster_core.proofs.Names.{◌≡◌, ℕ, ◌+◌, ◌≤◌, Bool, true, false, List, [], ◌++◌, Option, Some, None, inl, inr}
+use Rattle.cluster_core.proofs.Names.{◌⊎◌, refl, sym, ap, subst, ◌∙◌, arith, slice_get, slice_set, IsTrue, sum_by}
+use Rattle.cluster_core.proofs.Names.{none-some, Fate, Item, Places, InstanceEntry, held_of, Client, State, Event}
+use Rattle.cluster_core.proofs.Names.{held_at, Step, step_by, with_post, with_client, with_reading, at_post, at_both}
+use Rattle.cluster_core.proofs.Names.{stepped, take_on, renew_on, extend_on, ask_begin_on, ask_commit_on, accept_on}
+use Rattle.cluster_core.proofs.Names.{decide_on, put_on, answer_on, is_to_decide, is_to_put, is_to_answer, is_direct}
+use Rattle.cluster_core.proofs.Names.{HeldHasPlace, InstanceAt, instance_set, need, needs_of, start_to_place}
+use Rattle.cluster_core.proofs.Names.{held_found, direct_found}
 use Rattle.std.specs.FinSet as set
-use Rattle.std.proofs.lemmas.Option.{none-some}
-use Rattle.port_io.specs.declared.weather.Fate.{Fate}
-use Rattle.history_book.specs.declared.item.Item.{Item}
-use Rattle.system_parts.specs.Pairs.{Places}
 use Rattle.system_parts.specs.SessionSteps.{begin_refusal, work_refusal}
-use Rattle.system_parts.specs.Instance.{InstanceEntry, held_of}
-use Rattle.machine.specs.State.{Client, State}
 use Rattle.machine.specs.Clients.{is_reading}
-use Rattle.machine.specs.declared.event.Event.{Event}
 use Rattle.machine.specs.declared.event.Event.TheVariants as event
 use Rattle.machine.specs.Laws.{touches_nodes}
-use Rattle.machine.specs.Readers.{held_at}
-use Rattle.machine.specs.Machine.{Step, step_by, with_post, with_client, with_reading, at_post, at_both, stepped}
-use Rattle.machine.specs.Events.Take.{take_on}
-use Rattle.machine.specs.Events.Renew.{renew_on}
-use Rattle.machine.specs.Events.Extend.{extend_on}
 use Rattle.machine.specs.Events.Crash.{crash_on}
-use Rattle.machine.specs.Events.AskBegin.{ask_begin_on}
-use Rattle.machine.specs.Events.AskCommit.{ask_commit_on}
-use Rattle.machine.specs.Events.Accept.{accept_on}
-use Rattle.machine.specs.Events.Decide.{decide_on}
-use Rattle.machine.specs.Events.Put.{put_on}
-use Rattle.machine.specs.Events.Answer.{answer_on}
 use Rattle.machine.proofs.PartsKept.{leaves_parts}
-use Rattle.event_parts.specs.Served.{is_to_decide, is_to_put, is_to_answer}
-use Rattle.node_events.specs.Reserved.{is_direct, HeldHasPlace}
-use Rattle.isolation_laws.specs.Words.{InstanceAt}
-use Rattle.machine.proofs.Lookups.{instance_set}
-use Rattle.cluster_core.specs.Room.{need, needs_of, start_to_place}
-use Rattle.cluster_core.specs.Served.{held_found, direct_found}
 use Rattle.cluster_core.proofs.Needs.{set_sum}
 use Rattle.cluster_core.proofs.RequestMoves.{requests_of, start_of, PostBecame, stayed, ended, spends, gains, take_leaves, renew_leaves, extend_leaves, begin_leaves, commits_leave, accept_leaves, decide_leaves, answer_leaves, put_leaves}
 

@@ -1,20 +1,11 @@
 -- A commit that is accepted or drawn, and that the oracle is to place, has its start for itself.
-use Rattle.std.proofs.Common.{◌≡◌, ℕ, Bool, true, false, List, Option, Some, None, inl, refl, ap, subst, ◌∙◌}
-use Rattle.std.proofs.lemmas.Option.{same_Some, none-some}
-use Rattle.history_book.specs.declared.item.Item.{Item}
-use Rattle.system_parts.specs.declared.instance.Held.{Held}
-use Rattle.system_parts.specs.declared.instance.Progress.{Progress}
-use Rattle.system_parts.specs.declared.instance.Progress.TheVariants.{Asked, Accepted, Drawn, Settled, Handed}
-use Rattle.system_parts.specs.declared.instance.Request.{Request}
-use Rattle.system_parts.specs.declared.instance.Request.TheVariants.{Begin, Commit}
-use Rattle.system_parts.specs.Instance.{InstanceEntry, held_of}
-use Rattle.machine.specs.State.{State}
-use Rattle.isolation_laws.specs.Words.{InstanceAt, HeldBy, Begun}
+use Rattle.cluster_core.proofs.Names.{◌≡◌, ℕ, Bool, true, false, List, Option, Some, None, inl, refl, ap, subst, ◌∙◌}
+use Rattle.cluster_core.proofs.Names.{same_Some, none-some, Item, Held, Progress, Asked, Accepted, Drawn, Settled}
+use Rattle.cluster_core.proofs.Names.{Handed, Request, Begin, Commit, InstanceEntry, held_of, State, InstanceAt, HeldBy}
+use Rattle.cluster_core.proofs.Names.{Begun, IsolationInvariant, held_by, commit_own, unless_direct, start_by}
+use Rattle.cluster_core.proofs.Names.{start_to_place}
 use Rattle.isolation_laws.specs.Pending.{Taken, Has, InFlight, HeldPending}
-use Rattle.isolation_laws.specs.IsolationInvariant.{IsolationInvariant}
-use Rattle.machine.proofs.Lookups.{held_by, commit_own}
 use Rattle.isolation_laws.proofs.OnceEach.{begun_once}
-use Rattle.cluster_core.specs.Room.{unless_direct, start_by, start_to_place}
 use Rattle.cluster_core.proofs.NodeMoves.{StartsAt}
 
 -- such a request is a commit in flight

@@ -1,16 +1,9 @@
 -- For this crate's own proofs.
 -- Each kind of event, by the parts that it touches: the parts are looked up, and put back.
-use Rattle.std.proofs.Common.{◌≡◌, ℕ, List, slice_get, Option, Some, Result, refl}
-use Rattle.history_book.specs.declared.item.Item.{Item}
-use Rattle.system_parts.specs.Sweep.{Sweeping}
-use Rattle.system_parts.specs.Instance.{InstanceEntry}
-use Rattle.machine.specs.State.{Client, State}
-use Rattle.machine.specs.Effect.{Effect}
-use Rattle.machine.specs.Machine.{with_post, with_client, with_reading, on_clients, on_ask, on_request, on_client, on_sweep}
-use Rattle.event_parts.specs.Made.{Makes}
-use Rattle.event_parts.specs.declared.stopped.Stopped.{Stopped}
-use Rattle.cluster_core.specs.Seen.{seen_made}
-use Rattle.cluster_core.specs.ClusterModel.{effect_of}
+use Rattle.cluster_core.proofs.Names.{◌≡◌, ℕ, List, Option, Some, Result, refl, Item, Sweeping, InstanceEntry, Client}
+use Rattle.cluster_core.proofs.Names.{State, Effect, with_post, with_client, with_reading, on_clients, on_ask}
+use Rattle.cluster_core.proofs.Names.{on_request, on_client, on_sweep, Makes, Stopped, seen_made, effect_of}
+use Rattle.std.proofs.Common.{slice_get}
 use Rattle.cluster_core.proofs.PutBack.{put_back, put_back_seen, same_post, same_client, same_both}
 
 -- a node and all clients

@@ -1,7 +1,5 @@
 -- The term at a post is what the machine reads off the node there.
-use Rattle.std.proofs.Common.{◌≡◌, Option, None, Some, refl}
-use Rattle.system_parts.specs.Instance.{InstanceEntry}
-use Rattle.machine.specs.Readers.{term_at}
+use Rattle.cluster_core.proofs.Names.{◌≡◌, Option, None, Some, refl, InstanceEntry, term_at}
 use Rattle.takeover_core.specs.Holding.{term_held}
 
 pub term_of_post : (post : Option InstanceEntry) → term_held post ≡ term_at (Some post)

@@ -1,20 +1,11 @@
 -- For this crate's own proofs.
 -- What an event makes of its parts is a step of the whole, once the parts are put back.
-use Rattle.std.proofs.Common.{◌≡◌, ℕ, ◌<◌, ◌≤◌, max, List, append-nil, length, get_or, slice_get, slice_set, Option, Some, None, Result, Ok, Err, inl, inr, refl, sym, ap, ◌∙◌, arith}
-use Rattle.std.proofs.lemmas.List.{set-get_or}
-use Rattle.std.proofs.lemmas.Option.{slice_get_read, get_or_from_slice_get, slice_get_cases}
-use Rattle.stamp_base.specs.declared.stores.Store.{Store}
-use Rattle.port_io.specs.declared.weather.Fate.{Fate}
-use Rattle.history_book.specs.declared.item.Item.{Item}
-use Rattle.system_parts.specs.Instance.{InstanceEntry}
-use Rattle.machine.specs.State.{Client, State}
-use Rattle.machine.specs.Effect.{Effect}
-use Rattle.machine.specs.Machine.{step_by, nothing, with_post, with_client}
-use Rattle.event_parts.specs.Made.{Leaves, Makes, AsksNone}
-use Rattle.event_parts.specs.declared.stopped.Stopped.{Stopped}
-use Rattle.event_parts.specs.declared.stopped.Stopped.TheVariants.{Refused, StoreFault, NoMemory}
-use Rattle.cluster_core.specs.Seen.{seen_made}
-use Rattle.cluster_core.specs.ClusterModel.{effect_of}
+use Rattle.cluster_core.proofs.Names.{◌≡◌, ℕ, ◌<◌, ◌≤◌, max, List, append-nil, length, get_or, Option, Some, None}
+use Rattle.cluster_core.proofs.Names.{Result, Ok, Err, inl, inr, refl, sym, ap, ◌∙◌, arith, set-get_or, slice_get_read}
+use Rattle.cluster_core.proofs.Names.{get_or_from_slice_get, slice_get_cases, Store, Fate, Item, InstanceEntry, Client}
+use Rattle.cluster_core.proofs.Names.{State, Effect, step_by, nothing, with_post, with_client, Leaves, Makes, AsksNone}
+use Rattle.cluster_core.proofs.Names.{Stopped, Refused, StoreFault, NoMemory, seen_made, effect_of}
+use Rattle.std.proofs.Common.{slice_get, slice_set}
 
 pub put_back : {P : Type 0} → (effect : Effect P) (whole : P → State) (old now : P) (w v : State) (before after : List Item) (result : Result Unit Stopped) → whole old ≡ w → v ≡ whole now → Makes effect old now before after result → Makes (effect_of (step_by effect whole)) w v before after result
 put_back effect whole old now w v before after (Ok _) at is made = record { parts = is ∙ ap whole made.parts; items = made.items; stop = made.stop }

@@ -1,11 +1,9 @@
 -- For this crate's own proofs.
 -- The nodes are looked at one after the other for a request of the session.
-use Rattle.std.proofs.Common.{◌≡◌, ℕ, Bool, ◌+◌, ◌<◌, ◌≤◌, List, length, get_or, drop, Option, Some, None, refl, sym, ap}
-use Rattle.std.proofs.lemmas.List.{drop_more, drop_all}
-use Rattle.system_parts.specs.declared.instance.Held.{Held}
+use Rattle.cluster_core.proofs.Names.{◌≡◌, ℕ, Bool, ◌+◌, ◌<◌, ◌≤◌, List, length, get_or, drop, Option, Some, None, refl}
+use Rattle.cluster_core.proofs.Names.{sym, ap, drop_more, drop_all, Held, InstanceEntry, held_at, holder_from}
+use Rattle.cluster_core.proofs.Names.{first_holder}
 use Rattle.system_parts.specs.declared.instance.Place.{Place}
-use Rattle.system_parts.specs.Instance.{InstanceEntry}
-use Rattle.machine.specs.Readers.{held_at, holder_from, first_holder}
 use Rattle.cluster_core.specs.Holders.{standing_held, standing_of}
 
 -- from the node that is looked at on

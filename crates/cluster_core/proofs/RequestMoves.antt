@@ -1,22 +1,24 @@
 -- What each event makes of the requests that a node holds, by what it appends: what may still be appended for them, and which
 -- commits are to be placed.
-use Rattle.std.proofs.Common.{◌≡◌, ◌≢◌, ℕ, zero, suc, ◌+◌, ◌-◌, ◌≤◌, ◌==◌, Bool, true, false, List, [], ◌∷◌, ◌++◌, length, Option, Some, None, Result, Ok, Err, inl, inr, ◌⊎◌, refl, sym, ap, subst, ◌∙◌, arith}
-use Rattle.std.specs.Prelude.{slice_set, slice_index_or, is_some, replicate, IsTrue, if◌then◌else◌}
-use Rattle.std.specs.List.{sum_by}
+use Rattle.cluster_core.proofs.Names.{◌≡◌, ◌≢◌, ℕ, zero, suc, ◌+◌, ◌-◌, ◌≤◌, ◌==◌, Bool, true, false, List, [], ◌∷◌}
+use Rattle.cluster_core.proofs.Names.{◌++◌, length, Option, Some, None, Result, Ok, Err, inl, inr, ◌⊎◌, refl, sym, ap}
+use Rattle.cluster_core.proofs.Names.{subst, ◌∙◌, arith, slice_set, slice_index_or, is_some, replicate, IsTrue}
+use Rattle.cluster_core.proofs.Names.{if◌then◌else◌, sum_by, same_Some, none-some, SetupNumbers, Table, Fate, Cause}
+use Rattle.cluster_core.proofs.Names.{Item, Pairs, Places, mark_of, MasterRecord, Held, Progress, Asked, Accepted}
+use Rattle.cluster_core.proofs.Names.{Drawn, Settled, Handed, Request, Begin, Commit, How, InstanceEntry, held_of}
+use Rattle.cluster_core.proofs.Names.{in_flight, with_request, session_of, unsettled_by, stamps_by, stamps_of_held}
+use Rattle.cluster_core.proofs.Names.{least_unsettled, Client, Effect, Stop, take_by, renew_by, extend_by, asked_by}
+use Rattle.cluster_core.proofs.Names.{ask_begin_by, commit_of, ask_commit_by, accept_by, accept_request, both_verdict}
+use Rattle.cluster_core.proofs.Names.{both_if_accepted, decide_by, decide_request, to_place, to_place_by, put_by}
+use Rattle.cluster_core.proofs.Names.{put_commit, answer_by, answer_request, decides_at, is_to_decide, is_to_put}
+use Rattle.cluster_core.proofs.Names.{answers_at, is_to_answer, is_direct, HasPlaceUnless, HasPlace, HeldHasPlace, once}
+use Rattle.cluster_core.proofs.Names.{told_besides, spent, need_by, need, unless_direct, start_by, start_to_place}
 use Rattle.std.specs.FinSet as set
-use Rattle.std.proofs.lemmas.Option.{same_Some, none-some}
-use Rattle.stamp_base.specs.SetupNumbers.{SetupNumbers}
 use Rattle.stamp_base.specs.declared.stores.Mark.{Mark}
-use Rattle.stamp_base.specs.declared.stores.Store.TheVariants.{Table}
-use Rattle.port_io.specs.declared.weather.Fate.{Fate}
 use Rattle.port_io.specs.declared.weather.Fate.TheVariants.{Works, FailsUnchanged, FailsApplied}
-use Rattle.history_book.specs.declared.cause.Cause.{Cause}
 use Rattle.history_book.specs.declared.cause.Cause.TheVariants as cause
 use Rattle.history_book.specs.declared.item.Actor.TheVariants.{Node, Session}
-use Rattle.history_book.specs.declared.item.Item.{Item}
 use Rattle.history_book.specs.declared.item.Item.TheVariants as item
-use Rattle.system_parts.specs.Pairs.{Pairs, Places, mark_of}
-use Rattle.system_parts.specs.Record.{MasterRecord}
 use Rattle.system_parts.specs.declared.record.Grant.{Grant}
 use Rattle.system_parts.specs.declared.record.TakeRefused.{TakeRefused}
 use Rattle.system_parts.specs.declared.record.TakeRefused.TheVariants as not_taken
@@ -27,31 +29,10 @@ use Rattle.system_parts.specs.declared.record.ExtendRefused.TheVariants as not_e
 use Rattle.system_parts.specs.declared.buckets.Verdict.{Verdict}
 use Rattle.system_parts.specs.declared.buckets.Verdict.TheVariants as verdict
 use Rattle.system_parts.specs.declared.instance.Decided.{Decided}
-use Rattle.system_parts.specs.declared.instance.Held.{Held}
-use Rattle.system_parts.specs.declared.instance.Progress.{Progress}
-use Rattle.system_parts.specs.declared.instance.Progress.TheVariants.{Asked, Accepted, Drawn, Settled, Handed}
 use Rattle.system_parts.specs.declared.instance.Reply.{Reply}
 use Rattle.system_parts.specs.declared.instance.Reply.TheVariants as reply
-use Rattle.system_parts.specs.declared.instance.Request.{Request}
-use Rattle.system_parts.specs.declared.instance.Request.TheVariants.{Begin, Commit}
-use Rattle.system_parts.specs.declared.instance.Settled.{Settled as How}
 use Rattle.system_parts.specs.declared.instance.Settled.TheVariants as how
-use Rattle.system_parts.specs.Instance.{InstanceEntry, held_of, in_flight, with_request, session_of, unsettled_by, stamps_by, stamps_of_held, least_unsettled}
 use Rattle.system_parts.specs.InstanceSteps.{InstanceStep, stays, just_asked, instance_ask, without_request, no_stamp_told, accept_refusal, accept_unless, accept_if_asked, out_of_stamps, drawn_as, decide_drawn, decide_by as decided, reply_of, answer_begin, answer_if_ready, answer_held, instance_answer, moved as moved_on, settle_if_drawn, settle_held, instance_settle}
-use Rattle.machine.specs.State.{Client}
-use Rattle.machine.specs.Effect.{Effect, Stop}
-use Rattle.machine.specs.Events.Take.{take_by}
-use Rattle.machine.specs.Events.Renew.{renew_by}
-use Rattle.machine.specs.Events.Extend.{extend_by}
-use Rattle.machine.specs.Events.AskBegin.{asked_by, ask_begin_by}
-use Rattle.machine.specs.Events.AskCommit.{commit_of, ask_commit_by}
-use Rattle.machine.specs.Events.Accept.{accept_by, accept_request}
-use Rattle.machine.specs.Events.Decide.{both_verdict, both_if_accepted, decide_by, decide_request}
-use Rattle.machine.specs.Events.Put.{to_place, to_place_by, put_by, put_commit}
-use Rattle.machine.specs.Events.Answer.{answer_by, answer_request}
-use Rattle.event_parts.specs.Served.{decides_at, is_to_decide, is_to_put, answers_at, is_to_answer}
-use Rattle.node_events.specs.Reserved.{is_direct, HasPlaceUnless, HasPlace, HeldHasPlace}
-use Rattle.cluster_core.specs.Room.{once, told_besides, spent, need_by, need, unless_direct, start_by, start_to_place}
 use Rattle.cluster_core.proofs.Needs.{once_at_most, besides_at_most, placed_now, none_needs, moved_sum}
 
 -- ---- the requests of a node

@@ -1,35 +1,18 @@
 -- What is kept for requests that were accepted stays kept, and is there when it is needed.
-use Rattle.std.proofs.Common.{◌≡◌, ◌≢◌, ◌≤◌, ◌+◌, ℕ, Bool, true, false, List, ◌++◌, length, Option, Some, None, Result, Ok, Err, inl, inr, refl, sym, ap, subst, ◌∙◌, arith}
-use Rattle.std.specs.Prelude.{slice_get, slice_set, IsTrue, is_some, OnOk}
+use Rattle.cluster_core.proofs.Names.{◌≡◌, ◌≢◌, ◌≤◌, ◌+◌, ℕ, Bool, true, false, List, ◌++◌, length, Option, Some, None}
+use Rattle.cluster_core.proofs.Names.{Result, Ok, Err, inl, inr, refl, sym, ap, subst, ◌∙◌, arith, slice_get, slice_set}
+use Rattle.cluster_core.proofs.Names.{IsTrue, is_some, OnOk, length-append, same_Some, none-some, Fate, Item, Places}
+use Rattle.cluster_core.proofs.Names.{Held, Progress, Asked, Accepted, Drawn, Settled, Handed, Request, Begin, Commit}
+use Rattle.cluster_core.proofs.Names.{InstanceEntry, held_of, State, Stop, Refuses, Faults, to_place, to_place_by}
+use Rattle.cluster_core.proofs.Names.{put_commit, put_on, Event, step_by, with_post, at_post, stepped, ended, Stopped}
+use Rattle.cluster_core.proofs.Names.{Refused, StoreFault, NoMemory, is_to_decide, is_to_put, is_to_answer, SpendsIf}
+use Rattle.cluster_core.proofs.Names.{places_after, NeverLacksIf, ReservesFive, HeldHasPlace, KeepPlaces}
+use Rattle.cluster_core.proofs.Names.{IsolationInvariant, instance_set, ClusterModel, start_by, start_to_place}
+use Rattle.cluster_core.proofs.Names.{AreRoomy, ArePlacesKept, held_found, held_in, direct_in, is_served, ReservesFor}
+use Rattle.cluster_core.proofs.Names.{KeepsRoom, Spends, Reserves, LeavesRoom}
 use Rattle.std.specs.FinSet as set
-use Rattle.std.proofs.lemmas.List.{length-append}
-use Rattle.std.proofs.lemmas.Option.{same_Some, none-some}
-use Rattle.port_io.specs.declared.weather.Fate.{Fate}
-use Rattle.history_book.specs.declared.item.Item.{Item}
-use Rattle.system_parts.specs.Pairs.{Places}
-use Rattle.system_parts.specs.declared.instance.Held.{Held}
-use Rattle.system_parts.specs.declared.instance.Progress.{Progress}
-use Rattle.system_parts.specs.declared.instance.Progress.TheVariants.{Asked, Accepted, Drawn, Settled, Handed}
-use Rattle.system_parts.specs.declared.instance.Request.{Request}
-use Rattle.system_parts.specs.declared.instance.Request.TheVariants.{Begin, Commit}
-use Rattle.system_parts.specs.Instance.{InstanceEntry, held_of}
-use Rattle.machine.specs.State.{State}
-use Rattle.machine.specs.Effect.{Stop, Refuses, Faults}
-use Rattle.machine.specs.Events.Put.{to_place, to_place_by, put_commit, put_on}
-use Rattle.machine.specs.declared.event.Event.{Event}
 use Rattle.machine.specs.declared.event.Event.TheVariants as event
-use Rattle.machine.specs.Machine.{step_by, with_post, at_post, stepped}
-use Rattle.event_parts.specs.Made.{ended}
-use Rattle.event_parts.specs.declared.stopped.Stopped.{Stopped}
-use Rattle.event_parts.specs.declared.stopped.Stopped.TheVariants.{Refused, StoreFault, NoMemory}
-use Rattle.event_parts.specs.Served.{is_to_decide, is_to_put, is_to_answer, SpendsIf, places_after, NeverLacksIf}
-use Rattle.node_events.specs.Reserved.{ReservesFive, HeldHasPlace, KeepPlaces}
 use Rattle.node_events.proofs.Places.{used_keeps}
-use Rattle.isolation_laws.specs.IsolationInvariant.{IsolationInvariant}
-use Rattle.machine.proofs.Lookups.{instance_set}
-use Rattle.cluster_core.specs.ClusterModel.{ClusterModel}
-use Rattle.cluster_core.specs.Room.{start_by, start_to_place, AreRoomy, ArePlacesKept}
-use Rattle.cluster_core.specs.Served.{held_found, held_in, direct_in, is_served, ReservesFor, KeepsRoom, Spends, Reserves, LeavesRoom}
 use Rattle.cluster_core.proofs.Needs.{all_longer}
 use Rattle.cluster_core.proofs.RequestMoves.{start_of, spends, gains, put_starts}
 use Rattle.cluster_core.proofs.OneStart.{one_start}

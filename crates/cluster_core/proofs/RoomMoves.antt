@@ -1,15 +1,11 @@
 -- For run_board too.
 -- How far an event moves the room that is kept for requests: an accept reserves at most five items, no other event reserves any, and
 -- what serves a request uses up as much as it appends.
-use Rattle.std.proofs.Common.{◌≡◌, ◌≤◌, ◌+◌, ℕ, Bool, true, false, List, length, Option, Some, None, Result, arith}
-use Rattle.history_book.specs.declared.item.Item.{Item}
-use Rattle.system_parts.specs.declared.instance.Held.{Held}
-use Rattle.machine.specs.declared.event.Event.{Event}
+use Rattle.cluster_core.proofs.Names.{◌≡◌, ◌≤◌, ◌+◌, ℕ, Bool, true, false, List, length, Option, Some, None, Result}
+use Rattle.cluster_core.proofs.Names.{arith, Item, Held, Event, Stopped, is_to_decide, is_to_put, is_to_answer}
+use Rattle.cluster_core.proofs.Names.{SpendsIf, ClusterModel, held_in, is_served, ReservesFor, KeepsRoom, LeavesRoom}
+use Rattle.cluster_core.proofs.Names.{most_reserved}
 use Rattle.machine.specs.declared.event.Event.TheVariants as event
-use Rattle.event_parts.specs.declared.stopped.Stopped.{Stopped}
-use Rattle.event_parts.specs.Served.{is_to_decide, is_to_put, is_to_answer, SpendsIf}
-use Rattle.cluster_core.specs.ClusterModel.{ClusterModel}
-use Rattle.cluster_core.specs.Served.{held_in, is_served, ReservesFor, KeepsRoom, LeavesRoom, most_reserved}
 use Rattle.cluster_core.proofs.RoomKept.{five_or_none}
 
 reserves_at_most : (held : Option Held) (result : Result Unit Stopped) (before now : ℕ) → ReservesFor held result before now → now ≤ before + 5

@@ -1,26 +1,12 @@
 -- What serves a request finds the room and the place that it needs.
-use Rattle.std.proofs.Common.{◌≡◌, ◌≤◌, ℕ, zero, suc, Bool, true, false, List, Option, Some, None, refl, arith}
-use Rattle.std.specs.Prelude.{slice_get, replicate, is_some}
-use Rattle.std.specs.List.{sum_by}
-use Rattle.std.proofs.lemmas.List.Sums.{sum_by-cons}
-use Rattle.history_book.specs.declared.item.Item.{Item}
-use Rattle.system_parts.specs.Pairs.{Places}
-use Rattle.stamp_base.specs.SetupNumbers.{SetupNumbers}
-use Rattle.system_parts.specs.declared.instance.Held.{Held}
-use Rattle.system_parts.specs.declared.instance.Progress.{Progress}
-use Rattle.system_parts.specs.declared.instance.Progress.TheVariants.{Asked, Accepted, Drawn, Settled, Handed}
-use Rattle.system_parts.specs.declared.instance.Request.{Request}
-use Rattle.system_parts.specs.declared.instance.Request.TheVariants.{Begin, Commit}
-use Rattle.system_parts.specs.Instance.{InstanceEntry, held_of}
-use Rattle.machine.specs.State.{opening}
-use Rattle.machine.specs.Events.Put.{to_place}
-use Rattle.machine.specs.declared.event.Event.{Event}
+use Rattle.cluster_core.proofs.Names.{◌≡◌, ◌≤◌, ℕ, zero, suc, Bool, true, false, List, Option, Some, None, refl, arith}
+use Rattle.cluster_core.proofs.Names.{slice_get, replicate, is_some, sum_by, sum_by-cons, Item, Places, SetupNumbers}
+use Rattle.cluster_core.proofs.Names.{Held, Progress, Asked, Accepted, Drawn, Settled, Handed, Request, Begin, Commit}
+use Rattle.cluster_core.proofs.Names.{InstanceEntry, held_of, opening, to_place, Event, decides_at, is_to_decide}
+use Rattle.cluster_core.proofs.Names.{is_to_put, answers_at, is_to_answer, HasRoomIf, HasPlaceFor, InstanceAt}
+use Rattle.cluster_core.proofs.Names.{ClusterModel, spent, need_by, need, needs_of, AreRoomy, ArePlacesKept, held_found}
+use Rattle.cluster_core.proofs.Names.{held_in, HasRoomFor}
 use Rattle.machine.specs.declared.event.Event.TheVariants as event
-use Rattle.event_parts.specs.Served.{decides_at, is_to_decide, is_to_put, answers_at, is_to_answer, HasRoomIf, HasPlaceFor}
-use Rattle.isolation_laws.specs.Words.{InstanceAt}
-use Rattle.cluster_core.specs.ClusterModel.{ClusterModel}
-use Rattle.cluster_core.specs.Room.{spent, need_by, need, needs_of, AreRoomy, ArePlacesKept}
-use Rattle.cluster_core.specs.Served.{held_found, held_in, HasRoomFor}
 use Rattle.cluster_core.proofs.Needs.{once_at_most, besides_at_most, one_within, held_within}
 use Rattle.cluster_core.proofs.RequestMoves.{placing, placing_need}
 use Rattle.cluster_core.proofs.RoomKept.{IsKept, starts_in}

@@ -1,20 +1,12 @@
 -- For this crate's own proofs.
 -- A cluster's state is reached with its history: at the opening, and after each call. So the calls on its parts may be made.
-use Rattle.std.proofs.Common.{◌≡◌, ℕ, List, [], ◌++◌, Option, Some, None, Result, Ok, Err, refl, sym, ap, subst}
-use Rattle.std.specs.Prelude.{IfSome}
-use Rattle.stamp_base.specs.SetupNumbers.{SetupNumbers, AreInRange}
-use Rattle.stamp_base.specs.declared.stores.Store.{Store}
-use Rattle.port_io.specs.declared.weather.Fate.{Fate}
-use Rattle.history_book.specs.declared.item.Item.{Item}
-use Rattle.machine.specs.declared.event.Event.{Event}
+use Rattle.cluster_core.proofs.Names.{◌≡◌, ℕ, List, [], ◌++◌, Option, Some, None, Result, Ok, Err, refl, sym, ap, subst}
+use Rattle.cluster_core.proofs.Names.{IfSome, SetupNumbers, AreInRange, Store, Fate, Item, Event, State, opening, asks}
+use Rattle.cluster_core.proofs.Names.{IsSteadyAt, reading_of, stepped, fate_ahead, ended, Stopped, Refused, StoreFault}
+use Rattle.cluster_core.proofs.Names.{NoMemory, Sweeping, sweep_ask, ClusterModel, MakesStep, step_under, LeavesRoom}
+use Rattle.cluster_core.proofs.Names.{is_served}
 use Rattle.machine.specs.declared.event.Event.TheVariants as event
-use Rattle.machine.specs.State.{State, opening}
-use Rattle.machine.specs.Machine.{asks, IsSteadyAt, reading_of, stepped}
-use Rattle.event_parts.specs.Made.{fate_ahead, ended}
-use Rattle.event_parts.specs.declared.stopped.Stopped.{Stopped}
-use Rattle.event_parts.specs.declared.stopped.Stopped.TheVariants.{Refused, StoreFault, NoMemory}
 use Rattle.cause_laws.proofs.AlwaysExplained.{tells_stay, tells_at_first}
-use Rattle.system_parts.specs.Sweep.{Sweeping, sweep_ask}
 use Rattle.machine.specs.Calls.{KeepsShadowNext}
 use Rattle.cause_laws.specs.Bounds.{ExtensionMayBeMade}
 use Rattle.cause_laws.specs.StoreCalls.{SweepMayStep}
@@ -23,9 +15,8 @@ use Rattle.cause_laws.proofs.RecordCalls.{extensions_fit}
 use Rattle.cause_laws.proofs.RequestCalls.{begins_ask, commits_ask, requests_wait}
 use Rattle.cause_laws.proofs.StoreCalls.{heals_only, writes_bare, sweeps_ask}
 use Rattle.cause_laws.proofs.StepCalls.{steps_ask}
-use Rattle.cluster_core.specs.ClusterModel.{ClusterModel, MakesStep, step_under}
 use Rattle.cluster_core.specs.Required.{CanMake, MayExtend}
-use Rattle.cluster_core.specs.Served.{LeavesRoom, NeverLacksIf, is_served}
+use Rattle.cluster_core.specs.Served.{NeverLacksIf}
 use Rattle.cluster_core.proofs.RoomKept.{IsKept, made_kept, lacked_kept}
 use Rattle.cluster_core.proofs.RoomThere.{kept_first}
 use Rattle.cluster_core.specs.Reached.{IsReached}

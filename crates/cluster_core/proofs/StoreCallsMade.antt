@@ -1,29 +1,12 @@
 -- For this crate's own proofs.
 -- Each event that may ask a store, by the fate that its store has ahead.
-use Rattle.std.proofs.Common.{◌≡◌, ℕ, List, slice_get, Option, Some, Result}
-use Rattle.stamp_base.specs.declared.stores.Store.{Store}
-use Rattle.stamp_base.specs.declared.stores.Store.TheVariants.{Cells, Table, Master}
-use Rattle.port_io.specs.declared.weather.Fate.{Fate}
-use Rattle.history_book.specs.declared.item.Item.{Item}
-use Rattle.system_parts.specs.Rows.{Row}
-use Rattle.system_parts.specs.Pairs.{Pairs}
-use Rattle.system_parts.specs.Record.{MasterRecord}
-use Rattle.system_parts.specs.Instance.{InstanceEntry}
+use Rattle.cluster_core.proofs.Names.{◌≡◌, ℕ, List, Option, Some, Result, Store, Cells, Table, Master, Fate, Item, Row}
+use Rattle.cluster_core.proofs.Names.{Pairs, MasterRecord, InstanceEntry, Client, State, with_post, with_client}
+use Rattle.cluster_core.proofs.Names.{take_on, renew_on, extend_on, put_on, write_on, fetch_on, heal_on, Makes}
+use Rattle.cluster_core.proofs.Names.{fate_ahead, Stopped, seen_made, effect_of, step_under}
+use Rattle.std.proofs.Common.{slice_get}
 use Rattle.machine.specs.declared.event.Event.TheVariants as event
-use Rattle.machine.specs.State.{Client, State}
-use Rattle.machine.specs.Machine.{with_post, with_client}
-use Rattle.machine.specs.Events.Take.{take_on}
-use Rattle.machine.specs.Events.Renew.{renew_on}
-use Rattle.machine.specs.Events.Extend.{extend_on}
-use Rattle.machine.specs.Events.Put.{put_on}
-use Rattle.machine.specs.Events.Write.{write_on}
-use Rattle.machine.specs.Events.Fetch.{fetch_on}
 use Rattle.machine.specs.Events.Step.{StepParts, step_on, step_asks}
-use Rattle.machine.specs.Events.Heal.{heal_on}
-use Rattle.event_parts.specs.Made.{Makes, fate_ahead}
-use Rattle.event_parts.specs.declared.stopped.Stopped.{Stopped}
-use Rattle.cluster_core.specs.Seen.{seen_made}
-use Rattle.cluster_core.specs.ClusterModel.{effect_of, step_under}
 use Rattle.cluster_core.proofs.PutBack.{put_back, put_back_seen, same_post, same_client}
 use Rattle.cluster_core.proofs.Fates.{by_fate, take_fate, renew_fate, extend_fate, put_fate, write_fate, fetch_fate, heal_fate}
 

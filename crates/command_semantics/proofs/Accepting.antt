@@ -1,28 +1,17 @@
 -- An accept lowers what is left.
-use Rattle.std.proofs.Common.{◌≡◌, ℕ, ◌+◌, ◌<◌, ◌≤◌, nat_lt, nat_le, Bool, true, false, cond, List, Option, Some, None, ◌⊎◌, inl, inr, refl, sym, ◌∙◌, ap, subst, arith}
-use Rattle.std.specs.Prelude.{slice_get, slice_set}
-use Rattle.port_io.specs.declared.weather.Fate.{Fate}
-use Rattle.history_book.specs.declared.cause.Cause.{Cause}
+use Rattle.command_semantics.proofs.Names.{◌≡◌, ℕ, ◌+◌, ◌<◌, ◌≤◌, nat_lt, Bool, true, false, cond, List, Option, Some}
+use Rattle.command_semantics.proofs.Names.{None, ◌⊎◌, inl, inr, refl, sym, ◌∙◌, ap, subst, arith, slice_get, slice_set}
+use Rattle.command_semantics.proofs.Names.{Fate, Cause, Item, Held, Progress, Request, Begin, Commit, InstanceEntry}
+use Rattle.command_semantics.proofs.Names.{held_of, InstanceStep, moved, epoch_refusal, accept_refusal, accept_unless}
+use Rattle.command_semantics.proofs.Names.{accept_if_asked, accept_held, Client, State, Effect, after_refusal, Step}
+use Rattle.command_semantics.proofs.Names.{step_by, with_post, with_client, with_reading, at_both, stepped, accept_by}
+use Rattle.command_semantics.proofs.Names.{accept_request, accept_on, Verb, InstanceAt, ClientAt, set_found, of_client}
+use Rattle.command_semantics.proofs.Names.{client_completes, client_ends, lacks_stamps, place_left, drive_left}
+use Rattle.std.proofs.Common.{nat_le}
 use Rattle.history_book.specs.declared.cause.Cause.TheVariants as cause
-use Rattle.history_book.specs.declared.item.Item.{Item}
-use Rattle.system_parts.specs.declared.instance.Held.{Held}
 use Rattle.system_parts.specs.declared.instance.Place.TheVariants as place
-use Rattle.system_parts.specs.declared.instance.Progress.{Progress}
 use Rattle.system_parts.specs.declared.instance.Progress.TheVariants as progress
-use Rattle.system_parts.specs.declared.instance.Request.{Request}
-use Rattle.system_parts.specs.declared.instance.Request.TheVariants.{Begin, Commit}
-use Rattle.system_parts.specs.Instance.{InstanceEntry, held_of}
-use Rattle.system_parts.specs.InstanceSteps.{InstanceStep, moved, epoch_refusal, accept_refusal, accept_unless, accept_if_asked, accept_held}
 use Rattle.machine.specs.declared.event.Event.TheVariants as event
-use Rattle.machine.specs.State.{Client, State}
-use Rattle.machine.specs.Effect.{Effect}
-use Rattle.machine.specs.Clients.{after_refusal}
-use Rattle.machine.specs.Machine.{Step, step_by, with_post, with_client, with_reading, at_both, stepped}
-use Rattle.machine.specs.Events.Accept.{accept_by, accept_request, accept_on}
-use Rattle.script_data.specs.declared.line.Verb.{Verb}
-use Rattle.isolation_laws.specs.Words.{InstanceAt, ClientAt}
-use Rattle.machine.proofs.Lookups.{set_found}
-use Rattle.command_semantics.specs.Left.{of_client, client_completes, client_ends, lacks_stamps, place_left, drive_left}
 use Rattle.command_semantics.proofs.Clients.{refused_left}
 use Rattle.command_semantics.proofs.Serving.{Lowers, Serving, left_to_drive, node_step, goes_on, ends_so}
 

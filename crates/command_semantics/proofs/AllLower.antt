@@ -1,28 +1,14 @@
 -- Each event that the run of any line makes lowers what is left.
-use Rattle.std.proofs.Common.{◌≡◌, ℕ, ◌+◌, ◌<◌, is_some, List, Option, Some, None, refl, subst, arith}
-use Rattle.std.proofs.lemmas.Option.{same_Some, none-some}
-use Rattle.port_io.specs.declared.weather.Fate.{Fate}
-use Rattle.history_book.specs.declared.item.Actor.TheVariants.{Clock, Node, Session, Janitor}
-use Rattle.history_book.specs.declared.item.Item.{Item}
-use Rattle.system_parts.specs.Sweep.{Sweeping}
-use Rattle.system_parts.specs.RecalledReads.{RecalledReadsEnd}
-use Rattle.system_parts.specs.Resolve.{SettlesEnd}
-use Rattle.machine.specs.declared.event.Event.{Event}
+use Rattle.command_semantics.proofs.Names.{◌≡◌, ℕ, ◌+◌, ◌<◌, is_some, List, Option, Some, None, refl, subst, arith}
+use Rattle.command_semantics.proofs.Names.{same_Some, none-some, Fate, Clock, Node, Session, Janitor, Item, Sweeping}
+use Rattle.command_semantics.proofs.Names.{RecalledReadsEnd, SettlesEnd, Event, State, stepped, Verb, ReachedInvariant}
+use Rattle.command_semantics.proofs.Names.{Interruption, NoStamp, NotYet, Refused, Faulted, Point, Opens, Drives}
+use Rattle.command_semantics.proofs.Names.{Extends, Finishes, Reads, Steps, Over, halt_of, unless_halted, after_write}
+use Rattle.command_semantics.proofs.Names.{after_serving, after_extending, after_stepping, after_opening, follows}
+use Rattle.command_semantics.proofs.Names.{view_of, opens_alone, sweep_next, janitor_opens, janitor_next, one_left}
+use Rattle.command_semantics.proofs.Names.{sweep_left, janitor_left, EventsLowerWhatIsLeft}
 use Rattle.machine.specs.declared.event.Event.TheVariants as event
-use Rattle.machine.specs.State.{State}
-use Rattle.machine.specs.Machine.{stepped}
-use Rattle.script_data.specs.declared.line.Verb.{Verb}
 use Rattle.script_data.specs.declared.line.Verb.TheVariants as verb
-use Rattle.isolation_laws.specs.Sound.{ReachedInvariant}
-use Rattle.command_semantics.specs.declared.point.Interruption.{Interruption}
-use Rattle.command_semantics.specs.declared.point.Interruption.TheVariants.{NoStamp, NotYet, Refused, Faulted}
-use Rattle.command_semantics.specs.declared.point.Point.{Point}
-use Rattle.command_semantics.specs.declared.point.Point.TheVariants.{Opens, Drives, Extends, Finishes, Reads, Steps, Over}
-use Rattle.command_semantics.specs.Interruptions.{halt_of, unless_halted, after_write, after_serving, after_extending, after_stepping, after_opening, follows}
-use Rattle.command_semantics.specs.Views.{view_of}
-use Rattle.command_semantics.specs.Next.{opens_alone, sweep_next, janitor_opens, janitor_next}
-use Rattle.command_semantics.specs.Left.{one_left, sweep_left, janitor_left}
-use Rattle.command_semantics.specs.Laws.{EventsLowerWhatIsLeft}
 use Rattle.command_semantics.proofs.Sweeping.{sweep_open_lowers, sweep_first, sweep_lowers}
 use Rattle.command_semantics.proofs.Lowering.{session_lowers}
 

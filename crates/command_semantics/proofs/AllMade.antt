@@ -1,26 +1,10 @@
 -- Every event that reads the clocks and does not tick appends items that are read, or tells a request that it has expired.
-use Rattle.machine.proofs.LookedUp.{of_both}
-use Rattle.std.proofs.Common.{List, None, ◌⊎◌, inl, refl}
-use Rattle.std.specs.Prelude.{slice_get}
-use Rattle.port_io.specs.declared.weather.Fate.{Fate}
-use Rattle.history_book.specs.declared.item.Item.{Item}
+use Rattle.command_semantics.proofs.Names.{of_both, List, None, ◌⊎◌, inl, refl, slice_get, Fate, Item, Event, State}
+use Rattle.command_semantics.proofs.Names.{with_reading, stepped, asks, take_asks, renew_asks, extend_asks, put_asks}
+use Rattle.command_semantics.proofs.Names.{write_asks, fetch_asks, step_asks, heal_asks, ReachedInvariant}
+use Rattle.command_semantics.proofs.Names.{ShownInvariant, Clocks, ReadsClocks}
 use Rattle.history_book.specs.declared.item.Item.TheVariants as item
-use Rattle.machine.specs.declared.event.Event.{Event}
 use Rattle.machine.specs.declared.event.Event.TheVariants as event
-use Rattle.machine.specs.State.{State}
-use Rattle.machine.specs.Machine.{with_reading, stepped, asks}
-use Rattle.machine.specs.Events.Take.{take_asks}
-use Rattle.machine.specs.Events.Renew.{renew_asks}
-use Rattle.machine.specs.Events.Extend.{extend_asks}
-use Rattle.machine.specs.Events.Put.{put_asks}
-use Rattle.machine.specs.Events.Write.{write_asks}
-use Rattle.machine.specs.Events.Fetch.{fetch_asks}
-use Rattle.machine.specs.Events.Step.{step_asks}
-use Rattle.machine.specs.Events.Heal.{heal_asks}
-use Rattle.isolation_laws.specs.Sound.{ReachedInvariant}
-use Rattle.cause_laws.specs.ShownInvariant.{ShownInvariant}
-use Rattle.command_semantics.specs.Next.{Clocks}
-use Rattle.command_semantics.specs.SoFar.{ReadsClocks}
 use Rattle.command_semantics.proofs.ReadItems.{Made, made_none, made_one, post_made, client_made, node_made, session_made, both_made}
 use Rattle.command_semantics.proofs.MadeOfRecord.{take_on_made, renew_on_made, extend_on_made}
 use Rattle.command_semantics.proofs.MadeOfRequests.{Expires, Accepts, accept_on_made, decide_on_made, put_on_made, answer_on_made}

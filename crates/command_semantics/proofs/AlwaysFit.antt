@@ -1,30 +1,15 @@
 -- For turn_rules, log_refinement and grant_laws too.
 -- Every event keeps the numbers of nodes and clients, and that an open transaction has an epoch.
-use Rattle.std.proofs.Common.{◌≡◌, ℕ, zero, suc, ◌<◌, List, [], ◌∷◌, Option, Some, None, refl, sym, ◌∙◌, ap, subst, arith, length}
-use Rattle.std.specs.Prelude.{slice_get, slice_set, replicate}
-use Rattle.stamp_base.specs.SetupNumbers.{SetupNumbers}
-use Rattle.port_io.specs.declared.weather.Fate.{Fate}
-use Rattle.system_parts.specs.SessionSteps.{work_refusal, step_refusal, vanish_refusal}
-use Rattle.system_parts.specs.Instance.{InstanceEntry}
-use Rattle.machine.specs.declared.event.Event.{Event}
+use Rattle.command_semantics.proofs.Names.{◌≡◌, ℕ, zero, suc, ◌<◌, List, [], ◌∷◌, Option, Some, None, refl, sym, ◌∙◌}
+use Rattle.command_semantics.proofs.Names.{ap, subst, arith, length, slice_get, slice_set, replicate, SetupNumbers}
+use Rattle.command_semantics.proofs.Names.{Fate, work_refusal, step_refusal, vanish_refusal, InstanceEntry, Event}
+use Rattle.command_semantics.proofs.Names.{Client, State, client_new, opening, is_reading, Step, at_client, at_both}
+use Rattle.command_semantics.proofs.Names.{with_reading, stepped, crash_on, ask_begin_on, ask_commit_on, accept_on}
+use Rattle.command_semantics.proofs.Names.{decide_on, answer_on, write_refused, write_on, fetch_refused, fetch_on}
+use Rattle.command_semantics.proofs.Names.{step_on, offer_of, heal_on, abort_on, vanish_on, of_post, of_both}
+use Rattle.command_semantics.proofs.Names.{leaves_parts, posts_stay, clients_stay}
 use Rattle.machine.specs.declared.event.Event.TheVariants as event
-use Rattle.machine.specs.State.{Client, State, client_new, opening}
-use Rattle.machine.specs.Clients.{is_reading}
-use Rattle.machine.specs.Machine.{Step, at_client, at_both, with_reading, stepped}
-use Rattle.machine.specs.Events.Crash.{crash_on}
-use Rattle.machine.specs.Events.AskBegin.{ask_begin_on}
-use Rattle.machine.specs.Events.AskCommit.{ask_commit_on}
-use Rattle.machine.specs.Events.Accept.{accept_on}
-use Rattle.machine.specs.Events.Decide.{decide_on}
-use Rattle.machine.specs.Events.Answer.{answer_on}
-use Rattle.machine.specs.Events.Write.{write_refused, write_on}
-use Rattle.machine.specs.Events.Fetch.{fetch_refused, fetch_on}
-use Rattle.machine.specs.Events.Step.{step_on}
-use Rattle.machine.specs.Events.Heal.{offer_of, heal_on}
-use Rattle.machine.specs.Events.Abort.{abort_on}
-use Rattle.machine.specs.Events.Vanish.{vanish_on}
-use Rattle.machine.proofs.LookedUp.{of_post, of_client, of_both}
-use Rattle.machine.proofs.PartsKept.{leaves_parts, posts_stay, clients_stay}
+use Rattle.machine.proofs.LookedUp.{of_client}
 use Rattle.command_semantics.proofs.Fitting.{ClientFits, AllFit, fit_at, fit_set, ask_begin_fits, ask_commit_fits, accept_fits, decide_fits, answer_fits, crash_fits}
 use Rattle.command_semantics.proofs.FittingSteps.{write_fits, fetch_fits, step_fits, heal_fits, abort_fits, vanish_fits}
 

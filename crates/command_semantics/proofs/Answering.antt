@@ -1,27 +1,16 @@
 -- An answer lowers what is left, or tells a begin to wait, which ends the run.
-use Rattle.std.proofs.Common.{◌≡◌, ℕ, ◌+◌, ◌<◌, List, Option, Some, None, refl, sym, ◌∙◌, ap, subst, arith}
-use Rattle.port_io.specs.declared.weather.Fate.{Fate}
-use Rattle.history_book.specs.declared.item.Item.{Item}
-use Rattle.system_parts.specs.declared.instance.Held.{Held}
+use Rattle.command_semantics.proofs.Names.{◌≡◌, ℕ, ◌+◌, ◌<◌, List, Option, Some, None, refl, sym, ◌∙◌, ap, subst, arith}
+use Rattle.command_semantics.proofs.Names.{Fate, Item, Held, Progress, Request, Begin, Commit, InstanceEntry, held_of}
+use Rattle.command_semantics.proofs.Names.{with_request, stamps_by, stamps_of_held, least_unsettled, Client, State}
+use Rattle.command_semantics.proofs.Names.{Effect, Step, with_post, with_client, stepped, Verb, InstanceAt, ClientAt}
+use Rattle.command_semantics.proofs.Names.{client_ends, drive_left, Reply, Settled, InstanceStep, answer_begin}
+use Rattle.command_semantics.proofs.Names.{answer_if_ready, answer_held, client_begun, client_handed, client_committed}
+use Rattle.command_semantics.proofs.Names.{client_aborted, client_opened, unless_gone, answer_by, answer_request}
+use Rattle.command_semantics.proofs.Names.{answer_on}
 use Rattle.system_parts.specs.declared.instance.Place.TheVariants as place
-use Rattle.system_parts.specs.declared.instance.Progress.{Progress}
 use Rattle.system_parts.specs.declared.instance.Progress.TheVariants as progress
-use Rattle.system_parts.specs.declared.instance.Request.{Request}
-use Rattle.system_parts.specs.declared.instance.Request.TheVariants.{Begin, Commit}
-use Rattle.system_parts.specs.Instance.{InstanceEntry, held_of, with_request, stamps_by, stamps_of_held, least_unsettled}
 use Rattle.machine.specs.declared.event.Event.TheVariants as event
-use Rattle.machine.specs.State.{Client, State}
-use Rattle.machine.specs.Effect.{Effect}
-use Rattle.machine.specs.Machine.{Step, with_post, with_client, stepped}
-use Rattle.script_data.specs.declared.line.Verb.{Verb}
-use Rattle.isolation_laws.specs.Words.{InstanceAt, ClientAt}
-use Rattle.command_semantics.specs.Left.{client_ends, drive_left}
-use Rattle.system_parts.specs.declared.instance.Reply.{Reply}
-use Rattle.system_parts.specs.declared.instance.Settled.{Settled}
 use Rattle.system_parts.specs.declared.instance.Settled.TheVariants as how
-use Rattle.system_parts.specs.InstanceSteps.{InstanceStep, answer_begin, answer_if_ready, answer_held}
-use Rattle.machine.specs.Clients.{client_begun, client_handed, client_committed, client_aborted, client_opened, unless_gone}
-use Rattle.machine.specs.Events.Answer.{answer_by, answer_request, answer_on}
 use Rattle.command_semantics.proofs.Clients.{heard_left, heard_settles, handed_left, aborted_left, committed_left}
 use Rattle.command_semantics.proofs.Serving.{Lowers, Serving, left_to_drive, node_step, on_both, ends_so, is_over}
 

@@ -1,29 +1,15 @@
 -- Events in any order keep to the plan, where each reads the clocks as they stand when it is made.
-use Rattle.std.proofs.Common.{◌≡◌, ℕ, ◌+◌, ◌≤◌, ◌^◌, List, [], ◌∷◌, ◌++◌, Option, Some, None, sym, ◌∙◌, subst, arith}
-use Rattle.std.specs.Prelude.{slice_index_or, unwrap_or, sum}
-use Rattle.std.proofs.lemmas.List.{append-nil}
-use Rattle.std.proofs.lemmas.List.Sums.{sum_by-cons, sum_by_push}
-use Rattle.stamp_base.specs.SetupNumbers.{SetupNumbers}
-use Rattle.port_io.specs.declared.weather.Fate.{Fate}
-use Rattle.history_book.specs.declared.item.Actor.{Actor}
-use Rattle.history_book.specs.declared.item.Actor.TheVariants.{Clock}
-use Rattle.machine.specs.declared.event.Event.{Event}
+use Rattle.command_semantics.proofs.Names.{◌≡◌, ℕ, ◌+◌, ◌≤◌, ◌^◌, List, [], ◌∷◌, ◌++◌, Option, Some, None, sym, ◌∙◌}
+use Rattle.command_semantics.proofs.Names.{subst, arith, slice_index_or, unwrap_or, sum, append-nil, sum_by-cons}
+use Rattle.command_semantics.proofs.Names.{sum_by_push, SetupNumbers, Fate, Actor, Clock, Event, reading_of, seen_after}
+use Rattle.command_semantics.proofs.Names.{IsSteadyAt, seen_up, leaves_parts, Line, Verb, ScriptData, facts_stay}
+use Rattle.command_semantics.proofs.Names.{tells_stay, tells_at_first, Clocks, Played, fate_of, step_of, clocks_of}
+use Rattle.command_semantics.proofs.Names.{played, opening_played, tick_of, ticks_of, tick_by, with_tick, ticks_in}
+use Rattle.command_semantics.proofs.Names.{ReadsClocks, ticks_with, PlannedSoFar}
 use Rattle.machine.specs.declared.event.Event.TheVariants as event
-use Rattle.machine.specs.Machine.{reading_of, seen_after, IsSteadyAt}
-use Rattle.machine.proofs.PartsKept.{seen_up, leaves_parts}
-use Rattle.script_data.specs.declared.line.Line.{Line}
-use Rattle.script_data.specs.declared.line.Verb.{Verb}
 use Rattle.script_data.specs.declared.line.Verb.TheVariants as verb
-use Rattle.script_data.specs.Data.{ScriptData}
-use Rattle.isolation_laws.proofs.AlwaysHolds.{facts_stay}
-use Rattle.cause_laws.proofs.AlwaysExplained.{tells_stay, tells_at_first}
-use Rattle.command_semantics.specs.Next.{Clocks}
-use Rattle.command_semantics.specs.Runs.{Played, fate_of, step_of, clocks_of, played, opening_played}
-use Rattle.script_data.specs.Ticks.{tick_of, ticks_of}
-use Rattle.command_semantics.specs.Planned.{tick_by, with_tick, ticks_in}
 use Rattle.command_semantics.proofs.Ending.{opening_reached}
 use Rattle.command_semantics.proofs.Timing.{Timed, InTime, in_time}
-use Rattle.command_semantics.specs.SoFar.{ReadsClocks, ticks_with, PlannedSoFar}
 use Rattle.command_semantics.specs.Orders.{TimedEvent, all_played, AllRead, ticks_made, IsTold, EventsStayTold, OrdersArePlanned}
 use Rattle.command_semantics.proofs.OneEvent.{planned_at_first, events_stay_planned, planned_in_the_end}
 use Rattle.command_semantics.proofs.PlannedLines.{ticks_on}

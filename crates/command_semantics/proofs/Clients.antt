@@ -1,17 +1,13 @@
 -- What events make of a session's client, for what is left of a run.
-use Rattle.std.proofs.Common.{◌≡◌, ℕ, ◌+◌, ◌≤◌, Bool, true, false, List, [], ◌∷◌, ◌++◌, Option, Some, None, refl, ◌∙◌, ap, arith, length}
-use Rattle.std.specs.Prelude.{slice_get, slice_set, if◌then◌else◌}
-use Rattle.system_parts.specs.declared.session.State.{State as SessionState}
+use Rattle.command_semantics.proofs.Names.{◌≡◌, ℕ, ◌+◌, ◌≤◌, Bool, true, false, List, [], ◌∷◌, ◌++◌, Option, Some, None}
+use Rattle.command_semantics.proofs.Names.{refl, ◌∙◌, ap, arith, length, slice_get, slice_set, SessionState}
+use Rattle.command_semantics.proofs.Names.{finish_asks, undo_asks, has_key, key_added, handed_commit, Request, Begin}
+use Rattle.command_semantics.proofs.Names.{Commit, Client, State, undo_of, finish_of, client_freed, client_aborted}
+use Rattle.command_semantics.proofs.Names.{client_handed, client_committed, unless_gone, unless_gone_by, after_refusal}
+use Rattle.command_semantics.proofs.Names.{Step, at_client, set_found, asks_left, steps_due, keys_of, of_client}
+use Rattle.command_semantics.proofs.Names.{client_completes, client_ends, client_settles}
+use Rattle.std.specs.Prelude.{if◌then◌else◌}
 use Rattle.system_parts.specs.declared.session.State.TheVariants as phase
-use Rattle.system_parts.specs.Completion.{finish_asks, undo_asks}
-use Rattle.system_parts.specs.SessionSteps.{has_key, key_added, handed_commit}
-use Rattle.system_parts.specs.declared.instance.Request.{Request}
-use Rattle.system_parts.specs.declared.instance.Request.TheVariants.{Begin, Commit}
-use Rattle.machine.specs.State.{Client, State}
-use Rattle.machine.specs.Clients.{undo_of, finish_of, client_freed, client_aborted, client_handed, client_committed, unless_gone, unless_gone_by, after_refusal}
-use Rattle.machine.specs.Machine.{Step, at_client}
-use Rattle.machine.proofs.Lookups.{set_found}
-use Rattle.command_semantics.specs.Left.{asks_left, steps_due, keys_of, of_client, client_completes, client_ends, client_settles}
 
 -- ---- a client that is set is found
 pub client_now : (clients : List Client) (s : ℕ) (old now : Client) (f : Client → ℕ) → slice_get clients s ≡ Some old → of_client (slice_get (slice_set clients s now) s) f ≡ f now

@@ -1,33 +1,18 @@
 -- A decision lowers what is left: the request has drawn, has ended, or its node is to extend the range.
-use Rattle.std.proofs.Common.{◌≡◌, ℕ, ◌+◌, ◌<◌, ◌≤◌, ◌==◌, Bool, true, false, ◌&&◌, cond, List, Option, Some, None, is_none, refl, sym, ◌∙◌, ap, subst, arith}
-use Rattle.std.specs.Prelude.{slice_get, slice_set}
-use Rattle.port_io.specs.declared.weather.Fate.{Fate}
-use Rattle.history_book.specs.declared.cause.Cause.{Cause}
+use Rattle.command_semantics.proofs.Names.{◌≡◌, ℕ, ◌+◌, ◌<◌, ◌≤◌, ◌==◌, Bool, true, false, ◌&&◌, cond, List, Option}
+use Rattle.command_semantics.proofs.Names.{Some, None, is_none, refl, sym, ◌∙◌, ap, subst, arith, slice_get, slice_set}
+use Rattle.command_semantics.proofs.Names.{Fate, Cause, Item, Verdict, Free, Conflict, Hidden, Decided, Held, Progress}
+use Rattle.command_semantics.proofs.Names.{Request, Begin, Commit, InstanceEntry, held_of, place_of_progress, Client}
+use Rattle.command_semantics.proofs.Names.{State, Effect, after_refusal, Step, with_post, with_client, stepped, Verb}
+use Rattle.command_semantics.proofs.Names.{InstanceAt, ClientAt, set_found, of_client, client_completes, client_ends}
+use Rattle.command_semantics.proofs.Names.{lacks_stamps, place_left, drive_left, InstanceStep, IsStop, out_of_stamps}
+use Rattle.command_semantics.proofs.Names.{drawn_as, decide_drawn, verdict_by, both_verdict, both_if_accepted}
+use Rattle.command_semantics.proofs.Names.{both_held, decide_by, decide_request, decide_on, StopOf}
 use Rattle.history_book.specs.declared.cause.Cause.TheVariants as cause
-use Rattle.history_book.specs.declared.item.Item.{Item}
-use Rattle.system_parts.specs.declared.buckets.Verdict.{Verdict}
-use Rattle.system_parts.specs.declared.buckets.Verdict.TheVariants.{Free, Conflict, Hidden}
-use Rattle.system_parts.specs.declared.instance.Decided.{Decided}
-use Rattle.system_parts.specs.declared.instance.Held.{Held}
 use Rattle.system_parts.specs.declared.instance.Place.TheVariants as place
-use Rattle.system_parts.specs.declared.instance.Progress.{Progress}
 use Rattle.system_parts.specs.declared.instance.Progress.TheVariants as progress
-use Rattle.system_parts.specs.declared.instance.Request.{Request}
-use Rattle.system_parts.specs.declared.instance.Request.TheVariants.{Begin, Commit}
-use Rattle.system_parts.specs.Instance.{InstanceEntry, held_of, place_of_progress}
 use Rattle.machine.specs.declared.event.Event.TheVariants as event
-use Rattle.machine.specs.State.{Client, State}
-use Rattle.machine.specs.Effect.{Effect}
-use Rattle.machine.specs.Clients.{after_refusal}
-use Rattle.machine.specs.Machine.{Step, with_post, with_client, stepped}
-use Rattle.script_data.specs.declared.line.Verb.{Verb}
-use Rattle.isolation_laws.specs.Words.{InstanceAt, ClientAt}
-use Rattle.machine.proofs.Lookups.{set_found}
-use Rattle.command_semantics.specs.Left.{of_client, client_completes, client_ends, lacks_stamps, place_left, drive_left}
 use Rattle.command_semantics.proofs.Clients.{client_now, refused_left}
-use Rattle.system_parts.specs.InstanceSteps.{InstanceStep, IsStop, out_of_stamps, drawn_as, decide_drawn, decide_by as verdict_by}
-use Rattle.machine.specs.Events.Decide.{both_verdict, both_if_accepted, both_held, decide_by, decide_request, decide_on}
-use Rattle.machine.specs.Fits.{StopOf}
 use Rattle.command_semantics.proofs.Serving.{Lowers, Serving, left_to_drive, node_step, on_both, goes_on, ends_so}
 
 -- an effect of the decision that the instance makes

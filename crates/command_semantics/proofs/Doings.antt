@@ -1,27 +1,14 @@
 -- What a session is doing tells of its state and of its next event.
-use Rattle.std.proofs.Common.{◌≡◌, ◌⊎◌, ℕ, Bool, true, false, cond, Option, Some, None, inl, inr, refl, sym, ◌∙◌, ap}
-use Rattle.std.proofs.lemmas.Option.{same_Some, none-some}
-use Rattle.port_io.specs.declared.weather.Fate.{Fate}
-use Rattle.history_book.specs.declared.cause.Cause.{Cause}
+use Rattle.command_semantics.proofs.Names.{◌≡◌, ◌⊎◌, ℕ, Bool, true, false, cond, Option, Some, None, inl, inr, refl}
+use Rattle.command_semantics.proofs.Names.{sym, ◌∙◌, ap, same_Some, none-some, Fate, Cause, Session, SessionState}
+use Rattle.command_semantics.proofs.Names.{step_refusal, handed_by, Doing, Event, Client, State, is_reading}
+use Rattle.command_semantics.proofs.Names.{is_reading_by, at_client, stepped, step_on, step_unless, open_doing}
+use Rattle.command_semantics.proofs.Names.{doing_by, client_doing, ClientAt, finish_next, placing_next, idle_next}
+use Rattle.command_semantics.proofs.Names.{read_next, steps_next, refused, refused_by, Refused}
 use Rattle.history_book.specs.declared.cause.Cause.TheVariants as cause
-use Rattle.history_book.specs.declared.item.Actor.TheVariants.{Session}
-use Rattle.system_parts.specs.declared.session.State.{State as SessionState}
 use Rattle.system_parts.specs.declared.session.State.TheVariants as phase
-use Rattle.system_parts.specs.SessionSteps.{step_refusal, handed_by}
-use Rattle.machine.specs.declared.event.Doing.{Doing}
-use Rattle.machine.specs.declared.event.Event.{Event}
 use Rattle.machine.specs.declared.event.Event.TheVariants as event
-use Rattle.machine.specs.State.{Client, State}
-use Rattle.machine.specs.Clients.{is_reading, is_reading_by}
-use Rattle.machine.specs.Machine.{at_client, stepped}
-use Rattle.machine.specs.Events.Step.{step_on, step_by as step_unless}
-use Rattle.machine.specs.Readers.{open_doing, doing_by, client_doing}
-use Rattle.isolation_laws.specs.Words.{ClientAt}
-use Rattle.command_semantics.specs.Next.{finish_next, placing_next, idle_next, read_next, steps_next}
-use Rattle.machine.specs.Effect.{refused}
 use Rattle.machine.specs.declared.event.Doing.TheVariants as doing
-use Rattle.command_semantics.specs.Interruptions.{refused_by}
-use Rattle.command_semantics.specs.declared.point.Interruption.TheVariants.{Refused}
 use Rattle.command_semantics.proofs.Working.{HasWork}
 use Rattle.command_semantics.proofs.Stepping.{stores_step}
 

@@ -1,37 +1,19 @@
 -- For run_board too.
 -- Each event that drives a request lowers what is left, and so does the completion that follows.
-use Rattle.std.proofs.Common.{◌≡◌, ℕ, ◌+◌, ◌<◌, Bool, List, Option, Some, None, refl, sym, ◌∙◌, ap, subst, arith}
-use Rattle.std.specs.Prelude.{slice_get}
-use Rattle.stamp_base.specs.declared.stores.Mark.{Mark}
-use Rattle.port_io.specs.declared.weather.Fate.{Fate}
-use Rattle.port_io.specs.declared.weather.Fate.TheVariants.{Works, FailsUnchanged, FailsApplied}
+use Rattle.command_semantics.proofs.Names.{◌≡◌, ℕ, ◌+◌, ◌<◌, Bool, List, Option, Some, None, refl, sym, ◌∙◌, ap, subst}
+use Rattle.command_semantics.proofs.Names.{arith, slice_get, Mark, Fate, Works, FailsUnchanged, FailsApplied, Node}
+use Rattle.command_semantics.proofs.Names.{Item, Pairs, mark_of, Held, Place, Progress, Request, Begin, Commit}
+use Rattle.command_semantics.proofs.Names.{InstanceEntry, held_of, place_of_progress, stamps_by, stamps_of_held, Client}
+use Rattle.command_semantics.proofs.Names.{State, refused, client_aborted, client_committed, client_opened, Step}
+use Rattle.command_semantics.proofs.Names.{with_client, stepped, place_by, answer_request, answer_on, holder_from}
+use Rattle.command_semantics.proofs.Names.{place_held, place_of, is_commit, asks_commit, Verb, ClientAt}
+use Rattle.command_semantics.proofs.Names.{ReachedInvariant, held_by, Point, Clocks, serves, of_client}
+use Rattle.command_semantics.proofs.Names.{client_completes, client_settles, client_ends, drive_left_by, drive_left}
+use Rattle.command_semantics.proofs.Names.{session_left}
 use Rattle.history_book.specs.declared.cause.Cause.TheVariants as cause
-use Rattle.history_book.specs.declared.item.Actor.TheVariants.{Node}
-use Rattle.history_book.specs.declared.item.Item.{Item}
-use Rattle.system_parts.specs.Pairs.{Pairs, mark_of}
-use Rattle.system_parts.specs.declared.instance.Held.{Held}
-use Rattle.system_parts.specs.declared.instance.Place.{Place}
 use Rattle.system_parts.specs.declared.instance.Place.TheVariants as place
-use Rattle.system_parts.specs.declared.instance.Progress.{Progress}
 use Rattle.system_parts.specs.declared.instance.Progress.TheVariants as progress
-use Rattle.system_parts.specs.declared.instance.Request.{Request}
-use Rattle.system_parts.specs.declared.instance.Request.TheVariants.{Begin, Commit}
-use Rattle.system_parts.specs.Instance.{InstanceEntry, held_of, place_of_progress, stamps_by, stamps_of_held}
 use Rattle.machine.specs.declared.event.Event.TheVariants as event
-use Rattle.machine.specs.State.{Client, State}
-use Rattle.machine.specs.Effect.{refused}
-use Rattle.machine.specs.Clients.{client_aborted, client_committed, client_opened}
-use Rattle.machine.specs.Machine.{Step, with_client, stepped}
-use Rattle.machine.specs.Events.Place.{place_by}
-use Rattle.machine.specs.Events.Answer.{answer_request, answer_on}
-use Rattle.machine.specs.Readers.{holder_from, place_held, place_of, is_commit, asks_commit}
-use Rattle.script_data.specs.declared.line.Verb.{Verb}
-use Rattle.isolation_laws.specs.Words.{ClientAt}
-use Rattle.isolation_laws.specs.Sound.{ReachedInvariant}
-use Rattle.machine.proofs.Lookups.{held_by}
-use Rattle.command_semantics.specs.declared.point.Point.{Point}
-use Rattle.command_semantics.specs.Next.{Clocks, serves}
-use Rattle.command_semantics.specs.Left.{of_client, client_completes, client_settles, client_ends, drive_left_by, drive_left, session_left}
 use Rattle.command_semantics.proofs.Holders.{Served, is_served_at}
 use Rattle.command_semantics.proofs.Clients.{client_now, aborted_left, committed_left}
 use Rattle.command_semantics.proofs.Serving.{Lowers, Serving, left_to_drive, node_step, on_both, ends_so}

@@ -1,28 +1,14 @@
 -- For replay_driver, turn_rules and others above too.
 -- Runs end, and lines lead from what is reached to what is reached. A property that every event keeps is kept by them too.
-use Rattle.std.proofs.Common.{◌≡◌, ℕ, zero, suc, ◌+◌, ◌<◌, ◌≤◌, ◌^◌, List, [], ◌∷◌, ◌++◌, Option, Some, None, refl, sym, ◌∙◌, subst, arith}
-use Rattle.std.specs.Prelude.{slice_index_or}
-use Rattle.stamp_base.specs.SetupNumbers.{SetupNumbers, AreInRange}
-use Rattle.port_io.specs.declared.weather.Fate.{Fate}
-use Rattle.history_book.specs.declared.item.Item.{Item}
-use Rattle.machine.specs.declared.event.Event.{Event}
-use Rattle.machine.specs.State.{State, opening}
-use Rattle.machine.specs.Machine.{Step, stepped, reading_of, seen_after, IsSteadyAt}
-use Rattle.machine.proofs.PartsKept.{seen_up, leaves_parts}
-use Rattle.script_data.specs.declared.line.Line.{Line}
-use Rattle.script_data.specs.declared.line.Verb.{Verb}
-use Rattle.script_data.specs.Data.{ScriptData}
-use Rattle.isolation_laws.proofs.AlwaysHolds.{facts_stay, stands_at_first}
-use Rattle.command_semantics.specs.declared.point.Interruption.{Interruption}
-use Rattle.command_semantics.specs.declared.point.Point.{Point}
-use Rattle.command_semantics.specs.declared.point.Point.TheVariants.{Opens}
-use Rattle.command_semantics.specs.Interruptions.{halt_of, follows}
-use Rattle.command_semantics.specs.Views.{view_of}
-use Rattle.command_semantics.specs.Next.{Clocks}
-use Rattle.command_semantics.specs.Left.{one_left}
-use Rattle.command_semantics.specs.Runs.{Played, fate_of, Run, clocks_of, next_in, run_after, left_in, going_on, run_for, opened, line_run, lines_played, opening_played, script_played}
-use Rattle.script_data.specs.Ticks.{tick_of, ticks_of}
-use Rattle.command_semantics.specs.Laws.{EventsLowerWhatIsLeft, IsPlayable, IsReached, RunsEnd, LinesKeepFacts, ScriptsAreReached}
+use Rattle.command_semantics.proofs.Names.{◌≡◌, ℕ, zero, suc, ◌+◌, ◌<◌, ◌≤◌, ◌^◌, List, [], ◌∷◌, ◌++◌, Option, Some}
+use Rattle.command_semantics.proofs.Names.{None, refl, sym, ◌∙◌, subst, arith, slice_index_or, SetupNumbers, AreInRange}
+use Rattle.command_semantics.proofs.Names.{Fate, Item, Event, State, opening, Step, stepped, reading_of, seen_after}
+use Rattle.command_semantics.proofs.Names.{IsSteadyAt, seen_up, leaves_parts, Line, Verb, ScriptData, facts_stay}
+use Rattle.command_semantics.proofs.Names.{stands_at_first, Interruption, Point, Opens, halt_of, follows, view_of}
+use Rattle.command_semantics.proofs.Names.{Clocks, one_left, Played, fate_of, Run, clocks_of, next_in, run_after}
+use Rattle.command_semantics.proofs.Names.{left_in, going_on, run_for, opened, line_run, lines_played, opening_played}
+use Rattle.command_semantics.proofs.Names.{script_played, tick_of, ticks_of, EventsLowerWhatIsLeft, IsPlayable}
+use Rattle.command_semantics.proofs.Names.{IsReached, RunsEnd, LinesKeepFacts, ScriptsAreReached}
 use Rattle.command_semantics.proofs.AllLower.{followed_once}
 use Rattle.command_semantics.proofs.Timing.{tick_ahead, event_timed, InTime, OnTime, in_time}
 

@@ -1,33 +1,18 @@
 -- An extension lowers what is left: the instance has stamps again, or keeps the refusal, so that the next decision draws or
 -- ends the request. A failed one ends the run.
-use Rattle.std.proofs.Common.{◌≡◌, ℕ, ◌+◌, ◌<◌, ◌≤◌, ◌==◌, Bool, true, false, ◌&&◌, List, Option, Some, None, is_none, refl, sym, ◌∙◌, ap, subst, arith}
-use Rattle.std.specs.Prelude.{slice_get}
-use Rattle.std.specs.Option.{option_or}
+use Rattle.command_semantics.proofs.Names.{◌≡◌, ℕ, ◌+◌, ◌<◌, ◌≤◌, ◌==◌, Bool, true, false, ◌&&◌, List, Option, Some}
+use Rattle.command_semantics.proofs.Names.{None, is_none, refl, sym, ◌∙◌, ap, subst, arith, slice_get, option_or}
+use Rattle.command_semantics.proofs.Names.{same_Some, Fate, Works, FailsUnchanged, FailsApplied, fated, Cause, Item}
+use Rattle.command_semantics.proofs.Names.{ExtendRefused, StoreFault, Replaced, Spent, MasterRecord, extend_refused}
+use Rattle.command_semantics.proofs.Names.{extended, answered, Held, Place, InstanceEntry, held_of, place_of_progress}
+use Rattle.command_semantics.proofs.Names.{instance_widened, instance_stopped, State, Effect, Step, step_by, with_post}
+use Rattle.command_semantics.proofs.Names.{at_post, stepped, extend_on, rules_of, Verb, halt_of, after_extending}
+use Rattle.command_semantics.proofs.Names.{of_client, client_ends, lacks_stamps, place_left, drive_left, session_left}
 use Rattle.std.proofs.lemmas.Bool.{ne_eqb}
-use Rattle.std.proofs.lemmas.Option.{same_Some}
-use Rattle.port_io.specs.declared.weather.Fate.{Fate}
-use Rattle.port_io.specs.declared.weather.Fate.TheVariants.{Works, FailsUnchanged, FailsApplied}
-use Rattle.port_io.specs.Fates.{fated}
-use Rattle.history_book.specs.declared.cause.Cause.{Cause}
 use Rattle.history_book.specs.declared.cause.Cause.TheVariants as cause
-use Rattle.history_book.specs.declared.item.Item.{Item}
-use Rattle.system_parts.specs.declared.record.ExtendRefused.{ExtendRefused}
-use Rattle.system_parts.specs.declared.record.ExtendRefused.TheVariants.{StoreFault, Replaced, Spent}
-use Rattle.system_parts.specs.Record.{MasterRecord, extend_refused, extended, answered}
-use Rattle.system_parts.specs.declared.instance.Held.{Held}
-use Rattle.system_parts.specs.declared.instance.Place.{Place}
 use Rattle.system_parts.specs.declared.instance.Place.TheVariants as place
-use Rattle.system_parts.specs.Instance.{InstanceEntry, held_of, place_of_progress}
-use Rattle.system_parts.specs.InstanceSteps.{instance_widened, instance_stopped}
 use Rattle.machine.specs.declared.event.Event.TheVariants as event
-use Rattle.machine.specs.State.{State}
-use Rattle.machine.specs.Effect.{Effect}
-use Rattle.machine.specs.Machine.{Step, step_by, with_post, at_post, stepped}
-use Rattle.machine.specs.Events.Extend.{extend_by, extend_on}
-use Rattle.machine.specs.Events.Take.{rules_of}
-use Rattle.script_data.specs.declared.line.Verb.{Verb}
-use Rattle.command_semantics.specs.Interruptions.{halt_of, after_extending}
-use Rattle.command_semantics.specs.Left.{of_client, client_ends, lacks_stamps, place_left, drive_left, session_left}
+use Rattle.machine.specs.Events.Extend.{extend_by}
 use Rattle.command_semantics.proofs.Clients.{settles_within}
 use Rattle.command_semantics.proofs.Holders.{drives_on}
 use Rattle.command_semantics.proofs.Serving.{Serving, serving_changed}

@@ -1,23 +1,13 @@
 -- For grant_laws too.
 -- How many faults of a store are told, and how many are planned for the calls that were made on it.
-use Rattle.std.proofs.Common.{◌≡◌, ◌≢◌, ℕ, ◌+◌, ◌≤◌, ◌==◌, Bool, true, false, ◌&&◌, cond, if◌then◌else◌, List, [], ◌∷◌, ◌++◌, All, Option, Some, None, inl, inr, refl, sym, ◌∙◌, ap, arith}
-use Rattle.std.specs.Prelude.{count_by, nat_le}
-use Rattle.std.proofs.lemmas.Bool.Decides.{nat_tests}
-use Rattle.std.proofs.lemmas.Option.{same_Some, none-some}
-use Rattle.std.proofs.lemmas.List.Elements.{All-head, All-tail}
-use Rattle.std.proofs.lemmas.List.Sums.{sum_by-append, sum_by-cons}
-use Rattle.stamp_base.specs.declared.stores.Store.{Store}
-use Rattle.stamp_base.specs.declared.stores.Store.TheVariants.{Cells, Table, Master}
-use Rattle.port_io.specs.declared.weather.Fate.{Fate}
-use Rattle.port_io.specs.declared.weather.Fate.TheVariants.{Works}
+use Rattle.command_semantics.proofs.Names.{◌≡◌, ◌≢◌, ℕ, ◌+◌, ◌≤◌, ◌==◌, Bool, true, false, ◌&&◌, cond, if◌then◌else◌}
+use Rattle.command_semantics.proofs.Names.{List, [], ◌∷◌, ◌++◌, All, Option, Some, None, inl, inr, refl, sym, ◌∙◌, ap}
+use Rattle.command_semantics.proofs.Names.{arith, count_by, nat_le, nat_tests, same_Some, none-some, All-head, All-tail}
+use Rattle.command_semantics.proofs.Names.{sum_by-append, sum_by-cons, Store, Cells, Table, Master, Fate, Works, Item}
+use Rattle.command_semantics.proofs.Names.{ScriptData, Clocks, is_fault_of, plans, Calls, calls_on, one_more}
+use Rattle.command_semantics.proofs.Names.{calls_after, fate_by, is_due}
 use Rattle.port_io.specs.Planned.{PlannedFault, same_store, is_of, planned_fate}
-use Rattle.history_book.specs.declared.item.Item.{Item}
 use Rattle.history_book.specs.declared.item.Item.TheVariants as item
-use Rattle.script_data.specs.Data.{ScriptData}
-use Rattle.command_semantics.specs.Next.{Clocks}
-use Rattle.command_semantics.specs.Planned.{is_fault_of, plans}
-use Rattle.command_semantics.specs.Runs.{Calls, calls_on, one_more, calls_after, fate_by}
-use Rattle.command_semantics.specs.SoFar.{is_due}
 use Rattle.command_semantics.proofs.ReadItems.{IsRead, Failed, Made}
 
 -- one where it is so

@@ -1,33 +1,20 @@
 -- For turn_rules too.
 -- The fetch of a read line answers it; and then the read has ended, or is under way.
-use Rattle.std.proofs.Common.{◌≡◌, ℕ, Bool, true, false, cond, nat_lt, ◌||◌, List, [], ◌∷◌, Option, Some, None, ◌⊎◌, inl, inr, refl, sym, subst, length}
-use Rattle.std.specs.Option.{option_or}
-use Rattle.stamp_base.specs.declared.limits.TheConstants.{KEY_LIMIT}
-use Rattle.port_io.specs.declared.weather.Fate.{Fate}
-use Rattle.port_io.specs.declared.weather.Fate.TheVariants.{Works, FailsUnchanged, FailsApplied}
-use Rattle.history_book.specs.declared.cause.Cause.{Cause}
+use Rattle.command_semantics.proofs.Names.{◌≡◌, ℕ, Bool, true, false, cond, nat_lt, ◌||◌, List, [], ◌∷◌, Option, Some}
+use Rattle.command_semantics.proofs.Names.{None, ◌⊎◌, inl, inr, refl, sym, subst, length, option_or, KEY_LIMIT, Fate}
+use Rattle.command_semantics.proofs.Names.{Works, FailsUnchanged, FailsApplied, Cause, Session, Item, Store, fetched}
+use Rattle.command_semantics.proofs.Names.{front_of, SessionState, ReadTurn, Asks, Answers, put_fresh, work_refusal}
+use Rattle.command_semantics.proofs.Names.{has_key, Client, State, is_reading, Step, step_by, with_client, at_client}
+use Rattle.command_semantics.proofs.Names.{stepped, fetch_recall, marks_every, keeps_read, reads_refusal}
+use Rattle.command_semantics.proofs.Names.{client_fetched, found_of, client_read, read_items, fetch_open, fetch_on}
+use Rattle.command_semantics.proofs.Names.{ClientAt, ReachedInvariant, set_found, RefusesLine, IsFetch, IsRefusal}
+use Rattle.command_semantics.proofs.Names.{read_begun}
 use Rattle.history_book.specs.declared.cause.Cause.TheVariants as cause
-use Rattle.history_book.specs.declared.item.Actor.TheVariants.{Session}
 use Rattle.history_book.specs.declared.item.StoreStep.TheVariants as step
-use Rattle.history_book.specs.declared.item.Item.{Item}
 use Rattle.history_book.specs.declared.item.Item.TheVariants as item
-use Rattle.stamp_base.specs.declared.stores.Store.{Store}
-use Rattle.system_parts.specs.Rows.{fetched, front_of}
-use Rattle.system_parts.specs.declared.session.State.{State as SessionState}
 use Rattle.system_parts.specs.declared.session.State.TheVariants as phase
-use Rattle.system_parts.specs.KeyRead.{ReadTurn, Asks, Answers}
-use Rattle.system_parts.specs.Cache.{put_fresh}
-use Rattle.system_parts.specs.SessionSteps.{work_refusal, has_key}
 use Rattle.machine.specs.declared.event.Event.TheVariants as event
-use Rattle.machine.specs.State.{Client, State}
-use Rattle.machine.specs.Clients.{is_reading}
-use Rattle.machine.specs.Machine.{Step, step_by, with_client, at_client, stepped}
-use Rattle.machine.specs.Events.Fetch.{fetch_recall, marks_every, keeps_read, reads_refusal, client_fetched, found_of, client_read, read_items, fetch_open, fetch_on}
 use Rattle.script_data.specs.declared.line.Verb.TheVariants as verb
-use Rattle.isolation_laws.specs.Words.{ClientAt}
-use Rattle.isolation_laws.specs.Sound.{ReachedInvariant}
-use Rattle.machine.proofs.Lookups.{set_found}
-use Rattle.command_semantics.specs.Answers.{RefusesLine, IsFetch, IsRefusal, read_begun}
 use Rattle.command_semantics.proofs.Fitting.{fit_at}
 use Rattle.command_semantics.proofs.AlwaysFit.{Fit}
 use Rattle.command_semantics.proofs.WorkItems.{HasNumber, starts}

@@ -1,30 +1,19 @@
 -- For grant_laws too.
 -- Every event keeps the numbers of nodes and of clients, and that an open transaction has an epoch.
-use Rattle.std.proofs.Common.{◌≡◌, ℕ, zero, suc, List, [], ◌∷◌, Option, Some, None, Result, Ok, Err, subst}
-use Rattle.std.specs.Prelude.{slice_get, slice_set}
-use Rattle.std.proofs.lemmas.Option.{same_Some, none-some}
-use Rattle.history_book.specs.declared.cause.Cause.{Cause}
+use Rattle.command_semantics.proofs.Names.{◌≡◌, ℕ, zero, suc, List, [], ◌∷◌, Option, Some, None, Result, Ok, Err, subst}
+use Rattle.command_semantics.proofs.Names.{slice_get, slice_set, same_Some, none-some, Cause, Item, SessionState}
+use Rattle.command_semantics.proofs.Names.{SessionEntry, asked_state, aborted_by, begin_refusal, work_refusal, Decided}
+use Rattle.command_semantics.proofs.Names.{Held, Reply, Request, Begin, Commit, InstanceEntry, held_of, stamps_at}
+use Rattle.command_semantics.proofs.Names.{InstanceStep, instance_ask, instance_accept, instance_answer, Client}
+use Rattle.command_semantics.proofs.Names.{is_reading, client_begun, client_freed, client_aborted, client_handed}
+use Rattle.command_semantics.proofs.Names.{client_committed, client_opened, unless_gone, unless_gone_by, after_refusal}
+use Rattle.command_semantics.proofs.Names.{asked_by, ask_begin_by, ask_begin_on, commit_of, ask_commit_by}
+use Rattle.command_semantics.proofs.Names.{ask_commit_on, accept_by, accept_request, accept_on, decide_both, decide_by}
+use Rattle.command_semantics.proofs.Names.{decide_request, decide_on, answer_by, answer_request, answer_on, after_loss}
+use Rattle.command_semantics.proofs.Names.{crashed_client, crashed_clients}
 use Rattle.history_book.specs.declared.cause.Cause.TheVariants as cause
-use Rattle.history_book.specs.declared.item.Item.{Item}
-use Rattle.system_parts.specs.declared.session.State.{State as SessionState}
 use Rattle.system_parts.specs.declared.session.State.TheVariants as phase
-use Rattle.system_parts.specs.SessionSteps.{SessionEntry, asked_state, aborted_by, begin_refusal, work_refusal}
-use Rattle.system_parts.specs.declared.instance.Decided.{Decided}
-use Rattle.system_parts.specs.declared.instance.Held.{Held}
-use Rattle.system_parts.specs.declared.instance.Reply.{Reply}
 use Rattle.system_parts.specs.declared.instance.Reply.TheVariants as reply
-use Rattle.system_parts.specs.declared.instance.Request.{Request}
-use Rattle.system_parts.specs.declared.instance.Request.TheVariants.{Begin, Commit}
-use Rattle.system_parts.specs.Instance.{InstanceEntry, held_of, stamps_at}
-use Rattle.system_parts.specs.InstanceSteps.{InstanceStep, instance_ask, instance_accept, instance_answer}
-use Rattle.machine.specs.State.{Client}
-use Rattle.machine.specs.Clients.{is_reading, client_begun, client_freed, client_aborted, client_handed, client_committed, client_opened, unless_gone, unless_gone_by, after_refusal}
-use Rattle.machine.specs.Events.AskBegin.{asked_by, ask_begin_by, ask_begin_on}
-use Rattle.machine.specs.Events.AskCommit.{commit_of, ask_commit_by, ask_commit_on}
-use Rattle.machine.specs.Events.Accept.{accept_by, accept_request, accept_on}
-use Rattle.machine.specs.Events.Decide.{decide_both, decide_by, decide_request, decide_on}
-use Rattle.machine.specs.Events.Answer.{answer_by, answer_request, answer_on}
-use Rattle.machine.specs.Events.Crash.{after_loss, crashed_client, crashed_clients}
 
 -- an open transaction has an epoch
 abbrev pub EpochFits : SessionState → Option ℕ → Type 0

@@ -1,26 +1,15 @@
 -- A session's own events keep that an open transaction has an epoch.
-use Rattle.std.proofs.Common.{ℕ, List, [], ◌∷◌, Option, Some, None}
-use Rattle.stamp_base.specs.SetupNumbers.{SetupNumbers}
-use Rattle.stamp_base.specs.declared.stores.Mark.{Mark}
-use Rattle.port_io.specs.declared.weather.Fate.{Fate}
-use Rattle.port_io.specs.declared.weather.Fate.TheVariants.{Works, FailsUnchanged, FailsApplied}
-use Rattle.history_book.specs.declared.cause.Cause.{Cause}
-use Rattle.system_parts.specs.Rows.{Row, fetched}
-use Rattle.system_parts.specs.Pairs.{Pairs, mark_of}
-use Rattle.system_parts.specs.declared.asks.Ask.{Ask}
+use Rattle.command_semantics.proofs.Names.{ℕ, List, [], ◌∷◌, Option, Some, None, SetupNumbers, Mark, Fate, Works}
+use Rattle.command_semantics.proofs.Names.{FailsUnchanged, FailsApplied, Cause, Row, fetched, Pairs, mark_of, Ask}
+use Rattle.command_semantics.proofs.Names.{handed_commit, Settling, SettleTurn, Goes, Decides, settle_turn, ReadTurn}
+use Rattle.command_semantics.proofs.Names.{Asks, Answers, Remembering, UnderWay, Nothing, Settles, Completes, Client}
+use Rattle.command_semantics.proofs.Names.{client_wrote, write_open, fetch_recall, client_put_fresh, client_recalled}
+use Rattle.command_semantics.proofs.Names.{client_fetched, client_read, fetch_open, place_by, step_recall}
+use Rattle.command_semantics.proofs.Names.{client_settled, after_asks, work_of, step_at, step_due, heal_at, abort_by}
+use Rattle.command_semantics.proofs.Names.{vanish_by}
 use Rattle.system_parts.specs.declared.resolve.Outcome.TheVariants as outcome
-use Rattle.system_parts.specs.SessionSteps.{handed_commit}
-use Rattle.system_parts.specs.Resolve.{Settling, SettleTurn, Goes, Decides, settle_turn}
-use Rattle.system_parts.specs.KeyRead.{ReadTurn, Asks, Answers}
-use Rattle.system_parts.specs.Recalled.{Remembering}
-use Rattle.machine.specs.State.{UnderWay, Nothing, Reads, Settles, Completes, Client}
-use Rattle.machine.specs.Events.Write.{client_wrote, write_open}
-use Rattle.machine.specs.Events.Fetch.{fetch_recall, client_put_fresh, client_recalled, client_fetched, client_read, fetch_open}
-use Rattle.machine.specs.Events.Place.{place_by}
-use Rattle.machine.specs.Events.Step.{step_recall, client_settled, after_asks, work_of, step_at, step_due, step_by}
-use Rattle.machine.specs.Events.Heal.{heal_at}
-use Rattle.machine.specs.Events.Abort.{abort_by}
-use Rattle.machine.specs.Events.Vanish.{vanish_by}
+use Rattle.machine.specs.State.{Reads}
+use Rattle.machine.specs.Events.Step.{step_by}
 use Rattle.command_semantics.proofs.Fitting.{ClientFits, aborted_fits}
 
 pub write_fits : (s key : ℕ) (value : List ℕ) (fate : Fate) (c : Client) (rows : List Row) (why : Option Cause) (start : Option ℕ) → ClientFits c → ClientFits (write_open s key value fate c rows why start).parts.0

@@ -1,18 +1,12 @@
 -- For turn_rules and grant_laws too.
 -- The request of a session: where it is found, and where it stands after the node that holds it has changed.
-use Rattle.std.proofs.Common.{◌≡◌, ℕ, zero, suc, ◌+◌, ◌<◌, List, [], ◌∷◌, Option, Some, None, inl, inr, refl, sym, ◌∙◌, ap, subst, arith}
-use Rattle.std.specs.Prelude.{slice_get, slice_set}
-use Rattle.std.proofs.lemmas.Option.{same_Some, none-some}
-use Rattle.history_book.specs.declared.item.Item.{Item}
-use Rattle.system_parts.specs.declared.instance.Held.{Held}
-use Rattle.system_parts.specs.declared.instance.Place.{Place}
-use Rattle.system_parts.specs.Instance.{InstanceEntry, held_of, place_of_progress}
-use Rattle.machine.specs.State.{Client, State}
-use Rattle.machine.specs.Readers.{held_at, first_holder, holder_from, holder_of, place_held, place_of, is_commit, commit_held, asks_commit}
-use Rattle.isolation_laws.specs.Words.{InstanceAt}
-use Rattle.isolation_laws.specs.Sound.{ReachedInvariant}
-use Rattle.machine.proofs.Lookups.{set_found, instance_changed, held_by}
-use Rattle.command_semantics.specs.Left.{of_client, client_settles, client_ends, lacks_stamps, lacks_at, place_left, request_left, drive_left_by, drive_left}
+use Rattle.command_semantics.proofs.Names.{◌≡◌, ℕ, zero, suc, ◌+◌, ◌<◌, List, [], ◌∷◌, Option, Some, None, inl, inr}
+use Rattle.command_semantics.proofs.Names.{refl, sym, ◌∙◌, ap, subst, arith, slice_get, slice_set, same_Some, none-some}
+use Rattle.command_semantics.proofs.Names.{Item, Held, Place, InstanceEntry, held_of, place_of_progress, Client, State}
+use Rattle.command_semantics.proofs.Names.{held_at, first_holder, holder_from, holder_of, place_held, place_of}
+use Rattle.command_semantics.proofs.Names.{is_commit, commit_held, asks_commit, InstanceAt, ReachedInvariant, set_found}
+use Rattle.command_semantics.proofs.Names.{instance_changed, held_by, of_client, client_settles, client_ends}
+use Rattle.command_semantics.proofs.Names.{lacks_stamps, lacks_at, place_left, request_left, drive_left_by, drive_left}
 
 -- the node has an instance that holds this request of the session
 pub record Holder (nodes : List (Option InstanceEntry)) (node s : ℕ) (held : Held) : Type 0 where

@@ -1,20 +1,16 @@
 -- For turn_rules too.
 -- Once a line has opened, its events open no line; nor does the first event of a line without an opening item.
-use Rattle.std.proofs.Common.{◌≡◌, ℕ, Bool, true, false, cond, Option, Some, None, subst}
-use Rattle.history_book.specs.declared.item.Actor.{Actor}
-use Rattle.history_book.specs.declared.item.Actor.TheVariants.{Clock, Node, Session, Janitor}
-use Rattle.system_parts.specs.declared.instance.Place.{Place}
+use Rattle.command_semantics.proofs.Names.{◌≡◌, ℕ, Bool, true, false, cond, Option, Some, None, subst, Actor, Clock}
+use Rattle.command_semantics.proofs.Names.{Node, Session, Janitor, Place, Doing, Event, Verb, Point, Opens, Drives}
+use Rattle.command_semantics.proofs.Names.{Extends, Finishes, Reads, Steps, Over, View, Clocks, serves, is_served}
+use Rattle.command_semantics.proofs.Names.{finish_next, places, placing_next, drive_next, extend_by, extend_next}
+use Rattle.command_semantics.proofs.Names.{idle_next, collect_next, read_next, steps_next, sweep_next, clock_opens}
+use Rattle.command_semantics.proofs.Names.{node_opens, session_opens, janitor_opens, session_next, janitor_next}
+use Rattle.command_semantics.proofs.Names.{opens_alone, next, session_opening, node_opening, clock_opening}
+use Rattle.command_semantics.proofs.Names.{name_opening, has_opening}
 use Rattle.system_parts.specs.declared.instance.Place.TheVariants as place
-use Rattle.machine.specs.declared.event.Doing.{Doing}
 use Rattle.machine.specs.declared.event.Doing.TheVariants as doing
-use Rattle.machine.specs.declared.event.Event.{Event}
-use Rattle.script_data.specs.declared.line.Verb.{Verb}
 use Rattle.script_data.specs.declared.line.Verb.TheVariants as verb
-use Rattle.command_semantics.specs.declared.point.Point.{Point}
-use Rattle.command_semantics.specs.declared.point.Point.TheVariants.{Opens, Drives, Extends, Finishes, Reads, Steps, Over}
-use Rattle.command_semantics.specs.declared.point.View.{View}
-use Rattle.command_semantics.specs.Next.{Clocks, serves, is_served, finish_next, places, placing_next, drive_next, extend_by, extend_next, idle_next, collect_next, read_next, steps_next, sweep_next, clock_opens, node_opens, session_opens, janitor_opens, session_next, janitor_next, opens_alone, next}
-use Rattle.command_semantics.specs.Answers.{session_opening, node_opening, clock_opening, name_opening, has_opening}
 use Rattle.command_semantics.proofs.PlainEvents.{OpensNone}
 
 abbrev pub IfOpensNone : Option Event → Type 0

@@ -1,3 +1,4 @@
+mod Names
 mod ReadItems
 mod MadeOfRecord
 mod MadeOfRequests

@@ -1,21 +1,15 @@
 -- The events of lines read the clocks: each reading is that of its node's clock, and the clock's line alone ticks.
-use Rattle.std.proofs.Common.{◌≡◌, ℕ, Bool, true, false, cond, Option, Some, None, refl, sym, subst}
-use Rattle.history_book.specs.declared.item.Actor.{Actor}
-use Rattle.history_book.specs.declared.item.Actor.TheVariants.{Clock, Node, Session, Janitor}
-use Rattle.system_parts.specs.declared.instance.Place.{Place}
+use Rattle.command_semantics.proofs.Names.{◌≡◌, ℕ, Bool, true, false, cond, Option, Some, None, refl, sym, subst, Actor}
+use Rattle.command_semantics.proofs.Names.{Clock, Node, Session, Janitor, Place, Doing, Event, Verb, Point, Opens}
+use Rattle.command_semantics.proofs.Names.{Drives, Extends, Finishes, Reads, Steps, Over, View, Clocks, serves}
+use Rattle.command_semantics.proofs.Names.{is_served, finish_next, places, placing_next, drive_next, extend_by}
+use Rattle.command_semantics.proofs.Names.{extend_next, idle_next, collect_next, read_next, steps_next, sweep_next}
+use Rattle.command_semantics.proofs.Names.{clock_opens, node_opens, session_opens, janitor_opens, session_next}
+use Rattle.command_semantics.proofs.Names.{janitor_next, opens_alone, next, tick_by, ReadsClocks, tick_at}
+use Rattle.command_semantics.proofs.Names.{LinesReadClocks}
 use Rattle.system_parts.specs.declared.instance.Place.TheVariants as place
-use Rattle.machine.specs.declared.event.Doing.{Doing}
 use Rattle.machine.specs.declared.event.Doing.TheVariants as doing
-use Rattle.machine.specs.declared.event.Event.{Event}
-use Rattle.script_data.specs.declared.line.Verb.{Verb}
 use Rattle.script_data.specs.declared.line.Verb.TheVariants as verb
-use Rattle.command_semantics.specs.declared.point.Point.{Point}
-use Rattle.command_semantics.specs.declared.point.Point.TheVariants.{Opens, Drives, Extends, Finishes, Reads, Steps, Over}
-use Rattle.command_semantics.specs.declared.point.View.{View}
-use Rattle.command_semantics.specs.Next.{Clocks, serves, is_served, finish_next, places, placing_next, drive_next, extend_by, extend_next, idle_next, collect_next, read_next, steps_next, sweep_next, clock_opens, node_opens, session_opens, janitor_opens, session_next, janitor_next, opens_alone, next}
-use Rattle.command_semantics.specs.Planned.{tick_by}
-use Rattle.command_semantics.specs.SoFar.{ReadsClocks, tick_at}
-use Rattle.command_semantics.specs.PlannedLaws.{LinesReadClocks}
 
 abbrev IfReads : Clocks → Option ℕ → Option Event → Type 0
 IfReads clocks tick None = Unit {0}

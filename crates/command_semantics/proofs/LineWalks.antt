@@ -1,35 +1,16 @@
 -- For turn_rules and log_refinement too.
 -- What the run of a line appends: its answer and what belongs to it for the line's actor, and no opening item of any other.
-use Rattle.std.proofs.Common.{◌≡◌, ℕ, zero, suc, ◌<◌, Bool, true, false, List, [], ◌++◌, append_assoc, Option, Some, None, ◌⊎◌, inl, inr, refl, sym, ◌∙◌, ap, subst}
-use Rattle.std.proofs.lemmas.List.{append-nil}
-use Rattle.std.proofs.lemmas.Option.{none-some}
-use Rattle.stamp_base.specs.SetupNumbers.{SetupNumbers}
-use Rattle.port_io.specs.declared.weather.Fate.{Fate}
-use Rattle.history_book.specs.declared.item.Actor.{Actor}
-use Rattle.history_book.specs.declared.item.Actor.TheVariants.{Session}
-use Rattle.history_book.specs.declared.item.Item.{Item}
-use Rattle.machine.specs.declared.event.Event.{Event}
+use Rattle.command_semantics.proofs.Names.{◌≡◌, ℕ, zero, suc, ◌<◌, Bool, true, false, List, [], ◌++◌, append_assoc}
+use Rattle.command_semantics.proofs.Names.{Option, Some, None, ◌⊎◌, inl, inr, refl, sym, ◌∙◌, ap, subst, append-nil}
+use Rattle.command_semantics.proofs.Names.{none-some, SetupNumbers, Fate, Actor, Session, Item, Event, State, Stop}
+use Rattle.command_semantics.proofs.Names.{Step, stepped, doing_of, Line, Target, Verb, ScriptData, ReachedInvariant}
+use Rattle.command_semantics.proofs.Names.{Point, Opens, Drives, Extends, Finishes, Reads, Steps, Over, halt_of}
+use Rattle.command_semantics.proofs.Names.{follows, view_of, last_master, Clocks, target_node, read_next, next}
+use Rattle.command_semantics.proofs.Names.{IsAnswer, asks_last, has_opening, fate_of, step_of, Run, clocks_of, next_in}
+use Rattle.command_semantics.proofs.Names.{run_after, going_on, run_for, ActorFits, VerbFits}
 use Rattle.machine.specs.declared.event.Event.TheVariants as event
-use Rattle.machine.specs.State.{State}
-use Rattle.machine.specs.Effect.{Stop}
-use Rattle.machine.specs.Machine.{Step, stepped}
-use Rattle.machine.specs.Readers.{doing_of}
-use Rattle.script_data.specs.declared.line.Line.{Line}
-use Rattle.script_data.specs.declared.line.Target.{Target}
 use Rattle.script_data.specs.declared.line.Target.TheVariants as target
-use Rattle.script_data.specs.declared.line.Verb.{Verb}
 use Rattle.script_data.specs.declared.line.Verb.TheVariants as verb
-use Rattle.script_data.specs.Data.{ScriptData}
-use Rattle.isolation_laws.specs.Sound.{ReachedInvariant}
-use Rattle.command_semantics.specs.declared.point.Point.{Point}
-use Rattle.command_semantics.specs.declared.point.Point.TheVariants.{Opens, Drives, Extends, Finishes, Reads, Steps, Over}
-use Rattle.command_semantics.specs.Interruptions.{halt_of, follows}
-use Rattle.command_semantics.specs.Views.{view_of}
-use Rattle.command_semantics.specs.Master.{last_master}
-use Rattle.command_semantics.specs.Next.{Clocks, target_node, read_next, next}
-use Rattle.command_semantics.specs.Answers.{IsAnswer, asks_last, has_opening}
-use Rattle.command_semantics.specs.Runs.{fate_of, step_of, Run, clocks_of, next_in, run_after, going_on, run_for}
-use Rattle.command_semantics.specs.Laws.{ActorFits, VerbFits}
 use Rattle.command_semantics.proofs.AlwaysFit.{Fit}
 use Rattle.command_semantics.proofs.Ending.{Keeps, Going, goes_on}
 use Rattle.command_semantics.proofs.OpenedLines.{line_answered}

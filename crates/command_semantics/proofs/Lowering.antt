@@ -1,41 +1,28 @@
 -- Each event that the run of a session's line makes lowers what is left.
-use Rattle.std.proofs.Common.{◌≡◌, ℕ, ◌+◌, ◌<◌, Bool, true, false, cond, List, Option, Some, None, ◌⊎◌, ◌≤◌, inl, inr, refl, sym, ◌∙◌, ap, subst, arith}
-use Rattle.std.specs.Prelude.{slice_get, slice_set}
-use Rattle.std.proofs.lemmas.Option.{same_Some, none-some}
-use Rattle.port_io.specs.declared.weather.Fate.{Fate}
-use Rattle.history_book.specs.declared.cause.Cause.{Cause}
-use Rattle.history_book.specs.declared.item.Actor.TheVariants.{Session}
-use Rattle.history_book.specs.declared.item.Item.{Item}
-use Rattle.system_parts.specs.declared.session.State.{State as SessionState}
+use Rattle.command_semantics.proofs.Names.{◌≡◌, ℕ, ◌+◌, ◌<◌, Bool, true, false, cond, List, Option, Some, None, ◌⊎◌}
+use Rattle.command_semantics.proofs.Names.{◌≤◌, inl, inr, refl, sym, ◌∙◌, ap, subst, arith, slice_get, slice_set}
+use Rattle.command_semantics.proofs.Names.{same_Some, none-some, Fate, Cause, Session, Item, SessionState, SessionEntry}
+use Rattle.command_semantics.proofs.Names.{step_refusal, handed_commit, Place, Event, UnderWay, Nothing, UnderRead}
+use Rattle.command_semantics.proofs.Names.{Settles, Completes, Client, State, is_reading, Step, at_client, stepped}
+use Rattle.command_semantics.proofs.Names.{work_by, work_of, step_on, client_doing, doing_at, doing_of, place_of}
+use Rattle.command_semantics.proofs.Names.{asks_commit, Verb, ClientAt, ReachedInvariant, Interruption, Point, Opens}
+use Rattle.command_semantics.proofs.Names.{Drives, Extends, Finishes, Reads, Steps, Over, halt_of, after_serving}
+use Rattle.command_semantics.proofs.Names.{after_stepping, follows, refused_by, view_of, Clocks, target_node, serves}
+use Rattle.command_semantics.proofs.Names.{is_served, places, finish_next, placing_next, drive_next, extend_by}
+use Rattle.command_semantics.proofs.Names.{extend_next, idle_next, collect_next, read_next, steps_next, session_opens}
+use Rattle.command_semantics.proofs.Names.{session_next, asks_left, steps_left, steps_due, keys_of, of_client}
+use Rattle.command_semantics.proofs.Names.{client_completes, client_reads, client_steps, drive_left, session_left}
+use Rattle.command_semantics.proofs.Names.{Refused}
 use Rattle.system_parts.specs.declared.session.State.TheVariants as phase
-use Rattle.system_parts.specs.SessionSteps.{SessionEntry, step_refusal, handed_commit}
-use Rattle.system_parts.specs.declared.instance.Place.{Place}
 use Rattle.system_parts.specs.declared.instance.Place.TheVariants as place
-use Rattle.machine.specs.declared.event.Event.{Event}
 use Rattle.machine.specs.declared.event.Event.TheVariants as event
-use Rattle.machine.specs.State.{UnderWay, Nothing, Reads as UnderRead, Settles, Completes, Client, State}
-use Rattle.machine.specs.Clients.{is_reading}
-use Rattle.machine.specs.Machine.{Step, at_client, stepped}
-use Rattle.machine.specs.Events.Step.{work_by, work_of, step_on}
-use Rattle.machine.specs.Readers.{client_doing, doing_at, doing_of, place_of, asks_commit}
-use Rattle.script_data.specs.declared.line.Verb.{Verb}
 use Rattle.script_data.specs.declared.line.Verb.TheVariants as verb
-use Rattle.isolation_laws.specs.Words.{ClientAt}
-use Rattle.isolation_laws.specs.Sound.{ReachedInvariant}
-use Rattle.command_semantics.specs.declared.point.Interruption.{Interruption}
-use Rattle.command_semantics.specs.declared.point.Point.{Point}
-use Rattle.command_semantics.specs.declared.point.Point.TheVariants.{Opens, Drives, Extends, Finishes, Reads, Steps, Over}
-use Rattle.command_semantics.specs.Interruptions.{halt_of, after_serving, after_stepping, follows, refused_by}
-use Rattle.command_semantics.specs.Views.{view_of}
-use Rattle.command_semantics.specs.Next.{Clocks, target_node, serves, is_served, places, finish_next, placing_next, drive_next, extend_by, extend_next, idle_next, collect_next, read_next, steps_next, session_opens, session_next}
-use Rattle.command_semantics.specs.Left.{asks_left, steps_left, steps_due, keys_of, of_client, client_completes, client_reads, client_steps, drive_left, session_left}
 use Rattle.command_semantics.proofs.Clients.{client_now}
 use Rattle.command_semantics.proofs.Serving.{Lowers}
 use Rattle.command_semantics.proofs.Extending.{extend_lowers}
 use Rattle.command_semantics.proofs.Working.{CompleteWork, HasWork, completes, places_commit, has_work}
 use Rattle.command_semantics.proofs.Stepping.{StepsEnd, stores_step, LowersAt, steps_lower, reads_lower, completes_lower}
 use Rattle.command_semantics.proofs.Opening.{halted_less, begin_lowers, commit_lowers, write_lowers, abort_lowers, fetch_lowers}
-use Rattle.command_semantics.specs.declared.point.Interruption.TheVariants.{Refused}
 use Rattle.command_semantics.proofs.Doings.{Finishing, finishing_by, Placing, placing_by, Stepping, stepping_by, ReadingOn, reading_by, idling_by, not_idle, step_refused, plainly_refused, refused_unhanded}
 use Rattle.command_semantics.proofs.Driving.{serving_at, serves_lower, undriven_at, completion_lowers, placing_lowers, finish_lowers}
 

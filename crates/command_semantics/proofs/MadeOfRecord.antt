@@ -1,27 +1,18 @@
 -- The items of the events on the master record: takes and renewals tell the reading that they were made with.
-use Rattle.std.proofs.Common.{◌≡◌, ℕ, ◌==◌, Bool, true, false, if◌then◌else◌, [], ◌∷◌, Option, Some, None, refl, ◌∙◌}
-use Rattle.stamp_base.specs.SetupNumbers.{SetupNumbers}
-use Rattle.stamp_base.specs.declared.stores.Store.TheVariants.{Master}
-use Rattle.port_io.specs.declared.weather.Fate.{Fate}
-use Rattle.port_io.specs.declared.weather.Fate.TheVariants.{Works, FailsUnchanged, FailsApplied}
+use Rattle.command_semantics.proofs.Names.{◌≡◌, ℕ, ◌==◌, Bool, true, false, if◌then◌else◌, [], ◌∷◌, Option, Some, None}
+use Rattle.command_semantics.proofs.Names.{refl, ◌∙◌, SetupNumbers, Master, Fate, Works, FailsUnchanged, FailsApplied}
+use Rattle.command_semantics.proofs.Names.{Node, Grant, ExtendRefused, MasterRecord, is_early, is_spent, take_refused}
+use Rattle.command_semantics.proofs.Names.{granted, renew_refused, extend_refused, answered, InstanceEntry, State}
+use Rattle.command_semantics.proofs.Names.{kept_items, rules_of, take_item, take_by, take_on, take_asks, renew_by}
+use Rattle.command_semantics.proofs.Names.{renew_on, renew_asks, extend_on, extend_asks, Clocks, reading_at}
 use Rattle.history_book.specs.declared.cause.Cause.TheVariants as cause
-use Rattle.history_book.specs.declared.item.Actor.TheVariants.{Node}
 use Rattle.history_book.specs.declared.item.Item.TheVariants as item
-use Rattle.system_parts.specs.declared.record.Grant.{Grant}
 use Rattle.system_parts.specs.declared.record.TakeRefused.{TakeRefused}
 use Rattle.system_parts.specs.declared.record.TakeRefused.TheVariants as take
 use Rattle.system_parts.specs.declared.record.RenewRefused.{RenewRefused}
 use Rattle.system_parts.specs.declared.record.RenewRefused.TheVariants as renew
-use Rattle.system_parts.specs.declared.record.ExtendRefused.{ExtendRefused}
 use Rattle.system_parts.specs.declared.record.ExtendRefused.TheVariants as extend
-use Rattle.system_parts.specs.Record.{MasterRecord, is_early, is_spent, take_refused, granted, renew_refused, extend_refused, answered}
-use Rattle.system_parts.specs.Instance.{InstanceEntry}
-use Rattle.machine.specs.State.{State}
-use Rattle.machine.specs.Effect.{kept_items}
-use Rattle.machine.specs.Events.Take.{rules_of, take_item, take_by, take_on, take_asks}
-use Rattle.machine.specs.Events.Renew.{renew_by, renew_on, renew_asks}
-use Rattle.machine.specs.Events.Extend.{extend_by, extend_on, extend_asks}
-use Rattle.command_semantics.specs.Next.{Clocks, reading_at}
+use Rattle.machine.specs.Events.Extend.{extend_by}
 use Rattle.command_semantics.proofs.ReadItems.{Made, none_read, one_read, made_one, made_fault, made_refused, unchanged_fails, applied_fails}
 
 -- ---- takes

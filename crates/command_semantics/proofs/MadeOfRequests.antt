@@ -1,44 +1,25 @@
 -- The items of the events that serve a request. One that is refused as expired is told the reading of its node's clock, and
 -- its node is that of the session's last ask.
-use Rattle.std.proofs.Common.{◌≡◌, ℕ, ◌==◌, Bool, true, false, if◌then◌else◌, List, [], ◌∷◌, Option, Some, None, Result, Ok, Err, ◌⊎◌, inl, inr, refl, sym, subst}
-use Rattle.std.specs.Prelude.{slice_get, nat_lt, nat_le}
-use Rattle.stamp_base.specs.declared.stores.Mark.{Mark}
-use Rattle.stamp_base.specs.declared.stores.Store.TheVariants.{Table}
-use Rattle.port_io.specs.declared.weather.Fate.{Fate}
-use Rattle.port_io.specs.declared.weather.Fate.TheVariants.{Works, FailsUnchanged, FailsApplied}
-use Rattle.history_book.specs.declared.cause.Cause.{Cause}
+use Rattle.command_semantics.proofs.Names.{◌≡◌, ℕ, ◌==◌, Bool, true, false, if◌then◌else◌, List, [], ◌∷◌, Option, Some}
+use Rattle.command_semantics.proofs.Names.{None, Result, Ok, Err, ◌⊎◌, inl, inr, refl, sym, subst, slice_get, nat_le}
+use Rattle.command_semantics.proofs.Names.{Mark, Table, Fate, Works, FailsUnchanged, FailsApplied, Cause, Node, Session}
+use Rattle.command_semantics.proofs.Names.{Item, Handed, Pairs, mark_of, Verdict, Free, Conflict, Hidden, Decided, Held}
+use Rattle.command_semantics.proofs.Names.{Progress, Reply, Request, Begin, Commit, InstanceEntry, held_of, stamps_at}
+use Rattle.command_semantics.proofs.Names.{was_told_not_yet, least_unsettled, stamp_of, InstanceStep, epoch_refusal}
+use Rattle.command_semantics.proofs.Names.{accept_unless, accept_if_asked, accept_held, out_of_stamps, decide_drawn}
+use Rattle.command_semantics.proofs.Names.{verdict_by, answer_begin, answer_if_ready, answer_held, instance_answer}
+use Rattle.command_semantics.proofs.Names.{Client, State, accept_by, accept_request, accept_on, both_verdict}
+use Rattle.command_semantics.proofs.Names.{both_if_accepted, both_held, decide_both, draw_item, decide_by}
+use Rattle.command_semantics.proofs.Names.{decide_request, decide_on, to_place, put_by, put_commit, put_on, commit_asks}
+use Rattle.command_semantics.proofs.Names.{put_asks, answer_by, answer_request, answer_on, its_node, InstanceAt, StopOf}
+use Rattle.command_semantics.proofs.Names.{AreStops, held_by, ShownInvariant, Clocks, reading_at}
+use Rattle.std.specs.Prelude.{nat_lt}
 use Rattle.history_book.specs.declared.cause.Cause.TheVariants as cause
-use Rattle.history_book.specs.declared.item.Actor.TheVariants.{Node, Session}
-use Rattle.history_book.specs.declared.item.Item.{Item}
 use Rattle.history_book.specs.declared.item.Item.TheVariants as item
-use Rattle.history_book.specs.declared.item.StoreStep.TheVariants.{Handed}
-use Rattle.system_parts.specs.Pairs.{Pairs, mark_of}
-use Rattle.system_parts.specs.declared.buckets.Verdict.{Verdict}
-use Rattle.system_parts.specs.declared.buckets.Verdict.TheVariants.{Free, Conflict, Hidden}
-use Rattle.system_parts.specs.declared.instance.Decided.{Decided}
-use Rattle.system_parts.specs.declared.instance.Held.{Held}
-use Rattle.system_parts.specs.declared.instance.Progress.{Progress}
 use Rattle.system_parts.specs.declared.instance.Progress.TheVariants as progress
-use Rattle.system_parts.specs.declared.instance.Reply.{Reply}
 use Rattle.system_parts.specs.declared.instance.Reply.TheVariants as reply
-use Rattle.system_parts.specs.declared.instance.Request.{Request}
-use Rattle.system_parts.specs.declared.instance.Request.TheVariants.{Begin, Commit}
-use Rattle.system_parts.specs.Instance.{InstanceEntry, held_of, stamps_at, was_told_not_yet, least_unsettled}
-use Rattle.system_parts.specs.InstanceLaws.{stamp_of}
-use Rattle.system_parts.specs.InstanceSteps.{InstanceStep, epoch_refusal, accept_unless, accept_if_asked, accept_held, out_of_stamps, decide_drawn, decide_by as verdict_by, answer_begin, answer_if_ready, answer_held, instance_answer}
-use Rattle.machine.specs.State.{Client, State}
-use Rattle.machine.specs.Events.Accept.{accept_by, accept_request, accept_on}
-use Rattle.machine.specs.Events.Decide.{both_verdict, both_if_accepted, both_held, decide_both, draw_item, decide_by, decide_request, decide_on}
-use Rattle.machine.specs.Events.Put.{to_place, put_by, put_commit, put_on, commit_asks, put_asks}
-use Rattle.machine.specs.Events.Answer.{answer_by, answer_request, answer_on}
-use Rattle.cause_rules.specs.Asks.{its_node}
-use Rattle.isolation_laws.specs.Words.{InstanceAt}
-use Rattle.machine.specs.Fits.{StopOf, AreStops}
-use Rattle.machine.proofs.Lookups.{held_by}
 use Rattle.cause_laws.specs.Due.{Serves}
-use Rattle.cause_laws.specs.ShownInvariant.{ShownInvariant}
 use Rattle.cause_laws.proofs.ShownOfRequests.{node_of}
-use Rattle.command_semantics.specs.Next.{Clocks, reading_at}
 use Rattle.command_semantics.proofs.ReadItems.{Made, none_read, one_read, made_one, made_fault, unchanged_fails, applied_fails, AnswersUntimed, made_refused, made_once}
 
 -- ---- accept

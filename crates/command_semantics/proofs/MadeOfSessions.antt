@@ -1,40 +1,22 @@
 -- The items of a crash, and of the events of sessions that make no step.
-use Rattle.std.proofs.Common.{ℕ, ◌==◌, Bool, true, false, if◌then◌else◌, List, [], ◌∷◌, length, Option, Some, None, All, inl, ◌||◌}
+use Rattle.command_semantics.proofs.Names.{ℕ, ◌==◌, Bool, true, false, if◌then◌else◌, List, [], ◌∷◌, length, Option}
+use Rattle.command_semantics.proofs.Names.{Some, None, All, inl, ◌||◌, option_or, All-cons, All-append, SetupNumbers}
+use Rattle.command_semantics.proofs.Names.{Cells, KEY_LIMIT, Fate, Works, FailsUnchanged, FailsApplied, Cause, Node}
+use Rattle.command_semantics.proofs.Names.{Session, Item, Cell, Row, fetched, SessionState, ReadTurn, Asks, Answers}
+use Rattle.command_semantics.proofs.Names.{begin_refusal, work_refusal, vanish_refusal, key_refusal, has_key, Held}
+use Rattle.command_semantics.proofs.Names.{Request, Begin, Commit, InstanceEntry, in_flight, Client, is_reading}
+use Rattle.command_semantics.proofs.Names.{loss_heard, loss_items, crashed_items, all_crashed_items, crash_on, asked_by}
+use Rattle.command_semantics.proofs.Names.{ask_begin_by, ask_begin_on, commit_of, ask_commit_by, ask_commit_on}
+use Rattle.command_semantics.proofs.Names.{abort_by, abort_on, vanish_by, vanish_on, write_refused, write_by}
+use Rattle.command_semantics.proofs.Names.{write_open, write_on, open_asks, write_asks, fetch_recall, keeps_read}
+use Rattle.command_semantics.proofs.Names.{reads_refusal, fetch_refused, read_items, fetch_by, fetch_open, fetch_on}
+use Rattle.command_semantics.proofs.Names.{epoch_asks, fetch_asks, Clocks}
 use Rattle.std.specs.Prelude.{nat_lt}
-use Rattle.std.specs.Option.{option_or}
-use Rattle.std.proofs.lemmas.List.Elements.{All-cons, All-append}
-use Rattle.stamp_base.specs.SetupNumbers.{SetupNumbers}
-use Rattle.stamp_base.specs.declared.stores.Store.TheVariants.{Cells}
-use Rattle.stamp_base.specs.declared.limits.TheConstants.{KEY_LIMIT}
-use Rattle.port_io.specs.declared.weather.Fate.{Fate}
-use Rattle.port_io.specs.declared.weather.Fate.TheVariants.{Works, FailsUnchanged, FailsApplied}
-use Rattle.history_book.specs.declared.cause.Cause.{Cause}
 use Rattle.history_book.specs.declared.cause.Cause.TheVariants as cause
-use Rattle.history_book.specs.declared.item.Actor.TheVariants.{Node, Session}
 use Rattle.history_book.specs.declared.item.Ending.TheVariants.{Aborted, ReadOnly}
-use Rattle.history_book.specs.declared.item.Item.{Item}
 use Rattle.history_book.specs.declared.item.Item.TheVariants as item
-use Rattle.system_parts.specs.declared.rows.Cell.{Cell}
-use Rattle.system_parts.specs.Rows.{Row, fetched}
-use Rattle.system_parts.specs.declared.session.State.{State as SessionState}
 use Rattle.system_parts.specs.declared.session.State.TheVariants as phase
-use Rattle.system_parts.specs.KeyRead.{ReadTurn, Asks, Answers}
-use Rattle.system_parts.specs.SessionSteps.{begin_refusal, work_refusal, vanish_refusal, key_refusal, has_key}
-use Rattle.system_parts.specs.declared.instance.Held.{Held}
-use Rattle.system_parts.specs.declared.instance.Request.{Request}
-use Rattle.system_parts.specs.declared.instance.Request.TheVariants.{Begin, Commit}
-use Rattle.system_parts.specs.Instance.{InstanceEntry, in_flight}
-use Rattle.machine.specs.State.{Client}
-use Rattle.machine.specs.Clients.{is_reading}
-use Rattle.machine.specs.Events.Crash.{loss_heard, loss_items, crashed_items, all_crashed_items, crash_on}
-use Rattle.machine.specs.Events.AskBegin.{asked_by, ask_begin_by, ask_begin_on}
-use Rattle.machine.specs.Events.AskCommit.{commit_of, ask_commit_by, ask_commit_on}
-use Rattle.machine.specs.Events.Abort.{abort_by, abort_on}
-use Rattle.machine.specs.Events.Vanish.{vanish_by, vanish_on}
-use Rattle.machine.specs.Events.Write.{write_refused, write_by, write_open, write_on, open_asks, write_asks}
-use Rattle.machine.specs.Events.Fetch.{fetch_recall, keeps_read, reads_refusal, fetch_refused, read_items, fetch_by, fetch_open, fetch_on, epoch_asks, fetch_asks}
 use Rattle.machine.proofs.Inversions.InversionOfAsks.{asked_if}
-use Rattle.command_semantics.specs.Next.{Clocks}
 use Rattle.command_semantics.proofs.ReadItems.{IsRead, Made, none_read, one_read, made_none, made_one, made_failed, made_fault, unchanged_fails, applied_fails, IfUntimed, made_refused}
 
 -- ---- a crash

@@ -1,41 +1,26 @@
 -- The items of the steps on the stores: those of a session, a heal among them, and those of a sweep.
-use Rattle.std.proofs.Common.{◌≢◌, ℕ, Bool, true, false, if◌then◌else◌, List, [], ◌∷◌, ◌++◌, Option, Some, None, All, inl, inr, refl}
-use Rattle.std.proofs.lemmas.List.Elements.{All-append, All-cons}
-use Rattle.stamp_base.specs.declared.stores.Mark.{Mark}
-use Rattle.stamp_base.specs.declared.stores.Store.TheVariants.{Cells, Table}
-use Rattle.port_io.specs.declared.weather.Fate.{Fate}
-use Rattle.port_io.specs.declared.weather.Fate.TheVariants.{Works, FailsUnchanged, FailsApplied}
-use Rattle.history_book.specs.declared.cause.Cause.{Cause}
+use Rattle.command_semantics.proofs.Names.{◌≢◌, ℕ, Bool, true, false, if◌then◌else◌, List, [], ◌∷◌, ◌++◌, Option, Some}
+use Rattle.command_semantics.proofs.Names.{None, All, inl, inr, refl, All-append, All-cons, Mark, Cells, Table, Fate}
+use Rattle.command_semantics.proofs.Names.{Works, FailsUnchanged, FailsApplied, Cause, Actor, Session, Janitor}
+use Rattle.command_semantics.proofs.Names.{PutFound, Item, Row, Pairs, mark_of, Ask, Told, SessionState, Reading}
+use Rattle.command_semantics.proofs.Names.{read_ask, Settling, settle_ask, SettleTurn, Goes, Decides, settle_turn}
+use Rattle.command_semantics.proofs.Names.{step_refusal, handed_commit, Sweeping, sweep_ask, sweep_told, is_undecided}
+use Rattle.command_semantics.proofs.Names.{InstanceEntry, UnderWay, Nothing, Settles, Completes, Client, is_reading}
+use Rattle.command_semantics.proofs.Names.{met, store_of, told_by, entry_of, mark_item, step_item, mark_kept}
+use Rattle.command_semantics.proofs.Names.{effect_items, no_offer_cause, offer_of, heal_at, heal_on, offer_asks}
+use Rattle.command_semantics.proofs.Names.{heal_asks, client_put_fresh, place_by, step_recall, read_step, settle_items}
+use Rattle.command_semantics.proofs.Names.{settle_step, complete_step, work_of, next_of, step_at, step_due, step_on}
+use Rattle.command_semantics.proofs.Names.{store_asked, asked_next, step_asks_by, step_asks, sweep_open_on}
+use Rattle.command_semantics.proofs.Names.{undecided_items, sweep_met, sweep_lists, sweep_at, sweep_step_on}
+use Rattle.command_semantics.proofs.Names.{sweep_step_asks, Clocks}
 use Rattle.history_book.specs.declared.cause.Cause.TheVariants as cause
-use Rattle.history_book.specs.declared.item.Actor.{Actor}
-use Rattle.history_book.specs.declared.item.Actor.TheVariants.{Session, Janitor}
-use Rattle.history_book.specs.declared.item.StoreStep.TheVariants.{PutFound}
-use Rattle.history_book.specs.declared.item.Item.{Item}
 use Rattle.history_book.specs.declared.item.Item.TheVariants as item
-use Rattle.system_parts.specs.Rows.{Row}
-use Rattle.system_parts.specs.Pairs.{Pairs, mark_of}
-use Rattle.system_parts.specs.declared.asks.Ask.{Ask}
 use Rattle.system_parts.specs.declared.asks.Ask.TheVariants as ask
-use Rattle.system_parts.specs.declared.asks.Told.{Told}
 use Rattle.system_parts.specs.declared.asks.Told.TheVariants as told
 use Rattle.system_parts.specs.declared.resolve.Outcome.TheVariants as outcome
-use Rattle.system_parts.specs.declared.session.State.{State as SessionState}
 use Rattle.system_parts.specs.declared.session.State.TheVariants as phase
-use Rattle.system_parts.specs.KeyRead.{Reading, read_ask}
-use Rattle.system_parts.specs.Resolve.{Settling, settle_ask, SettleTurn, Goes, Decides, settle_turn}
-use Rattle.system_parts.specs.SessionSteps.{step_refusal, handed_commit}
-use Rattle.system_parts.specs.Sweep.{Sweeping, sweep_ask, sweep_told, is_undecided}
-use Rattle.system_parts.specs.Instance.{InstanceEntry}
-use Rattle.machine.specs.State.{UnderWay, Nothing, Reads, Settles, Completes, Client}
-use Rattle.machine.specs.Clients.{is_reading}
-use Rattle.machine.specs.StoreSteps.{met, store_of, told_by, entry_of, mark_item, step_item, mark_kept, effect_items}
-use Rattle.machine.specs.Events.Heal.{no_offer_cause, offer_of, heal_at, heal_on, offer_asks, heal_asks}
-use Rattle.machine.specs.Events.Fetch.{client_put_fresh}
-use Rattle.machine.specs.Events.Place.{place_by}
-use Rattle.machine.specs.Events.Step.{step_recall, read_step, settle_items, settle_step, complete_step, work_of, next_of, step_at, step_due, step_by, step_on, store_asked, asked_next, step_asks_by, step_asks}
-use Rattle.machine.specs.Events.SweepOpen.{sweep_open_on}
-use Rattle.machine.specs.Events.SweepStep.{undecided_items, sweep_met, sweep_lists, sweep_at, sweep_step_on, sweep_step_asks}
-use Rattle.command_semantics.specs.Next.{Clocks}
+use Rattle.machine.specs.State.{Reads}
+use Rattle.machine.specs.Events.Step.{step_by}
 use Rattle.command_semantics.proofs.ReadItems.{IsRead, Made, none_read, one_read, made_none, made_one, made_fault, unchanged_fails, applied_fails, Untimed, IfUntimed, made_refused}
 use Rattle.command_semantics.proofs.MadeOfSessions.{read_turn_read}
 

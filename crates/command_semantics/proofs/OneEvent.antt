@@ -1,28 +1,16 @@
 -- One event keeps to the plan, and what kept to the plan is as the script plans it.
-use Rattle.std.proofs.Common.{◌≡◌, ℕ, ◌+◌, cond, List, [], ◌∷◌, ◌++◌, All, Option, Some, None, ◌⊎◌, inl, inr, refl, sym, ◌∙◌, ap, subst, arith}
-use Rattle.std.specs.Prelude.{count_by, IsSomeAnd}
-use Rattle.std.proofs.lemmas.Option.{none-some}
-use Rattle.std.proofs.lemmas.List.Elements.{All-nil, All-cons}
-use Rattle.std.proofs.lemmas.List.Sums.{sum_by-cons, sum_by_push}
-use Rattle.stamp_base.specs.declared.stores.Store.{Store}
-use Rattle.history_book.specs.Members.{AtEach}
+use Rattle.command_semantics.proofs.Names.{◌≡◌, ℕ, ◌+◌, cond, List, [], ◌∷◌, ◌++◌, All, Option, Some, None, ◌⊎◌, inl}
+use Rattle.command_semantics.proofs.Names.{inr, refl, sym, ◌∙◌, ap, subst, arith, count_by, IsSomeAnd, none-some}
+use Rattle.command_semantics.proofs.Names.{All-nil, All-cons, sum_by-cons, sum_by_push, Store, AtEach, Session, Item}
+use Rattle.command_semantics.proofs.Names.{Event, asks, ScriptData, its_node, last_told-push, ExplainedInvariant}
+use Rattle.command_semantics.proofs.Names.{Clocks, reading_at, is_fault_of, times_told, times_from, time_by}
+use Rattle.command_semantics.proofs.Names.{time_or_start, shown, IsTimed, Played, calls_on, fate_by, fate_of, step_of}
+use Rattle.command_semantics.proofs.Names.{clocks_of, clock_after, played, ReadsClocks, PlannedSoFar, PlannedAtFirst}
+use Rattle.command_semantics.proofs.Names.{EventsStayPlanned, PlannedInTheEnd}
 use Rattle.history_book.specs.declared.cause.Cause.TheVariants as cause
-use Rattle.history_book.specs.declared.item.Actor.TheVariants.{Session}
-use Rattle.history_book.specs.declared.item.Item.{Item}
 use Rattle.history_book.specs.declared.item.Item.TheVariants as item
 use Rattle.history_book.proofs.MemberLemmas.{AtEach-push}
-use Rattle.machine.specs.declared.event.Event.{Event}
 use Rattle.machine.specs.declared.event.Event.TheVariants as event
-use Rattle.machine.specs.Machine.{asks}
-use Rattle.script_data.specs.Data.{ScriptData}
-use Rattle.cause_rules.specs.Asks.{its_node}
-use Rattle.cause_laws.proofs.SinceWords.{last_told-push}
-use Rattle.cause_laws.specs.ShownInvariant.{ExplainedInvariant}
-use Rattle.command_semantics.specs.Next.{Clocks, reading_at}
-use Rattle.command_semantics.specs.Planned.{is_fault_of, times_told, times_from, time_by, time_or_start, shown, IsTimed}
-use Rattle.command_semantics.specs.Runs.{Played, calls_on, fate_by, fate_of, step_of, clocks_of, clock_after, played}
-use Rattle.command_semantics.specs.SoFar.{ReadsClocks, PlannedSoFar}
-use Rattle.command_semantics.specs.PlannedLaws.{PlannedAtFirst, EventsStayPlanned, PlannedInTheEnd}
 use Rattle.command_semantics.proofs.ReadItems.{Made}
 use Rattle.command_semantics.proofs.MadeOfRequests.{Expires}
 use Rattle.command_semantics.proofs.AllMade.{all_made}

@@ -1,31 +1,17 @@
 -- For turn_rules and log_refinement too.
 -- The first event of a line that has an opening item answers the line, where all that the line names is there.
-use Rattle.std.proofs.Common.{◌≡◌, ℕ, ◌<◌, true, List, Option, Some, ◌⊎◌, inl, inr, refl, sym, subst}
-use Rattle.std.specs.Prelude.{slice_get}
-use Rattle.std.proofs.lemmas.Option.{same_Some}
-use Rattle.stamp_base.specs.SetupNumbers.{SetupNumbers}
-use Rattle.port_io.specs.declared.weather.Fate.{Fate}
-use Rattle.history_book.specs.declared.item.Actor.{Actor}
-use Rattle.history_book.specs.declared.item.Actor.TheVariants.{Clock, Node, Session, Janitor}
-use Rattle.history_book.specs.declared.item.Note.{Note}
+use Rattle.command_semantics.proofs.Names.{◌≡◌, ℕ, ◌<◌, true, List, Option, Some, ◌⊎◌, inl, inr, refl, sym, subst}
+use Rattle.command_semantics.proofs.Names.{slice_get, same_Some, SetupNumbers, Fate, Actor, Clock, Node, Session}
+use Rattle.command_semantics.proofs.Names.{Janitor, Note, Item, InstanceEntry, Event, Client, State, Step, at_post}
+use Rattle.command_semantics.proofs.Names.{at_client, at_both, with_reading, stepped, Target, Verb, ReachedInvariant}
+use Rattle.command_semantics.proofs.Names.{Opens, View, Clocks, reading_at, target_node, next, ActorFits, TargetFits}
+use Rattle.command_semantics.proofs.Names.{VerbFits, IsAskBegin, IsAskCommit, IsRefusal, IsReadOnly, IsAnswer}
+use Rattle.command_semantics.proofs.Names.{has_opening}
 use Rattle.history_book.specs.declared.item.Note.TheVariants as note
-use Rattle.history_book.specs.declared.item.Item.{Item}
 use Rattle.history_book.specs.declared.item.Item.TheVariants as item
-use Rattle.system_parts.specs.Instance.{InstanceEntry}
-use Rattle.machine.specs.declared.event.Event.{Event}
 use Rattle.machine.specs.declared.event.Event.TheVariants as event
-use Rattle.machine.specs.State.{Client, State}
-use Rattle.machine.specs.Machine.{Step, at_post, at_client, at_both, with_reading, stepped}
-use Rattle.script_data.specs.declared.line.Target.{Target}
 use Rattle.script_data.specs.declared.line.Target.TheVariants as target
-use Rattle.script_data.specs.declared.line.Verb.{Verb}
 use Rattle.script_data.specs.declared.line.Verb.TheVariants as verb
-use Rattle.isolation_laws.specs.Sound.{ReachedInvariant}
-use Rattle.command_semantics.specs.declared.point.Point.TheVariants.{Opens}
-use Rattle.command_semantics.specs.declared.point.View.{View}
-use Rattle.command_semantics.specs.Next.{Clocks, reading_at, target_node, next}
-use Rattle.command_semantics.specs.Laws.{ActorFits, TargetFits, VerbFits}
-use Rattle.command_semantics.specs.Answers.{IsAskBegin, IsAskCommit, IsRefusal, IsReadOnly, IsAnswer, has_opening}
 use Rattle.command_semantics.proofs.Fitting.{fit_at}
 use Rattle.command_semantics.proofs.AlwaysFit.{Fit, found}
 use Rattle.command_semantics.proofs.OpeningItems.{Begins, BeginAnswer, alone, take_begins, renew_begins, crash_begins, ask_begin_begins, vanish_begins}

@@ -1,41 +1,22 @@
 -- The first event of a session's line lowers what is left.
-use Rattle.std.proofs.Common.{◌≡◌, ℕ, ◌+◌, ◌*◌, ◌<◌, ◌≤◌, Bool, true, false, List, [], ◌∷◌, Option, Some, None, Result, Ok, Err, refl, ap, arith}
-use Rattle.std.specs.Prelude.{slice_get, slice_set}
-use Rattle.stamp_base.specs.SetupNumbers.{SetupNumbers}
-use Rattle.port_io.specs.declared.weather.Fate.{Fate}
-use Rattle.port_io.specs.declared.weather.Fate.TheVariants.{Works, FailsUnchanged, FailsApplied}
-use Rattle.history_book.specs.declared.cause.Cause.{Cause}
-use Rattle.history_book.specs.declared.item.Item.{Item}
+use Rattle.command_semantics.proofs.Names.{◌≡◌, ℕ, ◌+◌, ◌*◌, ◌<◌, ◌≤◌, Bool, true, false, List, [], ◌∷◌, Option, Some}
+use Rattle.command_semantics.proofs.Names.{None, Result, Ok, Err, refl, ap, arith, slice_get, slice_set, SetupNumbers}
+use Rattle.command_semantics.proofs.Names.{Fate, Works, FailsUnchanged, FailsApplied, Cause, Item, Row, fetched}
+use Rattle.command_semantics.proofs.Names.{front_of, Reading, ReadTurn, Asks, Answers, read_left, put_fresh}
+use Rattle.command_semantics.proofs.Names.{Remembering, RecalledReadsEnd, begin_refusal, work_refusal, Place, Begin}
+use Rattle.command_semantics.proofs.Names.{Commit, InstanceEntry, InstanceStep, instance_ask, Client, State, Effect}
+use Rattle.command_semantics.proofs.Names.{is_reading, Step, step_by, with_post, with_client, at_client, at_both}
+use Rattle.command_semantics.proofs.Names.{stepped, asked_by, ask_begin_by, ask_begin_on, commit_of, ask_commit_by}
+use Rattle.command_semantics.proofs.Names.{ask_commit_on, client_wrote, write_refused, write_open, write_on, abort_by}
+use Rattle.command_semantics.proofs.Names.{abort_on, fetch_recall, marks_every, client_fetched, fetch_refused}
+use Rattle.command_semantics.proofs.Names.{client_read, fetch_open, fetch_on, place_of, Verb, Interruption, NoStamp}
+use Rattle.command_semantics.proofs.Names.{NotYet, Refused, Faulted, Point, Drives, Finishes, Reads, halt_of}
+use Rattle.command_semantics.proofs.Names.{unless_halted, after_write, cells_by, of_client, client_completes}
+use Rattle.command_semantics.proofs.Names.{client_ends, client_reads, client_fetches, lacks_at, place_left}
+use Rattle.command_semantics.proofs.Names.{drive_left_by, drive_left, session_left}
 use Rattle.history_book.specs.declared.item.Item.TheVariants.{AskBegin, AskCommit}
-use Rattle.system_parts.specs.Rows.{Row, fetched, front_of}
-use Rattle.system_parts.specs.KeyRead.{Reading, ReadTurn, Asks, Answers, read_left}
-use Rattle.system_parts.specs.Cache.{put_fresh}
-use Rattle.system_parts.specs.Recalled.{Remembering}
-use Rattle.system_parts.specs.RecalledReads.{RecalledReadsEnd}
-use Rattle.system_parts.specs.SessionSteps.{begin_refusal, work_refusal}
-use Rattle.system_parts.specs.declared.instance.Place.{Place}
 use Rattle.system_parts.specs.declared.instance.Place.TheVariants as place
-use Rattle.system_parts.specs.declared.instance.Request.TheVariants.{Begin, Commit}
-use Rattle.system_parts.specs.Instance.{InstanceEntry}
-use Rattle.system_parts.specs.InstanceSteps.{InstanceStep, instance_ask}
 use Rattle.machine.specs.declared.event.Event.TheVariants as event
-use Rattle.machine.specs.State.{Client, State}
-use Rattle.machine.specs.Effect.{Effect}
-use Rattle.machine.specs.Clients.{is_reading}
-use Rattle.machine.specs.Machine.{Step, step_by, with_post, with_client, at_client, at_both, stepped}
-use Rattle.machine.specs.Events.AskBegin.{asked_by, ask_begin_by, ask_begin_on}
-use Rattle.machine.specs.Events.AskCommit.{commit_of, ask_commit_by, ask_commit_on}
-use Rattle.machine.specs.Events.Write.{client_wrote, write_refused, write_open, write_on}
-use Rattle.machine.specs.Events.Abort.{abort_by, abort_on}
-use Rattle.machine.specs.Events.Fetch.{fetch_recall, marks_every, client_fetched, fetch_refused, client_read, fetch_open, fetch_on}
-use Rattle.machine.specs.Readers.{place_of}
-use Rattle.script_data.specs.declared.line.Verb.{Verb}
-use Rattle.command_semantics.specs.declared.point.Interruption.{Interruption}
-use Rattle.command_semantics.specs.declared.point.Interruption.TheVariants.{NoStamp, NotYet, Refused, Faulted}
-use Rattle.command_semantics.specs.declared.point.Point.{Point}
-use Rattle.command_semantics.specs.declared.point.Point.TheVariants.{Drives, Finishes, Reads}
-use Rattle.command_semantics.specs.Interruptions.{halt_of, unless_halted, after_write}
-use Rattle.command_semantics.specs.Left.{cells_by, of_client, client_completes, client_ends, client_reads, client_fetches, lacks_at, place_left, drive_left_by, drive_left, session_left}
 use Rattle.command_semantics.proofs.Clients.{client_now, settles_within, client_left, no_client_left, aborted_left, added_long}
 
 -- a run that stopped has nothing left

@@ -1,33 +1,20 @@
 -- For turn_rules and log_refinement too.
 -- The first item of an event that opens a line answers the line, and no other item of it opens one.
-use Rattle.std.proofs.Common.{◌≡◌, ℕ, Bool, true, false, cond, List, [], ◌∷◌, Option, Some, None, Ok, ◌⊎◌, inl, inr, refl}
-use Rattle.stamp_base.specs.SetupNumbers.{SetupNumbers}
-use Rattle.port_io.specs.declared.weather.Fate.{Fate}
-use Rattle.port_io.specs.declared.weather.Fate.TheVariants.{Works, FailsUnchanged, FailsApplied}
+use Rattle.command_semantics.proofs.Names.{◌≡◌, ℕ, Bool, true, false, cond, List, [], ◌∷◌, Option, Some, None, Ok, ◌⊎◌}
+use Rattle.command_semantics.proofs.Names.{inl, inr, refl, SetupNumbers, Fate, Works, FailsUnchanged, FailsApplied}
+use Rattle.command_semantics.proofs.Names.{Node, Session, Item, Grant, MasterRecord, take_refused, granted}
+use Rattle.command_semantics.proofs.Names.{renew_refused, answered, SessionState, begin_refusal, vanish_refusal, Held}
+use Rattle.command_semantics.proofs.Names.{Request, Begin, Commit, InstanceEntry, in_flight, session_of, with_request}
+use Rattle.command_semantics.proofs.Names.{InstanceStep, stays, just_asked, Client, State, kept_items, rules_of}
+use Rattle.command_semantics.proofs.Names.{take_item, take_by, take_on, renew_by, renew_on, loss_heard, loss_items}
+use Rattle.command_semantics.proofs.Names.{crashed_items, all_crashed_items, crash_on, asked_by, ask_begin_by}
+use Rattle.command_semantics.proofs.Names.{ask_begin_on, vanish_by, vanish_on, IsRefusal, IsTake, IsRenew, IsCrash}
+use Rattle.command_semantics.proofs.Names.{IsVanish, IsAskBegin}
 use Rattle.history_book.specs.declared.cause.Cause.TheVariants as cause
-use Rattle.history_book.specs.declared.item.Actor.TheVariants.{Node, Session}
-use Rattle.history_book.specs.declared.item.Item.{Item}
 use Rattle.history_book.specs.declared.item.Item.TheVariants as item
-use Rattle.system_parts.specs.declared.record.Grant.{Grant}
 use Rattle.system_parts.specs.declared.record.TakeRefused as takes
 use Rattle.system_parts.specs.declared.record.RenewRefused as renews
-use Rattle.system_parts.specs.Record.{MasterRecord, take_refused, granted, renew_refused, answered}
-use Rattle.system_parts.specs.declared.session.State.{State as SessionState}
 use Rattle.system_parts.specs.declared.session.State.TheVariants as phase
-use Rattle.system_parts.specs.SessionSteps.{begin_refusal, vanish_refusal}
-use Rattle.system_parts.specs.declared.instance.Held.{Held}
-use Rattle.system_parts.specs.declared.instance.Request.{Request}
-use Rattle.system_parts.specs.declared.instance.Request.TheVariants.{Begin, Commit}
-use Rattle.system_parts.specs.Instance.{InstanceEntry, in_flight, session_of, with_request}
-use Rattle.system_parts.specs.InstanceSteps.{InstanceStep, stays, just_asked}
-use Rattle.machine.specs.State.{Client, State}
-use Rattle.machine.specs.Effect.{kept_items}
-use Rattle.machine.specs.Events.Take.{rules_of, take_item, take_by, take_on}
-use Rattle.machine.specs.Events.Renew.{renew_by, renew_on}
-use Rattle.machine.specs.Events.Crash.{loss_heard, loss_items, crashed_items, all_crashed_items, crash_on}
-use Rattle.machine.specs.Events.AskBegin.{asked_by, ask_begin_by, ask_begin_on}
-use Rattle.machine.specs.Events.Vanish.{vanish_by, vanish_on}
-use Rattle.command_semantics.specs.Answers.{IsRefusal, IsTake, IsRenew, IsCrash, IsVanish, IsAskBegin}
 use Rattle.command_semantics.proofs.Plain.{AllPlain, plain_append, one_plain, no_plain}
 
 -- the items begin with one of this kind, and none behind it opens a line

@@ -1,17 +1,13 @@
 -- An item that answers a line opens a line of no other actor.
-use Rattle.std.proofs.Common.{◌≡◌, ℕ, List, Some, None, inl, inr, refl, sym, ◌∙◌, ap}
-use Rattle.std.proofs.lemmas.Option.{same_Some, none-some}
-use Rattle.history_book.specs.declared.item.Actor.{Actor}
-use Rattle.history_book.specs.declared.item.Actor.TheVariants.{Clock, Node, Session}
-use Rattle.history_book.specs.declared.item.Note.{Note}
+use Rattle.command_semantics.proofs.Names.{◌≡◌, ℕ, List, Some, None, inl, inr, refl, sym, ◌∙◌, ap, same_Some, none-some}
+use Rattle.command_semantics.proofs.Names.{Actor, Clock, Node, Session, Note, Item, Target, Verb, opener, IsTick}
+use Rattle.command_semantics.proofs.Names.{IsNote, IsTake, IsRenew, IsCrash, IsVanish, IsAskBegin, IsAskCommit, IsWrite}
+use Rattle.command_semantics.proofs.Names.{IsFetch, IsOpeningOf, IsRefusal, IsReadOnly, EndsInstead, IsAnswer}
 use Rattle.history_book.specs.declared.item.Note.TheVariants as note
 use Rattle.history_book.specs.declared.item.StoreStep.TheVariants as step
-use Rattle.history_book.specs.declared.item.Item.{Item}
 use Rattle.history_book.specs.declared.item.Item.TheVariants as item
-use Rattle.script_data.specs.declared.line.Target.{Target}
-use Rattle.script_data.specs.declared.line.Verb.{Verb}
 use Rattle.script_data.specs.declared.line.Verb.TheVariants as verb
-use Rattle.command_semantics.specs.Answers.{opener, Opens, IsTick, IsNote, IsTake, IsRenew, IsCrash, IsVanish, IsAskBegin, IsAskCommit, IsWrite, IsFetch, IsOpeningOf, IsRefusal, IsReadOnly, EndsInstead, IsAnswer}
+use Rattle.command_semantics.specs.Answers.{Opens}
 
 tick_own : (x : Item) → IsTick x → opener x ≡ Some Clock
 tick_own (item.Tick to) is = refl

@@ -1,31 +1,15 @@
 -- For turn_rules too.
 -- The items of a line that has an opening item: its first answers it, and a read that it has begun ends.
-use Rattle.std.proofs.Common.{◌≡◌, ℕ, ◌<◌, true, List, ◌++◌, Option, Some, None, ◌⊎◌, inl, inr, refl, sym, ◌∙◌, ap, subst}
-use Rattle.std.proofs.lemmas.Option.{same_Some}
-use Rattle.port_io.specs.declared.weather.Fate.{Fate}
-use Rattle.history_book.specs.declared.item.Actor.{Actor}
-use Rattle.history_book.specs.declared.item.Actor.TheVariants.{Clock, Node, Session, Janitor}
-use Rattle.history_book.specs.declared.item.Item.{Item}
-use Rattle.machine.specs.declared.event.Event.{Event}
+use Rattle.command_semantics.proofs.Names.{◌≡◌, ℕ, ◌<◌, true, List, ◌++◌, Option, Some, None, ◌⊎◌, inl, inr, refl, sym}
+use Rattle.command_semantics.proofs.Names.{◌∙◌, ap, subst, same_Some, Fate, Actor, Clock, Node, Session, Janitor, Item}
+use Rattle.command_semantics.proofs.Names.{Event, State, Step, stepped, doing_of, Target, Verb, ReachedInvariant, Point}
+use Rattle.command_semantics.proofs.Names.{Opens, View, halt_of, follows, Clocks, target_node, read_next, next}
+use Rattle.command_semantics.proofs.Names.{one_left, IsAnswer, read_begun, has_opening, ActorFits, VerbFits}
 use Rattle.machine.specs.declared.event.Event.TheVariants as event
-use Rattle.machine.specs.State.{State}
-use Rattle.machine.specs.Machine.{Step, stepped}
-use Rattle.machine.specs.Readers.{doing_of}
-use Rattle.script_data.specs.declared.line.Target.{Target}
-use Rattle.script_data.specs.declared.line.Verb.{Verb}
 use Rattle.script_data.specs.declared.line.Verb.TheVariants as verb
-use Rattle.isolation_laws.specs.Sound.{ReachedInvariant}
-use Rattle.command_semantics.specs.declared.point.Point.{Point}
-use Rattle.command_semantics.specs.declared.point.Point.TheVariants.{Opens}
-use Rattle.command_semantics.specs.declared.point.View.{View}
-use Rattle.command_semantics.specs.Interruptions.{halt_of, follows}
-use Rattle.command_semantics.specs.Next.{Clocks, target_node, read_next, next}
-use Rattle.command_semantics.specs.Left.{one_left}
-use Rattle.command_semantics.specs.Answers.{IsAnswer, read_begun, has_opening}
 use Rattle.command_semantics.proofs.AllLower.{followed_once}
 use Rattle.command_semantics.proofs.AlwaysFit.{Fit, found}
 use Rattle.command_semantics.proofs.OpeningItems.{Begins}
-use Rattle.command_semantics.specs.Laws.{ActorFits, VerbFits}
 use Rattle.command_semantics.proofs.OpenedLines.{line_answered}
 use Rattle.command_semantics.proofs.PlainEvents.{events_plain}
 use Rattle.command_semantics.proofs.LaterEvents.{IsLater, later_opens_none}

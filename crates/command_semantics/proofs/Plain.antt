@@ -1,37 +1,18 @@
 -- Events on requests append no opening item of a line.
-use Rattle.machine.proofs.LookedUp.{of_post, of_client, of_both}
-use Rattle.std.proofs.Common.{◌≡◌, ℕ, Bool, true, false, List, [], ◌∷◌, ◌++◌, Option, Some, None, Result, Ok, Err, refl}
-use Rattle.stamp_base.specs.declared.stores.Mark.{Mark}
-use Rattle.port_io.specs.declared.weather.Fate.{Fate}
-use Rattle.port_io.specs.declared.weather.Fate.TheVariants.{Works, FailsUnchanged, FailsApplied}
-use Rattle.history_book.specs.declared.cause.Cause.{Cause}
+use Rattle.command_semantics.proofs.Names.{of_post, of_both, ◌≡◌, ℕ, Bool, true, false, List, [], ◌∷◌, ◌++◌, Option}
+use Rattle.command_semantics.proofs.Names.{Some, None, Result, Ok, Err, refl, Mark, Fate, Works, FailsUnchanged}
+use Rattle.command_semantics.proofs.Names.{FailsApplied, Cause, Actor, Session, Item, ExtendRefused, StoreFault}
+use Rattle.command_semantics.proofs.Names.{Replaced, Spent, MasterRecord, Pairs, mark_of, Decided, Held, Reply, Request}
+use Rattle.command_semantics.proofs.Names.{Begin, Commit, InstanceEntry, held_of, stamps_at, was_told_not_yet, stamp_of}
+use Rattle.command_semantics.proofs.Names.{instance_accept, instance_answer, Client, State, refused_once, kept_items}
+use Rattle.command_semantics.proofs.Names.{Step, at_post, at_client, at_both, accept_by, accept_request, accept_on}
+use Rattle.command_semantics.proofs.Names.{decide_both, draw_item, decide_by, decide_request, decide_on, to_place}
+use Rattle.command_semantics.proofs.Names.{put_by, put_commit, put_on, answer_by, answer_request, answer_on, opener}
+use Rattle.machine.proofs.LookedUp.{of_client}
 use Rattle.history_book.specs.declared.cause.Cause.TheVariants as cause
-use Rattle.history_book.specs.declared.item.Actor.{Actor}
-use Rattle.history_book.specs.declared.item.Actor.TheVariants.{Session}
-use Rattle.history_book.specs.declared.item.Item.{Item}
 use Rattle.history_book.specs.declared.item.Item.TheVariants as item
-use Rattle.system_parts.specs.declared.record.ExtendRefused.{ExtendRefused}
-use Rattle.system_parts.specs.declared.record.ExtendRefused.TheVariants.{StoreFault, Replaced, Spent}
-use Rattle.system_parts.specs.Record.{MasterRecord}
-use Rattle.system_parts.specs.Pairs.{Pairs, mark_of}
-use Rattle.system_parts.specs.declared.instance.Decided.{Decided}
-use Rattle.system_parts.specs.declared.instance.Held.{Held}
-use Rattle.system_parts.specs.declared.instance.Reply.{Reply}
 use Rattle.system_parts.specs.declared.instance.Reply.TheVariants as reply
-use Rattle.system_parts.specs.declared.instance.Request.{Request}
-use Rattle.system_parts.specs.declared.instance.Request.TheVariants.{Begin, Commit}
-use Rattle.system_parts.specs.Instance.{InstanceEntry, held_of, stamps_at, was_told_not_yet}
-use Rattle.system_parts.specs.InstanceLaws.{stamp_of}
-use Rattle.system_parts.specs.InstanceSteps.{instance_accept, instance_answer}
-use Rattle.machine.specs.State.{Client, State}
-use Rattle.machine.specs.Effect.{refused_once, kept_items}
-use Rattle.machine.specs.Machine.{Step, at_post, at_client, at_both}
-use Rattle.machine.specs.Events.Accept.{accept_by, accept_request, accept_on}
-use Rattle.machine.specs.Events.Decide.{decide_both, draw_item, decide_by, decide_request, decide_on}
-use Rattle.machine.specs.Events.Put.{to_place, put_by, put_commit, put_on}
-use Rattle.machine.specs.Events.Answer.{answer_by, answer_request, answer_on}
 use Rattle.machine.specs.Events.Extend.{extend_by}
-use Rattle.command_semantics.specs.Answers.{opener}
 
 -- none of the items opens a line
 unfoldable pub AllPlain : List Item → Type 0

@@ -1,45 +1,24 @@
 -- For turn_rules and log_refinement too.
 -- Events that open no line of an actor append no opening item: those on requests, steps, heals, aborts and sweeps.
-use Rattle.std.proofs.Common.{◌≡◌, ℕ, Bool, true, false, List, [], ◌∷◌, Option, Some, None, refl}
-use Rattle.std.specs.Prelude.{slice_get}
-use Rattle.stamp_base.specs.declared.stores.Mark.{Mark}
-use Rattle.port_io.specs.declared.weather.Fate.{Fate}
-use Rattle.port_io.specs.declared.weather.Fate.TheVariants.{Works, FailsUnchanged, FailsApplied}
-use Rattle.history_book.specs.declared.cause.Cause.{Cause}
-use Rattle.history_book.specs.declared.item.Actor.{Actor}
-use Rattle.history_book.specs.declared.item.Actor.TheVariants.{Session, Janitor}
+use Rattle.command_semantics.proofs.Names.{◌≡◌, ℕ, Bool, true, false, List, [], ◌∷◌, Option, Some, None, refl}
+use Rattle.command_semantics.proofs.Names.{slice_get, Mark, Fate, Works, FailsUnchanged, FailsApplied, Cause, Actor}
+use Rattle.command_semantics.proofs.Names.{Session, Janitor, StoreFault, extend_refused, answered, Row, Pairs, mark_of}
+use Rattle.command_semantics.proofs.Names.{Ask, Told, SettleTurn, Goes, Decides, settle_ask, settle_turn, ReadTurn}
+use Rattle.command_semantics.proofs.Names.{Asks, Answers, read_ask, work_refusal, step_refusal, handed_commit, Sweeping}
+use Rattle.command_semantics.proofs.Names.{sweep_ask, sweep_told, is_undecided, InstanceEntry, Event, UnderWay, Nothing}
+use Rattle.command_semantics.proofs.Names.{Settles, Completes, Client, State, is_reading, mark_item, entry_of}
+use Rattle.command_semantics.proofs.Names.{step_item, mark_kept, items_met, met, told_by, kept_items, with_reading}
+use Rattle.command_semantics.proofs.Names.{stepped, extend_on, rules_of, client_put_fresh, read_items, place_by}
+use Rattle.command_semantics.proofs.Names.{step_recall, settle_items, work_of, step_at, step_due, offer_of, heal_at}
+use Rattle.command_semantics.proofs.Names.{abort_by, sweep_open_on, undecided_items, sweep_met, sweep_lists, sweep_at}
+use Rattle.command_semantics.proofs.Names.{sweep_step_on, opener}
 use Rattle.history_book.specs.declared.item.Item.TheVariants as item
-use Rattle.system_parts.specs.declared.record.ExtendRefused.TheVariants.{StoreFault}
-use Rattle.system_parts.specs.Record.{extend_refused, answered}
-use Rattle.system_parts.specs.Rows.{Row}
-use Rattle.system_parts.specs.Pairs.{Pairs, mark_of}
-use Rattle.system_parts.specs.declared.asks.Ask.{Ask}
 use Rattle.system_parts.specs.declared.asks.Ask.TheVariants as ask
-use Rattle.system_parts.specs.declared.asks.Told.{Told}
 use Rattle.system_parts.specs.declared.asks.Told.TheVariants as told
 use Rattle.system_parts.specs.declared.resolve.Outcome.TheVariants as outcome
-use Rattle.system_parts.specs.Resolve.{SettleTurn, Goes, Decides, settle_ask, settle_turn}
-use Rattle.system_parts.specs.KeyRead.{ReadTurn, Asks, Answers, read_ask}
-use Rattle.system_parts.specs.SessionSteps.{work_refusal, step_refusal, handed_commit}
-use Rattle.system_parts.specs.Sweep.{Sweeping, sweep_ask, sweep_told, is_undecided}
-use Rattle.system_parts.specs.Instance.{InstanceEntry}
-use Rattle.machine.specs.declared.event.Event.{Event}
 use Rattle.machine.specs.declared.event.Event.TheVariants as event
-use Rattle.machine.specs.State.{UnderWay, Nothing, Reads, Settles, Completes, Client, State}
-use Rattle.machine.specs.Clients.{is_reading}
-use Rattle.machine.specs.StoreSteps.{mark_item, entry_of, step_item, mark_kept, items_met, met, told_by}
-use Rattle.machine.specs.Effect.{kept_items}
-use Rattle.machine.specs.Machine.{with_reading, stepped}
-use Rattle.machine.specs.Events.Extend.{extend_on}
-use Rattle.machine.specs.Events.Take.{rules_of}
-use Rattle.machine.specs.Events.Fetch.{client_put_fresh, read_items}
-use Rattle.machine.specs.Events.Place.{place_by}
-use Rattle.machine.specs.Events.Step.{step_recall, settle_items, work_of, step_at, step_due, step_by}
-use Rattle.machine.specs.Events.Heal.{offer_of, heal_at}
-use Rattle.machine.specs.Events.Abort.{abort_by}
-use Rattle.machine.specs.Events.SweepOpen.{sweep_open_on}
-use Rattle.machine.specs.Events.SweepStep.{undecided_items, sweep_met, sweep_lists, sweep_at, sweep_step_on}
-use Rattle.command_semantics.specs.Answers.{opener}
+use Rattle.machine.specs.State.{Reads}
+use Rattle.machine.specs.Events.Step.{step_by}
 use Rattle.command_semantics.proofs.Plain.{AllPlain, plain_append, one_plain, two_plain, no_plain, kept_plain, post_plain, client_plain, both_plain, accept_at, decide_at, put_at, answer_at, extend_plain}
 
 -- ---- steps on the stores

@@ -1,32 +1,19 @@
 -- The history of a script that is carried out in file order is as planned: its events read the clocks, and the ticks are those
 -- of the lines.
-use Rattle.std.proofs.Common.{◌≡◌, ℕ, zero, suc, ◌+◌, ◌≤◌, ◌^◌, List, [], ◌∷◌, ◌++◌, append_assoc, Option, Some, None, refl, sym, ◌∙◌, ap, subst, arith}
-use Rattle.std.proofs.lemmas.List.{append-nil}
-use Rattle.history_book.specs.declared.item.Actor.{Actor}
-use Rattle.history_book.specs.declared.item.Actor.TheVariants.{Clock}
-use Rattle.machine.specs.declared.event.Event.{Event}
-use Rattle.script_data.specs.declared.line.Line.{Line}
-use Rattle.script_data.specs.declared.line.Verb.{Verb}
+use Rattle.command_semantics.proofs.Names.{◌≡◌, ℕ, zero, suc, ◌+◌, ◌≤◌, ◌^◌, List, [], ◌∷◌, ◌++◌, append_assoc, Option}
+use Rattle.command_semantics.proofs.Names.{Some, None, refl, sym, ◌∙◌, ap, subst, arith, append-nil, Actor, Clock}
+use Rattle.command_semantics.proofs.Names.{Event, Line, Verb, ScriptData, ExplainedInvariant, tells_stay}
+use Rattle.command_semantics.proofs.Names.{tells_at_first, Interruption, NoStamp, NotYet, Refused, Faulted, Point}
+use Rattle.command_semantics.proofs.Names.{Opens, Drives, Extends, Finishes, Reads, Steps, Over, View, halt_of}
+use Rattle.command_semantics.proofs.Names.{unless_halted, after_write, after_serving, after_extending, after_stepping}
+use Rattle.command_semantics.proofs.Names.{after_opening, follows, view_of, Clocks, next, tick_by, with_tick, ticks_in}
+use Rattle.command_semantics.proofs.Names.{Played, step_of, Run, clocks_of, next_in, run_after, left_in, going_on}
+use Rattle.command_semantics.proofs.Names.{run_for, opened, line_run, lines_played, opening_played, script_played}
+use Rattle.command_semantics.proofs.Names.{tick_of, ticks_of, EventsLowerWhatIsLeft, IsPlayable, IsReached, ReadsClocks}
+use Rattle.command_semantics.proofs.Names.{ticks_with, tick_at, PlannedSoFar, ScriptsArePlanned}
 use Rattle.script_data.specs.declared.line.Verb.TheVariants as verb
-use Rattle.script_data.specs.Data.{ScriptData}
-use Rattle.cause_laws.specs.ShownInvariant.{ExplainedInvariant}
-use Rattle.cause_laws.proofs.AlwaysExplained.{tells_stay, tells_at_first}
-use Rattle.command_semantics.specs.declared.point.Interruption.{Interruption}
-use Rattle.command_semantics.specs.declared.point.Interruption.TheVariants.{NoStamp, NotYet, Refused, Faulted}
-use Rattle.command_semantics.specs.declared.point.Point.{Point}
-use Rattle.command_semantics.specs.declared.point.Point.TheVariants.{Opens, Drives, Extends, Finishes, Reads, Steps, Over}
-use Rattle.command_semantics.specs.declared.point.View.{View}
-use Rattle.command_semantics.specs.Interruptions.{halt_of, unless_halted, after_write, after_serving, after_extending, after_stepping, after_opening, follows}
-use Rattle.command_semantics.specs.Views.{view_of}
-use Rattle.command_semantics.specs.Next.{Clocks, next}
-use Rattle.command_semantics.specs.Planned.{tick_by, with_tick, ticks_in}
-use Rattle.command_semantics.specs.Runs.{Played, step_of, Run, clocks_of, next_in, run_after, left_in, going_on, run_for, opened, line_run, lines_played, opening_played, script_played}
-use Rattle.script_data.specs.Ticks.{tick_of, ticks_of}
-use Rattle.command_semantics.specs.Laws.{EventsLowerWhatIsLeft, IsPlayable, IsReached}
 use Rattle.command_semantics.proofs.Ending.{Keeps, Going, Ended, goes_on, line_ends, opening_reached}
 use Rattle.command_semantics.proofs.Timing.{tick_ahead}
-use Rattle.command_semantics.specs.SoFar.{ReadsClocks, ticks_with, tick_at, PlannedSoFar}
-use Rattle.command_semantics.specs.PlannedLaws.{ScriptsArePlanned}
 use Rattle.command_semantics.proofs.OneEvent.{planned_at_first, events_stay_planned, planned_in_the_end}
 use Rattle.command_semantics.proofs.LineClocks.{lines_read_clocks}
 

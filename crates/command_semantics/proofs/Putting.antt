@@ -1,30 +1,15 @@
 -- A put lowers what is left, whether it is made, finds a mark or fails.
-use Rattle.std.proofs.Common.{◌≡◌, ℕ, ◌+◌, ◌<◌, List, Option, Some, None, refl, sym, ◌∙◌, ap, subst, arith}
-use Rattle.port_io.specs.declared.weather.Fate.{Fate}
-use Rattle.history_book.specs.declared.item.Item.{Item}
-use Rattle.system_parts.specs.declared.instance.Held.{Held}
+use Rattle.command_semantics.proofs.Names.{◌≡◌, ℕ, ◌+◌, ◌<◌, List, Option, Some, None, refl, sym, ◌∙◌, ap, subst, arith}
+use Rattle.command_semantics.proofs.Names.{Fate, Item, Held, Progress, Request, Commit, InstanceEntry, held_of}
+use Rattle.command_semantics.proofs.Names.{with_request, unsettled_by, State, Effect, Step, step_by, with_post, stepped}
+use Rattle.command_semantics.proofs.Names.{at_post, Verb, InstanceAt, client_ends, drive_left, Works, FailsUnchanged}
+use Rattle.command_semantics.proofs.Names.{FailsApplied, fated, Mark, CommittedMark, Pairs, mark_of, put_pair, Settled}
+use Rattle.command_semantics.proofs.Names.{moved, settle_if_drawn, settle_held, instance_settle, to_place, to_place_by}
+use Rattle.command_semantics.proofs.Names.{put_by, put_commit, put_on}
 use Rattle.system_parts.specs.declared.instance.Place.TheVariants as place
-use Rattle.system_parts.specs.declared.instance.Progress.{Progress}
 use Rattle.system_parts.specs.declared.instance.Progress.TheVariants as progress
-use Rattle.system_parts.specs.declared.instance.Request.{Request}
-use Rattle.system_parts.specs.declared.instance.Request.TheVariants.{Commit}
-use Rattle.system_parts.specs.Instance.{InstanceEntry, held_of, with_request, unsettled_by}
 use Rattle.machine.specs.declared.event.Event.TheVariants as event
-use Rattle.machine.specs.State.{State}
-use Rattle.machine.specs.Effect.{Effect}
-use Rattle.machine.specs.Machine.{Step, step_by, with_post, stepped, at_post}
-use Rattle.script_data.specs.declared.line.Verb.{Verb}
-use Rattle.isolation_laws.specs.Words.{InstanceAt}
-use Rattle.command_semantics.specs.Left.{client_ends, drive_left}
-use Rattle.port_io.specs.declared.weather.Fate.TheVariants.{Works, FailsUnchanged, FailsApplied}
-use Rattle.port_io.specs.Fates.{fated}
-use Rattle.stamp_base.specs.declared.stores.Mark.{Mark}
-use Rattle.stamp_base.specs.declared.stores.Mark.TheVariants.{Committed as CommittedMark}
-use Rattle.system_parts.specs.Pairs.{Pairs, mark_of, put_pair}
-use Rattle.system_parts.specs.declared.instance.Settled.{Settled}
 use Rattle.system_parts.specs.declared.instance.Settled.TheVariants as how
-use Rattle.system_parts.specs.InstanceSteps.{moved, settle_if_drawn, settle_held, instance_settle}
-use Rattle.machine.specs.Events.Put.{to_place, to_place_by, put_by, put_commit, put_on}
 use Rattle.command_semantics.proofs.Serving.{Lowers, Serving, left_to_drive, goes_on}
 
 -- the step as an effect on the node and the commit table

@@ -1,23 +1,14 @@
 -- The items of an event that reads the clocks: each reading is that of its node's clock, there is no tick, and a fault only
 -- where a store call failed.
-use Rattle.machine.proofs.LookedUp.{of_post, of_client, of_both}
-use Rattle.std.proofs.Common.{◌≡◌, ◌≢◌, ℕ, Bool, true, false, List, [], ◌∷◌, ◌++◌, Option, Some, None, Result, Ok, Err, ◌⊎◌, inl, inr, All, refl}
-use Rattle.std.specs.Prelude.{slice_get}
-use Rattle.std.proofs.lemmas.List.Elements.{All-nil, All-cons}
-use Rattle.stamp_base.specs.declared.stores.Store.{Store}
-use Rattle.port_io.specs.declared.weather.Fate.{Fate}
-use Rattle.port_io.specs.declared.weather.Fate.TheVariants.{Works, FailsUnchanged, FailsApplied}
-use Rattle.history_book.specs.declared.cause.Cause.{Cause}
+use Rattle.command_semantics.proofs.Names.{of_post, of_both, ◌≡◌, ◌≢◌, ℕ, Bool, true, false, List, [], ◌∷◌, ◌++◌}
+use Rattle.command_semantics.proofs.Names.{Option, Some, None, Result, Ok, Err, ◌⊎◌, inl, inr, All, refl, slice_get}
+use Rattle.command_semantics.proofs.Names.{All-nil, All-cons, Store, Fate, Works, FailsUnchanged, FailsApplied, Cause}
+use Rattle.command_semantics.proofs.Names.{Actor, Clock, Node, Session, Janitor, Item, InstanceEntry, Client, State}
+use Rattle.command_semantics.proofs.Names.{refused_once, Step, at_post, at_client, at_both, asks_at_post}
+use Rattle.command_semantics.proofs.Names.{asks_at_client, Clocks, reading_at}
+use Rattle.machine.proofs.LookedUp.{of_client}
 use Rattle.history_book.specs.declared.cause.Cause.TheVariants as cause
-use Rattle.history_book.specs.declared.item.Actor.{Actor}
-use Rattle.history_book.specs.declared.item.Actor.TheVariants.{Clock, Node, Session, Janitor}
-use Rattle.history_book.specs.declared.item.Item.{Item}
 use Rattle.history_book.specs.declared.item.Item.TheVariants as item
-use Rattle.system_parts.specs.Instance.{InstanceEntry}
-use Rattle.machine.specs.State.{Client, State}
-use Rattle.machine.specs.Effect.{refused_once}
-use Rattle.machine.specs.Machine.{Step, at_post, at_client, at_both, asks_at_post, asks_at_client}
-use Rattle.command_semantics.specs.Next.{Clocks, reading_at}
 
 -- ---- one item
 abbrev pub IsCauseRead : Clocks → Actor → Cause → Type 0

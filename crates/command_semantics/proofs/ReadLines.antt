@@ -1,20 +1,13 @@
 -- For turn_rules and grant_laws too.
 -- A read that a line has begun ends with its value or with a fault: its fetch, and each of its steps.
-use Rattle.std.proofs.Common.{◌≡◌, ℕ, Bool, true, false, cond, nat_lt, ◌==◌, ◌||◌, is_some, List, [], ◌∷◌, ◌++◌, Option, None, ◌⊎◌, inl, refl, subst}
-use Rattle.history_book.specs.declared.item.Actor.TheVariants.{Session}
-use Rattle.history_book.specs.declared.item.Item.{Item}
+use Rattle.command_semantics.proofs.Names.{◌≡◌, ℕ, Bool, true, false, cond, nat_lt, ◌==◌, ◌||◌, is_some, List, [], ◌∷◌}
+use Rattle.command_semantics.proofs.Names.{◌++◌, Option, None, ◌⊎◌, inl, refl, subst, Session, Item, Cell, Told}
+use Rattle.command_semantics.proofs.Names.{Committed, Dead, SettleTurn, Goes, Decides, settle_turn, Reading, ReadTurn}
+use Rattle.command_semantics.proofs.Names.{Asks, Answers, found_cell, found_by, settling_of, after_passed, turn_at}
+use Rattle.command_semantics.proofs.Names.{read_over, read_by, Cache, outcome_known, recalled_over, recalled_told}
+use Rattle.command_semantics.proofs.Names.{Client, State, Step, ClientAt}
 use Rattle.history_book.specs.declared.item.Item.TheVariants as item
-use Rattle.system_parts.specs.declared.rows.Cell.{Cell}
-use Rattle.system_parts.specs.declared.asks.Told.{Told}
-use Rattle.system_parts.specs.declared.resolve.Outcome.TheVariants.{Committed, Dead}
-use Rattle.system_parts.specs.Resolve.{SettleTurn, Goes, Decides, settle_turn}
-use Rattle.system_parts.specs.KeyRead.{Reading, ReadTurn, Asks, Answers, found_cell, found_by, settling_of, after_passed, turn_at, read_over, read_by}
-use Rattle.system_parts.specs.Cache.{Cache}
-use Rattle.system_parts.specs.Recalled.{outcome_known, recalled_over, recalled_told}
 use Rattle.system_parts.proofs.RecalledLemmas.{AnyCache, Recalls, over_holds, told_holds}
-use Rattle.machine.specs.State.{Client, State}
-use Rattle.machine.specs.Machine.{Step}
-use Rattle.isolation_laws.specs.Words.{ClientAt}
 use Rattle.command_semantics.proofs.Plain.{AllPlain}
 use Rattle.command_semantics.proofs.Working.{ReadWork}
 use Rattle.command_semantics.proofs.Walks.{AllNot, plain_not, Paid, paid_before}

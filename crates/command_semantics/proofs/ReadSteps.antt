@@ -1,28 +1,17 @@
 -- For turn_rules too.
 -- A step of a read that a line has begun ends it with its value or with a fault, or leaves a read of the same key; and such a
 -- read has a next step.
-use Rattle.std.proofs.Common.{◌≡◌, ℕ, Bool, true, [], ◌∷◌, ◌++◌, Option, Some, None, inl, inr, refl, sym, ◌∙◌, ap, subst}
-use Rattle.stamp_base.specs.declared.stores.Store.{Store}
-use Rattle.port_io.specs.declared.weather.Fate.{Fate}
-use Rattle.port_io.specs.declared.weather.Fate.TheVariants.{Works, FailsUnchanged, FailsApplied}
-use Rattle.history_book.specs.declared.item.Actor.TheVariants.{Session}
+use Rattle.command_semantics.proofs.Names.{◌≡◌, ℕ, Bool, true, [], ◌∷◌, ◌++◌, Option, Some, None, inl, inr, refl, sym}
+use Rattle.command_semantics.proofs.Names.{◌∙◌, ap, subst, Store, Fate, Works, FailsUnchanged, FailsApplied, Session}
+use Rattle.command_semantics.proofs.Names.{Told, SessionState, ReadTurn, Asks, Answers, read_ask, Cache, Remembering}
+use Rattle.command_semantics.proofs.Names.{step_refusal, Client, State, is_reading, is_reading_by, items_met, mark_kept}
+use Rattle.command_semantics.proofs.Names.{rows_after, pairs_after, store_of, met, told_by, Step, with_client, stepped}
+use Rattle.command_semantics.proofs.Names.{client_put_fresh, found_of, client_read, read_items, step_recall, work_by}
+use Rattle.command_semantics.proofs.Names.{work_of, read_step, open_doing, doing_by, doing_at, doing_of, set_found}
+use Rattle.command_semantics.proofs.Names.{read_next}
 use Rattle.history_book.specs.declared.item.Item.TheVariants as item
-use Rattle.system_parts.specs.declared.asks.Told.{Told}
-use Rattle.system_parts.specs.declared.session.State.{State as SessionState}
-use Rattle.system_parts.specs.KeyRead.{ReadTurn, Asks, Answers, read_ask}
-use Rattle.system_parts.specs.Cache.{Cache}
-use Rattle.system_parts.specs.Recalled.{Remembering}
-use Rattle.system_parts.specs.SessionSteps.{step_refusal}
 use Rattle.machine.specs.declared.event.Event.TheVariants as event
-use Rattle.machine.specs.State.{Reads, Client, State}
-use Rattle.machine.specs.Clients.{is_reading, is_reading_by}
-use Rattle.machine.specs.StoreSteps.{items_met, mark_kept, rows_after, pairs_after, store_of, met, told_by}
-use Rattle.machine.specs.Machine.{Step, with_client, stepped}
-use Rattle.machine.specs.Events.Fetch.{client_put_fresh, found_of, client_read, read_items}
-use Rattle.machine.specs.Events.Step.{step_recall, work_by, work_of, read_step}
-use Rattle.machine.specs.Readers.{open_doing, doing_by, doing_at, doing_of}
-use Rattle.machine.proofs.Lookups.{set_found}
-use Rattle.command_semantics.specs.Next.{read_next}
+use Rattle.machine.specs.State.{Reads}
 use Rattle.command_semantics.proofs.PlainEvents.{effect_plain, met_plain}
 use Rattle.command_semantics.proofs.Plain.{plain_append, no_plain}
 use Rattle.command_semantics.proofs.Working.{ReadWork}

@@ -1,19 +1,12 @@
 -- For turn_rules, thread_scripts, log_refinement and others above too.
 -- The history of a script answers its lines.
-use Rattle.std.proofs.Common.{◌≡◌, ℕ, ◌+◌, ◌≤◌, ◌^◌, ◌==◌, Bool, true, false, ◌&&◌, cond, List, [], ◌∷◌, ◌++◌, append_assoc, None, inl, inr, refl, sym, ◌∙◌, ap, subst, arith}
-use Rattle.std.specs.Prelude.{filter}
-use Rattle.std.proofs.lemmas.List.{append-nil}
-use Rattle.std.proofs.lemmas.Bool.Decides.{eqb_tells}
-use Rattle.history_book.specs.declared.item.Actor.{Actor}
-use Rattle.history_book.specs.declared.item.Actor.TheVariants.{Clock, Node, Session, Janitor}
-use Rattle.history_book.specs.declared.item.Item.{Item}
-use Rattle.isolation_laws.proofs.AlwaysHolds.{facts_stay}
-use Rattle.script_data.specs.declared.line.Line.{Line}
-use Rattle.script_data.specs.Data.{ScriptData}
-use Rattle.command_semantics.specs.Answers.{same_actor, has_opening, is_of, asks_last, Answered}
-use Rattle.command_semantics.specs.Runs.{Played, left_in, opened, line_run, lines_played, opening_played, script_played}
-use Rattle.script_data.specs.Ticks.{tick_of, ticks_of}
-use Rattle.command_semantics.specs.Laws.{EventsLowerWhatIsLeft, IsPlayable, IsReached, ActorFits, VerbFits, AreLinesOf, LinesAreAnswered}
+use Rattle.command_semantics.proofs.Names.{◌≡◌, ℕ, ◌+◌, ◌≤◌, ◌^◌, ◌==◌, Bool, true, false, ◌&&◌, cond, List, [], ◌∷◌}
+use Rattle.command_semantics.proofs.Names.{◌++◌, append_assoc, None, inl, inr, refl, sym, ◌∙◌, ap, subst, arith, filter}
+use Rattle.command_semantics.proofs.Names.{append-nil, eqb_tells, Actor, Clock, Node, Session, Janitor, Item}
+use Rattle.command_semantics.proofs.Names.{facts_stay, Line, ScriptData, same_actor, has_opening, is_of, asks_last}
+use Rattle.command_semantics.proofs.Names.{Answered, Played, left_in, opened, line_run, lines_played, opening_played}
+use Rattle.command_semantics.proofs.Names.{script_played, tick_of, ticks_of, EventsLowerWhatIsLeft, IsPlayable}
+use Rattle.command_semantics.proofs.Names.{IsReached, ActorFits, VerbFits, AreLinesOf, LinesAreAnswered}
 use Rattle.command_semantics.proofs.AlwaysFit.{Fit, fit_stays, fit_at_first}
 use Rattle.command_semantics.proofs.Ending.{Keeps, Going, Ended, line_ends, opening_reached}
 use Rattle.command_semantics.proofs.Timing.{tick_ahead}

@@ -1,22 +1,12 @@
 -- For run_board and grant_laws too.
 -- An event that serves a request lowers what is left: what all of them have in common.
-use Rattle.std.proofs.Common.{◌≡◌, ℕ, ◌+◌, ◌<◌, ◌≤◌, List, Option, Some, None, inl, inr, refl, sym, ◌∙◌, ap, subst, arith}
-use Rattle.std.specs.Prelude.{slice_get, slice_set}
-use Rattle.std.proofs.lemmas.Option.{same_Some, none-some}
-use Rattle.history_book.specs.declared.item.Item.{Item}
-use Rattle.system_parts.specs.declared.instance.Held.{Held}
-use Rattle.system_parts.specs.declared.instance.Place.{Place}
-use Rattle.system_parts.specs.Instance.{InstanceEntry, held_of, with_request, place_of_progress}
-use Rattle.machine.specs.State.{Client, State}
-use Rattle.machine.specs.Effect.{Effect}
-use Rattle.machine.specs.Machine.{Step, step_by, with_post, with_client, at_both, on_request}
-use Rattle.machine.specs.Readers.{place_of}
-use Rattle.script_data.specs.declared.line.Verb.{Verb}
-use Rattle.isolation_laws.specs.Words.{InstanceAt, ClientAt}
-use Rattle.isolation_laws.specs.Sound.{ReachedInvariant}
-use Rattle.machine.proofs.Lookups.{held_set}
-use Rattle.command_semantics.specs.Interruptions.{halt_of, after_serving}
-use Rattle.command_semantics.specs.Left.{of_client, client_completes, client_settles, client_ends, lacks_stamps, place_left, drive_left, session_left}
+use Rattle.command_semantics.proofs.Names.{◌≡◌, ℕ, ◌+◌, ◌<◌, ◌≤◌, List, Option, Some, None, inl, inr, refl, sym, ◌∙◌}
+use Rattle.command_semantics.proofs.Names.{ap, subst, arith, slice_get, slice_set, same_Some, none-some, Item, Held}
+use Rattle.command_semantics.proofs.Names.{Place, InstanceEntry, held_of, with_request, place_of_progress, Client}
+use Rattle.command_semantics.proofs.Names.{State, Effect, Step, step_by, with_post, with_client, at_both, on_request}
+use Rattle.command_semantics.proofs.Names.{place_of, Verb, InstanceAt, ClientAt, ReachedInvariant, held_set, halt_of}
+use Rattle.command_semantics.proofs.Names.{after_serving, of_client, client_completes, client_settles, client_ends}
+use Rattle.command_semantics.proofs.Names.{lacks_stamps, place_left, drive_left, session_left}
 use Rattle.command_semantics.proofs.Holders.{Served, Changed, drives_on, driven}
 use Rattle.command_semantics.proofs.Clients.{client_now, settles_most}
 

@@ -1,43 +1,28 @@
 -- For turn_rules and grant_laws too.
 -- A step of a session lowers what is left of its read, of the resolve of its own commit, of its completion. A failed one ends
 -- the run, or leaves nothing.
-use Rattle.std.proofs.Common.{◌≡◌, ℕ, ◌+◌, ◌*◌, ◌<◌, ◌≤◌, false, List, [], ◌∷◌, Option, Some, None, inl, inr, refl, sym, ◌∙◌, ap, subst, arith, length}
-use Rattle.std.specs.Prelude.{slice_get, slice_set}
-use Rattle.stamp_base.specs.declared.stores.Mark.{Mark}
-use Rattle.port_io.specs.declared.weather.Fate.{Fate}
-use Rattle.port_io.specs.declared.weather.Fate.TheVariants.{Works, FailsUnchanged, FailsApplied}
-use Rattle.history_book.specs.declared.cause.Cause.{Cause}
-use Rattle.history_book.specs.declared.item.Actor.TheVariants.{Session}
-use Rattle.system_parts.specs.Pairs.{Pairs, mark_of}
-use Rattle.system_parts.specs.declared.asks.Ask.{Ask}
-use Rattle.system_parts.specs.declared.asks.Told.{Told}
-use Rattle.system_parts.specs.declared.resolve.Outcome.TheVariants.{Committed, Dead}
+use Rattle.command_semantics.proofs.Names.{◌≡◌, ℕ, ◌+◌, ◌*◌, ◌<◌, ◌≤◌, false, List, [], ◌∷◌, Option, Some, None, inl}
+use Rattle.command_semantics.proofs.Names.{inr, refl, sym, ◌∙◌, ap, subst, arith, length, slice_get, slice_set, Mark}
+use Rattle.command_semantics.proofs.Names.{Fate, Works, FailsUnchanged, FailsApplied, Cause, Session, Pairs, mark_of}
+use Rattle.command_semantics.proofs.Names.{Ask, Told, Committed, Dead, SessionState, Settling, settle_ask, settle_left}
+use Rattle.command_semantics.proofs.Names.{SettleTurn, Goes, Decides, settle_turn, SettlesEnd, Reading, ReadTurn, Asks}
+use Rattle.command_semantics.proofs.Names.{Answers, read_ask, read_left, Cache, Remembering, RecalledReadsEnd}
+use Rattle.command_semantics.proofs.Names.{SessionEntry, step_refusal, aborted_by, handed_by, handed_commit, UnderWay}
+use Rattle.command_semantics.proofs.Names.{Nothing, Settles, Completes, Client, State, Effect, is_reading, undo_of}
+use Rattle.command_semantics.proofs.Names.{finish_of, client_freed, client_aborted, client_committed, met, told_by}
+use Rattle.command_semantics.proofs.Names.{Step, step_by, with_client, at_client, stepped, client_put_fresh}
+use Rattle.command_semantics.proofs.Names.{client_read, client_recalled, place_by, place_on, step_recall, placed_among}
+use Rattle.command_semantics.proofs.Names.{step_due, StepParts, read_step, settle_step, client_settled, complete_step}
+use Rattle.command_semantics.proofs.Names.{after_asks, work_by, work_of, step_at, step_on, step_unless, Verb, ClientAt}
+use Rattle.command_semantics.proofs.Names.{Interruption, Point, halt_of, unless_halted, after_serving, after_stepping}
+use Rattle.command_semantics.proofs.Names.{asks_left, reads_left, steps_left, steps_due, keys_of, of_client}
+use Rattle.command_semantics.proofs.Names.{client_completes, client_settles, client_reads, client_steps, session_left}
 use Rattle.system_parts.specs.declared.resolve.SettlePoint.{SettlePoint}
 use Rattle.system_parts.specs.declared.resolve.SettlePoint.TheVariants.{FirstLook, Table, Marking, LastLook}
-use Rattle.system_parts.specs.declared.session.State.{State as SessionState}
 use Rattle.system_parts.specs.declared.session.State.TheVariants as phase
-use Rattle.system_parts.specs.Resolve.{Settling, settle_ask, settle_left, SettleTurn, Goes, Decides, settle_turn, SettlesEnd}
-use Rattle.system_parts.specs.KeyRead.{Reading, ReadTurn, Asks, Answers, read_ask, read_left}
-use Rattle.system_parts.specs.Cache.{Cache}
-use Rattle.system_parts.specs.Recalled.{Remembering}
-use Rattle.system_parts.specs.RecalledReads.{RecalledReadsEnd}
-use Rattle.system_parts.specs.SessionSteps.{SessionEntry, step_refusal, aborted_by, handed_by, handed_commit}
 use Rattle.machine.specs.declared.event.Event.TheVariants as event
-use Rattle.machine.specs.State.{UnderWay, Nothing, Reads, Settles, Completes, Client, State}
-use Rattle.machine.specs.Effect.{Effect}
-use Rattle.machine.specs.Clients.{is_reading, undo_of, finish_of, client_freed, client_aborted, client_committed}
-use Rattle.machine.specs.StoreSteps.{met, told_by}
-use Rattle.machine.specs.Machine.{Step, step_by, with_client, at_client, stepped}
-use Rattle.machine.specs.Events.Fetch.{client_put_fresh, client_read, client_recalled}
-use Rattle.machine.specs.Events.Place.{place_by, place_on}
-use Rattle.machine.specs.Events.Step.{step_recall, placed_among, step_due, StepParts, read_step, settle_step, client_settled, complete_step, after_asks, work_by, work_of, step_at, step_on, step_by as step_unless}
-use Rattle.script_data.specs.declared.line.Verb.{Verb}
-use Rattle.isolation_laws.specs.Words.{ClientAt}
-use Rattle.command_semantics.specs.declared.point.Interruption.{Interruption}
-use Rattle.command_semantics.specs.declared.point.Point.{Point}
+use Rattle.machine.specs.State.{Reads}
 use Rattle.command_semantics.specs.declared.point.Point.TheVariants as point
-use Rattle.command_semantics.specs.Interruptions.{halt_of, unless_halted, after_serving, after_stepping}
-use Rattle.command_semantics.specs.Left.{asks_left, reads_left, steps_left, steps_due, keys_of, of_client, client_completes, client_settles, client_reads, client_steps, session_left}
 use Rattle.command_semantics.proofs.Clients.{client_now, undo_long, finish_long, aborted_left}
 use Rattle.command_semantics.proofs.Working.{ReadWork, SettleWork, CompleteWork, PlaceWork, HasWork}
 

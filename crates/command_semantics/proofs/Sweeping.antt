@@ -1,34 +1,20 @@
 -- A step of a sweep lowers what is left of it; a failed one ends it.
-use Rattle.std.proofs.Common.{◌≡◌, ℕ, ◌+◌, ◌<◌, ◌≤◌, nat_lt, Bool, true, false, cond, List, [], ◌∷◌, Option, Some, None, inl, inr, refl, sym, ap, subst, arith, length}
-use Rattle.std.specs.Prelude.{slice_get}
-use Rattle.std.proofs.lemmas.Option.{same_Some}
-use Rattle.port_io.specs.declared.weather.Fate.{Fate}
-use Rattle.port_io.specs.declared.weather.Fate.TheVariants.{Works, FailsUnchanged, FailsApplied}
-use Rattle.history_book.specs.declared.item.Actor.TheVariants.{Janitor}
-use Rattle.history_book.specs.declared.item.Item.{Item}
-use Rattle.stamp_base.specs.declared.stores.Mark.{Mark}
-use Rattle.stamp_base.specs.declared.stores.Mark.TheVariants.{Committed as CommittedMark, Invalid as InvalidMark}
-use Rattle.system_parts.specs.Rows.{Row, keys_of_version}
-use Rattle.system_parts.specs.declared.asks.Ask.{Ask}
+use Rattle.command_semantics.proofs.Names.{◌≡◌, ℕ, ◌+◌, ◌<◌, ◌≤◌, nat_lt, Bool, true, false, cond, List, [], ◌∷◌}
+use Rattle.command_semantics.proofs.Names.{Option, Some, None, inl, inr, refl, sym, ap, subst, arith, length, slice_get}
+use Rattle.command_semantics.proofs.Names.{same_Some, Fate, Works, FailsUnchanged, FailsApplied, Janitor, Item, Mark}
+use Rattle.command_semantics.proofs.Names.{CommittedMark, InvalidMark, Row, keys_of_version, Ask, Told, finish_asks}
+use Rattle.command_semantics.proofs.Names.{undo_asks, first_ask, SweepPoint, Marking, Listing, Left, Undecided}
+use Rattle.command_semantics.proofs.Names.{Sweeping, sweep_ask, sweep_after_table, sweep_after_marking, sweep_told}
+use Rattle.command_semantics.proofs.Names.{sweep_asks, sweep_listed, InstanceEntry, State, met, told_by, rows_after}
+use Rattle.command_semantics.proofs.Names.{Step, step_by, at_post, stepped, on_swept, sweep_open_on, still_open}
+use Rattle.command_semantics.proofs.Names.{sweep_met, sweep_lists, sweep_at, sweep_step_on, Verb, ReachedInvariant}
+use Rattle.command_semantics.proofs.Names.{Interruption, Steps, halt_of, unless_halted, sweep_left_at, sweep_left}
+use Rattle.command_semantics.proofs.Names.{janitor_left}
 use Rattle.system_parts.specs.declared.asks.Ask.TheVariants as ask
-use Rattle.system_parts.specs.declared.asks.Told.{Told}
 use Rattle.system_parts.specs.declared.asks.Told.TheVariants as told
-use Rattle.system_parts.specs.Completion.{finish_asks, undo_asks, first_ask}
-use Rattle.system_parts.specs.Sweep.{SweepPoint, Table, Marking, Listing, Left, Undecided, Sweeping, sweep_ask, sweep_after_table, sweep_after_marking, sweep_told, sweep_asks, sweep_listed}
-use Rattle.system_parts.specs.Instance.{InstanceEntry}
+use Rattle.system_parts.specs.Sweep.{Table}
 use Rattle.machine.specs.declared.event.Event.TheVariants as event
-use Rattle.machine.specs.State.{State}
-use Rattle.machine.specs.StoreSteps.{met, told_by, rows_after}
-use Rattle.machine.specs.Machine.{Step, step_by, at_post, stepped, on_swept}
-use Rattle.machine.specs.Events.SweepOpen.{sweep_open_on}
-use Rattle.machine.specs.Events.SweepStep.{still_open, sweep_met, sweep_lists, sweep_at, sweep_step_on}
-use Rattle.script_data.specs.declared.line.Verb.{Verb}
-use Rattle.isolation_laws.specs.Sound.{ReachedInvariant}
 use Rattle.isolation_laws.specs.UnderWay.{IsSweptAt}
-use Rattle.command_semantics.specs.declared.point.Interruption.{Interruption}
-use Rattle.command_semantics.specs.declared.point.Point.TheVariants.{Steps}
-use Rattle.command_semantics.specs.Interruptions.{halt_of, unless_halted}
-use Rattle.command_semantics.specs.Left.{sweep_left_at, sweep_left, janitor_left}
 use Rattle.command_semantics.proofs.Clients.{undo_long, finish_long}
 
 abbrev pub SweepLowers : ℕ → Verb → Step → Type 0

@@ -1,26 +1,17 @@
 -- For turn_rules and log_refinement too.
 -- The nodes whose takes a history tells are those of the system, whatever events are made.
-use Rattle.std.proofs.Common.{◌≡◌, ℕ, zero, suc, ◌<◌, ◌==◌, Bool, true, false, ◌||◌, List, [], ◌∷◌, ◌++◌, Option, None, Some, ◌⊎◌, inl, inr, refl, sym, ◌∙◌, ap, subst, arith, length, fold}
-use Rattle.std.specs.Prelude.{slice_get, IfSome, unwrap_or}
-use Rattle.std.specs.Option.{option_or}
-use Rattle.std.proofs.lemmas.Bool.Decides.{eqb_tells}
+use Rattle.command_semantics.proofs.Names.{◌≡◌, ℕ, zero, suc, ◌<◌, ◌==◌, Bool, true, false, ◌||◌, List, [], ◌∷◌, ◌++◌}
+use Rattle.command_semantics.proofs.Names.{Option, None, Some, ◌⊎◌, inl, inr, refl, sym, ◌∙◌, ap, subst, arith, length}
+use Rattle.command_semantics.proofs.Names.{fold, slice_get, IfSome, unwrap_or, option_or, eqb_tells, none-some}
+use Rattle.command_semantics.proofs.Names.{SetupNumbers, AreInRange, Fate, Actor, Item, told_then, last_told, of_post}
+use Rattle.command_semantics.proofs.Names.{of_both, leaves_parts, Event, State, Step, with_reading, stepped}
+use Rattle.command_semantics.proofs.Names.{ReachedInvariant, opener, IsTake, IsRenew, IsCrash, IsVanish, IsAskBegin}
+use Rattle.command_semantics.proofs.Names.{IsAskCommit, IsWrite, IsFetch, IsRefusal, IsReadOnly, taken_by, is_node}
+use Rattle.command_semantics.proofs.Names.{takes, has_take, HasTake, last_master}
 use Rattle.std.proofs.lemmas.List.Folds.{list_any-append}
-use Rattle.std.proofs.lemmas.Option.{none-some}
-use Rattle.stamp_base.specs.SetupNumbers.{SetupNumbers, AreInRange}
-use Rattle.port_io.specs.declared.weather.Fate.{Fate}
-use Rattle.history_book.specs.declared.item.Actor.{Actor}
-use Rattle.history_book.specs.declared.item.Item.{Item}
 use Rattle.history_book.specs.declared.item.Item.TheVariants as item
-use Rattle.cause_rules.specs.Since.{told_then, last_told}
-use Rattle.machine.proofs.LookedUp.{of_post, of_client, of_both}
-use Rattle.machine.proofs.PartsKept.{leaves_parts}
-use Rattle.machine.specs.declared.event.Event.{Event}
+use Rattle.machine.proofs.LookedUp.{of_client}
 use Rattle.machine.specs.declared.event.Event.TheVariants as event
-use Rattle.machine.specs.State.{State}
-use Rattle.machine.specs.Machine.{Step, with_reading, stepped}
-use Rattle.isolation_laws.specs.Sound.{ReachedInvariant}
-use Rattle.command_semantics.specs.Answers.{opener, IsTake, IsRenew, IsCrash, IsVanish, IsAskBegin, IsAskCommit, IsWrite, IsFetch, IsRefusal, IsReadOnly}
-use Rattle.command_semantics.specs.Master.{taken_by, is_node, takes, has_take, HasTake, last_master}
 use Rattle.command_semantics.proofs.AlwaysFit.{Fit}
 use Rattle.command_semantics.proofs.Fitting.{fit_at}
 use Rattle.command_semantics.proofs.OpeningItems.{Begins, TakeAnswer, RenewAnswer, BeginAnswer, take_begins, renew_begins, crash_begins, ask_begin_begins, vanish_begins}

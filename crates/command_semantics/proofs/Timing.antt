@@ -1,24 +1,17 @@
 -- For turn_rules, split_stores, run_board and grant_laws too.
 -- The events of a line come at their time: readings are the base clock and a lead, and a tick is as long as its line says.
-use Rattle.std.proofs.Common.{◌≡◌, ℕ, ◌+◌, ◌≤◌, ◌^◌, Bool, true, false, cond, Option, Some, None, refl, sym, subst, arith}
-use Rattle.std.specs.Prelude.{slice_index_or}
-use Rattle.history_book.specs.declared.item.Actor.{Actor}
-use Rattle.history_book.specs.declared.item.Actor.TheVariants.{Clock, Node, Session, Janitor}
-use Rattle.system_parts.specs.declared.instance.Place.{Place}
+use Rattle.command_semantics.proofs.Names.{◌≡◌, ℕ, ◌+◌, ◌≤◌, ◌^◌, Bool, true, false, cond, Option, Some, None, refl}
+use Rattle.command_semantics.proofs.Names.{sym, subst, arith, slice_index_or, Actor, Clock, Node, Session, Janitor}
+use Rattle.command_semantics.proofs.Names.{Place, Doing, Event, reading_of, seen_after, IsSteadyAt, Verb, Point, Opens}
+use Rattle.command_semantics.proofs.Names.{Drives, Extends, Finishes, Reads, Steps, Over, View, Clocks, reading_at}
+use Rattle.command_semantics.proofs.Names.{serves, is_served, finish_next, places, placing_next, drive_next, extend_by}
+use Rattle.command_semantics.proofs.Names.{extend_next, idle_next, collect_next, read_next, steps_next, sweep_next}
+use Rattle.command_semantics.proofs.Names.{clock_opens, node_opens, session_opens, janitor_opens, session_next}
+use Rattle.command_semantics.proofs.Names.{janitor_next, opens_alone, next, clock_after, tick_of}
 use Rattle.system_parts.specs.declared.instance.Place.TheVariants as place
-use Rattle.machine.specs.declared.event.Doing.{Doing}
 use Rattle.machine.specs.declared.event.Doing.TheVariants as doing
-use Rattle.machine.specs.declared.event.Event.{Event}
 use Rattle.machine.specs.declared.event.Event.TheVariants as event
-use Rattle.machine.specs.Machine.{reading_of, seen_after, IsSteadyAt}
-use Rattle.script_data.specs.declared.line.Verb.{Verb}
 use Rattle.script_data.specs.declared.line.Verb.TheVariants as verb
-use Rattle.command_semantics.specs.declared.point.Point.{Point}
-use Rattle.command_semantics.specs.declared.point.Point.TheVariants.{Opens, Drives, Extends, Finishes, Reads, Steps, Over}
-use Rattle.command_semantics.specs.declared.point.View.{View}
-use Rattle.command_semantics.specs.Next.{Clocks, reading_at, serves, is_served, finish_next, places, placing_next, drive_next, extend_by, extend_next, idle_next, collect_next, read_next, steps_next, sweep_next, clock_opens, node_opens, session_opens, janitor_opens, session_next, janitor_next, opens_alone, next}
-use Rattle.command_semantics.specs.Runs.{clock_after}
-use Rattle.script_data.specs.Ticks.{tick_of}
 
 -- the tick that is still ahead of a line
 abbrev pub tick_ahead : Point → Verb → ℕ

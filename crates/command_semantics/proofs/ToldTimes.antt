@@ -1,24 +1,13 @@
 -- The times that a history tells, and the readings in it, after the items of one more event.
-use Rattle.std.proofs.Common.{◌≡◌, ℕ, zero, suc, ◌+◌, List, [], ◌∷◌, ◌++◌, take, All, Option, Some, None, inl, inr, refl, sym, ◌∙◌, ap, subst, arith}
-use Rattle.std.specs.Prelude.{slice_get, sum}
-use Rattle.std.proofs.lemmas.List.{append-nil}
-use Rattle.std.proofs.lemmas.List.Elements.{All-cons, All-head, All-tail, All-take, All-append, All-weaker}
-use Rattle.std.proofs.lemmas.List.Sums.{sum_by-cons}
-use Rattle.std.proofs.lemmas.Option.{same_Some}
-use Rattle.stamp_base.specs.declared.stores.Store.{Store}
-use Rattle.port_io.specs.declared.weather.Fate.{Fate}
-use Rattle.history_book.specs.Members.{AtEach}
-use Rattle.history_book.specs.declared.cause.Cause.{Cause}
+use Rattle.command_semantics.proofs.Names.{◌≡◌, ℕ, zero, suc, ◌+◌, List, [], ◌∷◌, ◌++◌, take, All, Option, Some, None}
+use Rattle.command_semantics.proofs.Names.{inl, inr, refl, sym, ◌∙◌, ap, subst, arith, slice_get, sum, append-nil}
+use Rattle.command_semantics.proofs.Names.{All-cons, All-head, All-tail, All-take, All-append, All-weaker, sum_by-cons}
+use Rattle.command_semantics.proofs.Names.{same_Some, Store, Fate, AtEach, Cause, Actor, Node, Session, Item, last_told}
+use Rattle.command_semantics.proofs.Names.{last_told-same, Clocks, reading_at, times_told, times_from, time_by}
+use Rattle.command_semantics.proofs.Names.{time_or_start, shown, IsCauseTimed, IsTimed}
 use Rattle.history_book.specs.declared.cause.Cause.TheVariants as cause
-use Rattle.history_book.specs.declared.item.Actor.{Actor}
-use Rattle.history_book.specs.declared.item.Actor.TheVariants.{Node, Session}
-use Rattle.history_book.specs.declared.item.Item.{Item}
 use Rattle.history_book.specs.declared.item.Item.TheVariants as item
-use Rattle.cause_rules.specs.Since.{last_told}
-use Rattle.cause_laws.proofs.SinceWords.{last_told-same}
 use Rattle.cause_laws.proofs.LongerHistories.{each_longer}
-use Rattle.command_semantics.specs.Next.{Clocks, reading_at}
-use Rattle.command_semantics.specs.Planned.{times_told, times_from, time_by, time_or_start, shown, IsCauseTimed, IsTimed}
 use Rattle.command_semantics.proofs.ReadItems.{IsCauseRead, IsRead, Made}
 
 -- ---- items that tell no time

@@ -1,14 +1,9 @@
 -- For turn_rules and log_refinement too.
 -- The walk of a history along an actor's lines, over the items of one line after the other.
-use Rattle.std.proofs.Common.{◌≡◌, ℕ, List, [], ◌∷◌, ◌++◌, append_assoc, Option, Some, None, ◌⊎◌, inl, inr, refl, sym, ◌∙◌, subst}
-use Rattle.std.proofs.lemmas.List.{append-nil}
-use Rattle.std.proofs.lemmas.Option.{none-some}
-use Rattle.history_book.specs.declared.item.Actor.{Actor}
-use Rattle.history_book.specs.declared.item.Item.{Item}
-use Rattle.script_data.specs.declared.line.Line.{Line}
-use Rattle.script_data.specs.declared.line.Target.{Target}
-use Rattle.script_data.specs.declared.line.Verb.{Verb}
-use Rattle.command_semantics.specs.Answers.{Opens, IsAnswer, read_begun, EndsRead, Answered}
+use Rattle.command_semantics.proofs.Names.{◌≡◌, ℕ, List, [], ◌∷◌, ◌++◌, append_assoc, Option, Some, None, ◌⊎◌, inl, inr}
+use Rattle.command_semantics.proofs.Names.{refl, sym, ◌∙◌, subst, append-nil, none-some, Actor, Item, Line, Target}
+use Rattle.command_semantics.proofs.Names.{Verb, IsAnswer, read_begun, EndsRead, Answered}
+use Rattle.command_semantics.specs.Answers.{Opens}
 use Rattle.command_semantics.proofs.Plain.{AllPlain}
 
 -- none of the items opens a line of the actor

@@ -1,31 +1,18 @@
 -- For turn_rules too.
 -- The first item of a commit that is asked, of a write and of a fetch answers its line. A transaction that is open has a start
 -- and an epoch.
-use Rattle.std.proofs.Common.{◌≡◌, ℕ, Bool, true, false, cond, nat_lt, ◌||◌, List, [], ◌∷◌, Option, Some, None, ◌⊎◌, inl, inr, refl, sym, subst, IsTrue, length}
-use Rattle.std.specs.Option.{option_or}
-use Rattle.stamp_base.specs.SetupNumbers.{SetupNumbers}
-use Rattle.stamp_base.specs.declared.limits.TheConstants.{KEY_LIMIT}
-use Rattle.port_io.specs.declared.weather.Fate.{Fate}
-use Rattle.port_io.specs.declared.weather.Fate.TheVariants.{Works, FailsUnchanged, FailsApplied}
+use Rattle.command_semantics.proofs.Names.{◌≡◌, ℕ, Bool, true, false, cond, nat_lt, ◌||◌, List, [], ◌∷◌, Option, Some}
+use Rattle.command_semantics.proofs.Names.{None, ◌⊎◌, inl, inr, refl, sym, subst, IsTrue, length, option_or}
+use Rattle.command_semantics.proofs.Names.{SetupNumbers, KEY_LIMIT, Fate, Works, FailsUnchanged, FailsApplied, Session}
+use Rattle.command_semantics.proofs.Names.{Item, Row, fetched, SessionState, ReadTurn, Asks, Answers, has_transaction}
+use Rattle.command_semantics.proofs.Names.{work_refusal, has_key, key_refusal, Commit, InstanceEntry, Client, State}
+use Rattle.command_semantics.proofs.Names.{is_reading, commit_of, ask_commit_by, ask_commit_on, write_open, write_on}
+use Rattle.command_semantics.proofs.Names.{fetch_recall, keeps_read, reads_refusal, read_items, fetch_open, fetch_on}
+use Rattle.command_semantics.proofs.Names.{ClientAt, ReachedInvariant, IsRefusal, IsReadOnly, IsAskCommit, IsWrite}
+use Rattle.command_semantics.proofs.Names.{IsFetch}
 use Rattle.history_book.specs.declared.cause.Cause.TheVariants as cause
-use Rattle.history_book.specs.declared.item.Actor.TheVariants.{Session}
-use Rattle.history_book.specs.declared.item.Item.{Item}
 use Rattle.history_book.specs.declared.item.Item.TheVariants as item
-use Rattle.system_parts.specs.Rows.{Row, fetched}
-use Rattle.system_parts.specs.declared.session.State.{State as SessionState}
 use Rattle.system_parts.specs.declared.session.State.TheVariants as phase
-use Rattle.system_parts.specs.KeyRead.{ReadTurn, Asks, Answers}
-use Rattle.system_parts.specs.SessionSteps.{has_transaction, work_refusal, has_key, key_refusal}
-use Rattle.system_parts.specs.declared.instance.Request.TheVariants.{Commit}
-use Rattle.system_parts.specs.Instance.{InstanceEntry}
-use Rattle.machine.specs.State.{Client, State}
-use Rattle.machine.specs.Clients.{is_reading}
-use Rattle.machine.specs.Events.AskCommit.{commit_of, ask_commit_by, ask_commit_on}
-use Rattle.machine.specs.Events.Write.{write_open, write_on}
-use Rattle.machine.specs.Events.Fetch.{fetch_recall, keeps_read, reads_refusal, read_items, fetch_open, fetch_on}
-use Rattle.isolation_laws.specs.Words.{ClientAt}
-use Rattle.isolation_laws.specs.Sound.{ReachedInvariant}
-use Rattle.command_semantics.specs.Answers.{IsRefusal, IsReadOnly, IsAskCommit, IsWrite, IsFetch}
 use Rattle.command_semantics.proofs.Plain.{AllPlain, one_plain, no_plain}
 use Rattle.command_semantics.proofs.Fitting.{EpochFits}
 use Rattle.command_semantics.proofs.OpeningItems.{Begins, alone, behind, ask_begins_if}

@@ -1,20 +1,13 @@
 -- For turn_rules and grant_laws too.
 -- What a session that may make a step has under way: a read, the resolve of its own commit, a completion, or a commit to place.
-use Rattle.std.proofs.Common.{◌≡◌, ℕ, Bool, true, false, IsTrue, List, [], ◌∷◌, Option, Some, None, ◌⊎◌, inl, inr, refl, sym, ◌∙◌, ap, subst}
-use Rattle.history_book.specs.declared.item.Item.{Item}
-use Rattle.system_parts.specs.declared.asks.Ask.{Ask}
-use Rattle.system_parts.specs.declared.session.State.{State as SessionState}
+use Rattle.command_semantics.proofs.Names.{◌≡◌, ℕ, Bool, true, false, IsTrue, List, [], ◌∷◌, Option, Some, None, ◌⊎◌}
+use Rattle.command_semantics.proofs.Names.{inl, inr, refl, sym, ◌∙◌, ap, subst, Item, Ask, SessionState, finish_asks}
+use Rattle.command_semantics.proofs.Names.{undo_asks, Settling, own_settling, Reading, step_refusal, has_transaction}
+use Rattle.command_semantics.proofs.Names.{handed_by, handed_commit, UnderWay, Nothing, Settles, Completes, Client}
+use Rattle.command_semantics.proofs.Names.{State, is_reading, is_reading_by, own_resolve, work_by, work_of, ClientAt}
+use Rattle.command_semantics.proofs.Names.{ReachedInvariant, one_client}
 use Rattle.system_parts.specs.declared.session.State.TheVariants as phase
-use Rattle.system_parts.specs.Completion.{finish_asks, undo_asks}
-use Rattle.system_parts.specs.Resolve.{Settling, own_settling}
-use Rattle.system_parts.specs.KeyRead.{Reading}
-use Rattle.system_parts.specs.SessionSteps.{step_refusal, has_transaction, handed_by, handed_commit}
-use Rattle.machine.specs.State.{UnderWay, Nothing, Reads, Settles, Completes, Client, State}
-use Rattle.machine.specs.Clients.{is_reading, is_reading_by}
-use Rattle.machine.specs.Events.Step.{own_resolve, work_by, work_of}
-use Rattle.isolation_laws.specs.Words.{ClientAt}
-use Rattle.isolation_laws.specs.Sound.{ReachedInvariant}
-use Rattle.machine.proofs.Lookups.{one_client}
+use Rattle.machine.specs.State.{Reads}
 
 pub record ReadWork (c : Client) : Type 0 where
   pub r : Reading

@@ -1,35 +1,16 @@
 -- Own turns that ask: the node's instance holds the request.
-use Rattle.std.proofs.Common.{◌≡◌, ◌≢◌, ℕ, ◌<◌, [], ◌∷◌, length, Option, Some, refl, sym, ◌∙◌, ap, subst}
-use Rattle.std.specs.Prelude.{slice_get}
-use Rattle.history_book.specs.declared.item.Actor.TheVariants.{Session}
-use Rattle.history_book.specs.declared.item.Item.{Item}
+use Rattle.grant_laws.proofs.Names.{◌≡◌, ◌≢◌, ℕ, ◌<◌, [], ◌∷◌, length, Option, Some, refl, sym, ◌∙◌, ap, subst}
+use Rattle.grant_laws.proofs.Names.{slice_get, Session, Item, Request, Begin, Commit, InstanceEntry, held_of, in_flight}
+use Rattle.grant_laws.proofs.Names.{just_asked, held_of-with_request_same, Client, State, client_asked, Effect, done}
+use Rattle.grant_laws.proofs.Names.{Event, Step, step_by, with_post, with_client, at_both, on_ask, ask_begin_on}
+use Rattle.grant_laws.proofs.Names.{ask_commit_on, ScriptData, InstanceAt, ClientAt, set_found, Played, step_of, played}
+use Rattle.grant_laws.proofs.Names.{Makes, Carried, own_ahead, made_by, carried, IsAtWork, IsServed, Serves, AtNode}
+use Rattle.grant_laws.proofs.Names.{AsksAreCarried}
 use Rattle.history_book.specs.declared.item.Item.TheVariants as item
 use Rattle.system_parts.specs.declared.session.State.TheVariants as phase
 use Rattle.system_parts.specs.declared.instance.Progress.TheVariants as progress
-use Rattle.system_parts.specs.declared.instance.Request.{Request}
-use Rattle.system_parts.specs.declared.instance.Request.TheVariants.{Begin, Commit}
-use Rattle.system_parts.specs.Instance.{InstanceEntry, held_of, in_flight}
-use Rattle.system_parts.specs.InstanceSteps.{just_asked}
-use Rattle.system_parts.proofs.InstanceRequests.{held_of-with_request_same}
-use Rattle.machine.specs.State.{Client, State}
-use Rattle.machine.specs.Clients.{client_asked}
-use Rattle.machine.specs.Effect.{Effect, done}
-use Rattle.machine.specs.declared.event.Event.{Event}
 use Rattle.machine.specs.declared.event.Event.TheVariants as event
-use Rattle.machine.specs.Machine.{Step, step_by, with_post, with_client, at_both, on_ask}
-use Rattle.machine.specs.Events.AskBegin.{ask_begin_on}
-use Rattle.machine.specs.Events.AskCommit.{ask_commit_on}
-use Rattle.script_data.specs.Data.{ScriptData}
-use Rattle.isolation_laws.specs.Words.{InstanceAt, ClientAt}
-use Rattle.machine.proofs.Lookups.{set_found}
-use Rattle.command_semantics.specs.Runs.{Played, step_of, played}
-use Rattle.turn_rules.specs.declared.ahead.NextAction.TheVariants.{Makes}
 use Rattle.turn_rules.specs.declared.turn.Turn.TheVariants as turn
-use Rattle.turn_rules.specs.Carried.{Carried, own_ahead, made_by, carried}
-use Rattle.grant_laws.specs.Premises.{IsAtWork}
-use Rattle.grant_laws.specs.Turns.{IsServed, Serves}
-use Rattle.grant_laws.specs.Lines.{AtNode}
-use Rattle.grant_laws.specs.Between.{AsksAreCarried}
 use Rattle.grant_laws.proofs.Effects.{asked_of, begin_taken, commit_taken}
 use Rattle.grant_laws.proofs.Facts.{has_place}
 use Rattle.grant_laws.proofs.KnownTurns.{KnownTurns, as_known, known_carried}

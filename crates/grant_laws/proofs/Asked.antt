@@ -1,33 +1,17 @@
 -- A line that has asked has its request accepted, and gets a stamp for it.
-use Rattle.std.proofs.Common.{◌≡◌, ℕ, ◌+◌, ◌<◌, true, false, List, [], ◌∷◌, length, Option, Some, None, refl, ◌∙◌, ap, arith}
-use Rattle.std.specs.Prelude.{slice_index_or}
-use Rattle.std.proofs.lemmas.List.{length-set, set-set, get_or-set_same}
-use Rattle.history_book.specs.declared.item.Actor.TheVariants.{Session}
-use Rattle.history_book.specs.declared.item.Item.{Item}
+use Rattle.grant_laws.proofs.Names.{◌≡◌, ℕ, ◌+◌, ◌<◌, true, false, List, [], ◌∷◌, length, Option, Some, None, refl, ◌∙◌}
+use Rattle.grant_laws.proofs.Names.{ap, arith, slice_index_or, length-set, set-set, get_or-set_same, Session, Item}
+use Rattle.grant_laws.proofs.Names.{Free, Held, Place, Request, InstanceEntry, held_of, with_request, just_asked, moved}
+use Rattle.grant_laws.proofs.Names.{accept_refusal, held_of-with_request_same, Event, Line, Verb, ScriptData, Drives}
+use Rattle.grant_laws.proofs.Names.{reading_at, is_served, Played, clocks_of, played, line_of, both_verdict}
 use Rattle.history_book.specs.declared.item.Item.TheVariants as item
-use Rattle.system_parts.specs.declared.buckets.Verdict.TheVariants.{Free}
-use Rattle.system_parts.specs.declared.instance.Held.{Held}
-use Rattle.system_parts.specs.declared.instance.Place.{Place}
 use Rattle.system_parts.specs.declared.instance.Progress.TheVariants as progress
-use Rattle.system_parts.specs.declared.instance.Request.{Request}
-use Rattle.system_parts.specs.Instance.{InstanceEntry, held_of, with_request}
-use Rattle.system_parts.specs.InstanceSteps.{just_asked, moved, accept_refusal}
-use Rattle.system_parts.proofs.InstanceRequests.{held_of-with_request_same}
-use Rattle.machine.specs.declared.event.Event.{Event}
 use Rattle.machine.specs.declared.event.Event.TheVariants as event
-use Rattle.script_data.specs.declared.line.Line.{Line}
-use Rattle.script_data.specs.declared.line.Verb.{Verb}
-use Rattle.script_data.specs.Data.{ScriptData}
-use Rattle.command_semantics.specs.declared.point.Point.TheVariants.{Drives}
-use Rattle.command_semantics.specs.Next.{reading_at, is_served}
-use Rattle.command_semantics.specs.Runs.{Played, clocks_of, played}
-use Rattle.grant_laws.specs.Granted.{line_of}
 use Rattle.grant_laws.proofs.LongerRuns.{longer_still, Leads, leads_on, run_at}
 use Rattle.grant_laws.proofs.Spots.{Spot, IsAt, Makes, leads_there, serves_on}
 use Rattle.grant_laws.proofs.Effects.{waiting, with_stamp}
 use Rattle.grant_laws.proofs.Serving.{with_both, accept_made, Drew}
 use Rattle.grant_laws.proofs.Extending.{CanDraw, gets_stamp}
-use Rattle.machine.specs.Events.Decide.{both_verdict}
 
 set_within : (i : InstanceEntry) (s : ℕ) (now : Option Held) → s < length i.requests → s < length (with_request i s now).requests
 set_within i s now within = omega (arith, within, length-set i.requests s now)

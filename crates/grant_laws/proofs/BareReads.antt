@@ -1,21 +1,18 @@
 -- How soon a read ends, by the cells without a shadow alone: any other one is passed over or answers, without a step on the stores.
-use Rattle.std.proofs.Common.{◌≡◌, ℕ, ◌+◌, ◌*◌, ◌<◌, ◌≤◌, ◌==◌, ◌||◌, nat_lt, is_some, not, cond, Bool, true, false, List, [], ◌∷◌, length, Option, Some, None, inl, inr, refl, ap, arith}
-use Rattle.std.specs.List.{filter}
-use Rattle.std.proofs.lemmas.Bool.{cases_Bool}
-use Rattle.system_parts.specs.declared.rows.Cell.{Cell}
-use Rattle.system_parts.specs.declared.asks.Told.{Told}
+use Rattle.grant_laws.proofs.Names.{◌≡◌, ℕ, ◌+◌, ◌*◌, ◌<◌, ◌≤◌, ◌==◌, ◌||◌, nat_lt, is_some, not, cond, Bool, true}
+use Rattle.grant_laws.proofs.Names.{false, List, [], ◌∷◌, length, Option, Some, None, inl, inr, refl, ap, arith, filter}
+use Rattle.grant_laws.proofs.Names.{cases_Bool, Cell, Told, Cache, cache_new, outcome_known, recalled_over}
+use Rattle.grant_laws.proofs.Names.{recalled_turn, recalled_told, Reading, ReadTurn, Asks, Answers, after_passed}
+use Rattle.grant_laws.proofs.Names.{turn_at, found_cell, found_by, settling_of, read_over, read_by, read_left, is_bare}
+use Rattle.grant_laws.proofs.Names.{read_steps}
 use Rattle.system_parts.specs.declared.resolve.Outcome.{Outcome}
 use Rattle.system_parts.specs.declared.resolve.Outcome.TheVariants.{Committed, Dead}
 use Rattle.system_parts.specs.declared.resolve.SettlePoint.{SettlePoint}
 use Rattle.system_parts.specs.declared.resolve.SettlePoint.TheVariants.{FirstLook, Table, Marking, LastLook}
-use Rattle.system_parts.specs.Cache.{Cache, cache_new}
-use Rattle.system_parts.specs.Recalled.{outcome_known, recalled_over, recalled_turn, recalled_told}
 use Rattle.system_parts.specs.RecalledReads.{RecalledReadsEnd}
 use Rattle.system_parts.specs.Resolve.{settle_left, SettleTurn, Goes, Decides, settle_turn}
-use Rattle.system_parts.specs.KeyRead.{Reading, ReadTurn, Asks, Answers, is_passed, after_passed, turn_at, found_cell, found_by, settling_of, read_over, read_by, read_left}
+use Rattle.system_parts.specs.KeyRead.{is_passed}
 use Rattle.system_parts.proofs.RecalledLemmas.{AnyCache, Recalls, over_holds, told_holds}
-use Rattle.isolation_laws.specs.Bare.{is_bare}
-use Rattle.grant_laws.specs.Turns.{read_steps}
 
 -- a read begins with at most three steps for each cell without a shadow, and each answer that leads on leaves fewer
 pub record BareReadsEnd : Type 0 where

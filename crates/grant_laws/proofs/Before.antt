@@ -1,17 +1,9 @@
 -- What holds before a line of a script, and what the line has appended stays in the script's history.
-use Rattle.std.proofs.Common.{◌≡◌, ◌+◌, List, [], ◌∷◌, ◌++◌, refl, sym, ◌∙◌, ap, subst, arith}
-use Rattle.history_book.specs.Members.{◌∈◌}
-use Rattle.history_book.specs.declared.item.Item.{Item}
-use Rattle.script_data.specs.declared.line.Line.{Line}
-use Rattle.script_data.specs.Data.{ScriptData}
-use Rattle.script_data.specs.Ticks.{ticks_of}
-use Rattle.cause_laws.specs.ShownInvariant.{ExplainedInvariant}
-use Rattle.cause_laws.proofs.AlwaysExplained.{tells_stay, tells_at_first}
-use Rattle.command_semantics.specs.Runs.{Played, line_run, lines_played, opening_played, script_played}
-use Rattle.command_semantics.specs.Laws.{EventsLowerWhatIsLeft, IsPlayable, IsReached}
-use Rattle.command_semantics.proofs.AlwaysFit.{Fit, fit_stays, fit_at_first}
+use Rattle.grant_laws.proofs.Names.{◌≡◌, ◌+◌, List, [], ◌∷◌, ◌++◌, refl, sym, ◌∙◌, ap, subst, arith, ◌∈◌, Item, Line}
+use Rattle.grant_laws.proofs.Names.{ScriptData, ticks_of, ExplainedInvariant, tells_stay, tells_at_first, Played}
+use Rattle.grant_laws.proofs.Names.{line_run, lines_played, opening_played, script_played, EventsLowerWhatIsLeft}
+use Rattle.grant_laws.proofs.Names.{IsPlayable, IsReached, Fit, fit_stays, fit_at_first, IsBefore, Appends, Grants}
 use Rattle.command_semantics.proofs.Ending.{lines_keep, opening_reached}
-use Rattle.grant_laws.specs.Granted.{IsBefore, Appends, Grants}
 use Rattle.grant_laws.proofs.LongerRuns.{Longer, appended_still, in_last, lines_longer}
 
 -- ---- lines one after the other

@@ -1,37 +1,17 @@
 -- A begin line whose premises hold has its begin, or is told to wait for a commit that is not settled.
-use Rattle.std.proofs.Common.{◌≡◌, ℕ, zero, suc, ◌+◌, ◌<◌, Bool, false, cond, List, [], ◌∷◌, ◌++◌, length, Option, Some, None, inr, refl, sym, ◌∙◌, ap, arith}
-use Rattle.std.specs.Prelude.{slice_set, slice_index_or, MatchOption}
-use Rattle.std.proofs.lemmas.List.{set-set, length-set}
-use Rattle.system_parts.specs.declared.instance.Held.{Held}
-use Rattle.machine.specs.Events.Answer.{answer_on}
-use Rattle.command_semantics.specs.Runs.{line_run, Played, step_of, played, opened, Run, run_after}
-use Rattle.std.proofs.lemmas.Bool.{lt-ltb}
+use Rattle.grant_laws.proofs.Names.{◌≡◌, ℕ, zero, suc, ◌+◌, ◌<◌, Bool, false, cond, List, [], ◌∷◌, ◌++◌, length, Option}
+use Rattle.grant_laws.proofs.Names.{Some, None, inr, refl, sym, ◌∙◌, ap, arith, slice_set, slice_index_or, MatchOption}
+use Rattle.grant_laws.proofs.Names.{set-set, length-set, Held, answer_on, line_run, Played, step_of, played, opened}
+use Rattle.grant_laws.proofs.Names.{Run, run_after, lt-ltb, Session, Item, Progress, Request, Begin, InstanceEntry}
+use Rattle.grant_laws.proofs.Names.{held_of, unsettled_commit, only_below, lesser, least_unsettled, just_asked}
+use Rattle.grant_laws.proofs.Names.{accept_refusal, held_of-with_request_same, Client, client_asked, Stop, Step, Event}
+use Rattle.grant_laws.proofs.Names.{ask_begin_on, Line, Verb, ScriptData, Opens, Drives, halt_of, follows}
+use Rattle.grant_laws.proofs.Names.{EventsLowerWhatIsLeft, line_of, IsBefore, reading_of, node_asked, Appends, Grants}
+use Rattle.grant_laws.proofs.Names.{BeginsAreGranted, on_both}
 use Rattle.history_book.specs.declared.cause.Cause.TheVariants as cause
-use Rattle.history_book.specs.declared.item.Actor.TheVariants.{Session}
-use Rattle.history_book.specs.declared.item.Item.{Item}
 use Rattle.history_book.specs.declared.item.Item.TheVariants as item
-use Rattle.system_parts.specs.declared.instance.Progress.{Progress}
-use Rattle.system_parts.specs.declared.instance.Request.{Request}
-use Rattle.system_parts.specs.declared.instance.Request.TheVariants.{Begin}
-use Rattle.system_parts.specs.Instance.{InstanceEntry, held_of, unsettled_commit, only_below, lesser, least_unsettled}
-use Rattle.system_parts.specs.InstanceSteps.{just_asked, accept_refusal}
-use Rattle.system_parts.proofs.InstanceRequests.{held_of-with_request_same}
-use Rattle.machine.specs.State.{Client}
-use Rattle.machine.specs.Clients.{client_asked}
-use Rattle.machine.specs.Effect.{Stop}
-use Rattle.machine.specs.Machine.{Step}
-use Rattle.machine.specs.declared.event.Event.{Event}
 use Rattle.machine.specs.declared.event.Event.TheVariants as event
-use Rattle.machine.specs.Events.AskBegin.{ask_begin_on}
-use Rattle.script_data.specs.declared.line.Line.{Line}
-use Rattle.script_data.specs.declared.line.Verb.{Verb}
 use Rattle.script_data.specs.declared.line.Verb.TheVariants as verb
-use Rattle.script_data.specs.Data.{ScriptData}
-use Rattle.command_semantics.specs.declared.point.Point.TheVariants.{Opens, Drives}
-use Rattle.command_semantics.specs.Interruptions.{halt_of, follows}
-use Rattle.command_semantics.specs.Laws.{EventsLowerWhatIsLeft}
-use Rattle.grant_laws.specs.Granted.{line_of, IsBefore, reading_of, node_asked, Appends, Grants}
-use Rattle.grant_laws.specs.Laws.{BeginsAreGranted}
 use Rattle.grant_laws.proofs.LongerRuns.{Longer, longer_still, in_one, appended_before, Leads, leads_on, leads_one, leads_to, line_appends, run_at}
 use Rattle.grant_laws.proofs.Before.{Known, known_before, granted}
 use Rattle.grant_laws.proofs.Facts.{first_spot, is_first, has_place, can_draw}
@@ -40,7 +20,6 @@ use Rattle.grant_laws.proofs.Effects.{begin_drawn, asked_of, begin_taken, with_s
 use Rattle.grant_laws.proofs.Serving.{with_both, on_ask_made, Drew}
 use Rattle.grant_laws.proofs.Extending.{CanDraw}
 use Rattle.grant_laws.proofs.Asked.{asked_is_drawn, holds_stamp}
-use Rattle.command_semantics.proofs.Serving.{on_both}
 
 -- a request that is no drawn commit leaves what is the least unsettled commit
 same_least : (requests : List (Option Held)) (s start : ℕ) (now : Held) → slice_index_or requests s None ≡ None → unsettled_commit (Some now) ≡ None → least_unsettled (slice_set requests s (Some now)) start ≡ least_unsettled requests start

@@ -1,21 +1,11 @@
 -- Where sessions place their commits no instance has a commit in the way of a begin.
-use Rattle.std.proofs.Common.{◌≡◌, ℕ, zero, suc, Bool, true, false, List, [], ◌∷◌, Option, Some, None, refl, ◌∙◌, ap, subst}
-use Rattle.std.specs.Prelude.{slice_index_or}
-use Rattle.stamp_base.specs.SetupNumbers.{SetupNumbers}
-use Rattle.history_book.specs.declared.item.Item.{Item}
-use Rattle.system_parts.specs.declared.instance.Held.{Held}
-use Rattle.system_parts.specs.declared.instance.Progress.{Progress}
+use Rattle.grant_laws.proofs.Names.{◌≡◌, ℕ, zero, suc, Bool, true, false, List, [], ◌∷◌, Option, Some, None, refl, ◌∙◌}
+use Rattle.grant_laws.proofs.Names.{ap, subst, slice_index_or, SetupNumbers, Item, Held, Progress, Request, Begin}
+use Rattle.grant_laws.proofs.Names.{Commit, InstanceEntry, unsettled_by, only_below, lesser, least_unsettled, State}
+use Rattle.grant_laws.proofs.Names.{InstanceAt, held_by, ExplainedInvariant, EventsLowerWhatIsLeft}
+use Rattle.grant_laws.proofs.Names.{DirectBeginsNeverWait}
 use Rattle.system_parts.specs.declared.instance.Progress.TheVariants as progress
-use Rattle.system_parts.specs.declared.instance.Request.{Request}
-use Rattle.system_parts.specs.declared.instance.Request.TheVariants.{Begin, Commit}
-use Rattle.system_parts.specs.Instance.{InstanceEntry, unsettled_by, only_below, lesser, least_unsettled}
-use Rattle.machine.specs.State.{State}
-use Rattle.isolation_laws.specs.Words.{InstanceAt}
-use Rattle.machine.proofs.Lookups.{held_by}
 use Rattle.cause_laws.specs.Requests.{WhereNodesPut}
-use Rattle.cause_laws.specs.ShownInvariant.{ExplainedInvariant}
-use Rattle.command_semantics.specs.Laws.{EventsLowerWhatIsLeft}
-use Rattle.grant_laws.specs.Laws.{DirectBeginsNeverWait}
 use Rattle.grant_laws.proofs.Before.{Known, known_before}
 use Rattle.grant_laws.proofs.KnownTurns.{KnownTurns, known_carried}
 

@@ -1,49 +1,30 @@
 -- For log_refinement too, which keeps what a log shows of a request.
 -- What an event makes of a node leaves the request of any session but that which it serves.
-use Rattle.std.proofs.Common.{◌≡◌, ◌≢◌, ℕ, List, [], ◌∷◌, Option, Some, None, Result, Ok, Err, ◌⊎◌, inl, inr, refl, sym, ◌∙◌, ap, subst}
-use Rattle.std.specs.Prelude.{slice_get, slice_set}
-use Rattle.std.proofs.lemmas.Bool.{cases_eq}
-use Rattle.std.proofs.lemmas.Option.{same_Some}
-use Rattle.stamp_base.specs.declared.stores.Mark.{Mark}
-use Rattle.port_io.specs.declared.weather.Fate.{Fate}
-use Rattle.port_io.specs.declared.weather.Fate.TheVariants.{Works, FailsUnchanged, FailsApplied}
-use Rattle.history_book.specs.declared.cause.Cause.{Cause}
+use Rattle.grant_laws.proofs.Names.{◌≡◌, ◌≢◌, ℕ, List, [], ◌∷◌, Option, Some, None, Result, Ok, Err, ◌⊎◌, inl, inr}
+use Rattle.grant_laws.proofs.Names.{refl, sym, ◌∙◌, ap, subst, slice_get, slice_set, cases_eq, same_Some, Mark, Fate}
+use Rattle.grant_laws.proofs.Names.{Works, FailsUnchanged, FailsApplied, Cause, Item, ExtendRefused, Pairs, mark_of}
+use Rattle.grant_laws.proofs.Names.{MasterRecord, Verdict, Free, Conflict, Hidden, Progress, Held, Request, Begin}
+use Rattle.grant_laws.proofs.Names.{Commit, InstanceEntry, held_of, session_of, without_request, ends, request_verdict}
+use Rattle.grant_laws.proofs.Names.{verdict_by, decide_if_accepted, decide_held, refuse_if_accepted, refuse_held}
+use Rattle.grant_laws.proofs.Names.{instance_ask, instance_accept, instance_decide, instance_refuse, instance_answer}
+use Rattle.grant_laws.proofs.Names.{InstanceCall, Accepts, Decides, Settles, after_call, call_session}
+use Rattle.grant_laws.proofs.Names.{held_of-after_call_other, Client, renew_by, extend_by, asked_by, ask_begin_by}
+use Rattle.grant_laws.proofs.Names.{commit_of, ask_commit_by, accept_by, accept_request, both_verdict, both_if_accepted}
+use Rattle.grant_laws.proofs.Names.{both_held, decide_both, decide_request, put_by, put_commit, answer_by}
+use Rattle.grant_laws.proofs.Names.{answer_request, InstanceAt, set_found, set_other}
 use Rattle.history_book.specs.declared.cause.Cause.TheVariants as cause
-use Rattle.history_book.specs.declared.item.Item.{Item}
 use Rattle.history_book.specs.declared.item.Item.TheVariants as item
 use Rattle.system_parts.specs.declared.record.RenewRefused.{RenewRefused}
 use Rattle.system_parts.specs.declared.record.RenewRefused.TheVariants as not_renewed
-use Rattle.system_parts.specs.declared.record.ExtendRefused.{ExtendRefused}
 use Rattle.system_parts.specs.declared.record.ExtendRefused.TheVariants as not_extended
-use Rattle.system_parts.specs.Pairs.{Pairs, mark_of}
-use Rattle.system_parts.specs.Record.{MasterRecord}
-use Rattle.system_parts.specs.declared.buckets.Verdict.{Verdict}
-use Rattle.system_parts.specs.declared.buckets.Verdict.TheVariants.{Free, Conflict, Hidden}
 use Rattle.system_parts.specs.declared.instance.Decided.{Decided}
-use Rattle.system_parts.specs.declared.instance.Progress.{Progress}
 use Rattle.system_parts.specs.declared.instance.Progress.TheVariants as progress
-use Rattle.system_parts.specs.declared.instance.Held.{Held}
 use Rattle.system_parts.specs.declared.instance.Reply.{Reply}
 use Rattle.system_parts.specs.declared.instance.Reply.TheVariants as reply
-use Rattle.system_parts.specs.declared.instance.Request.{Request}
-use Rattle.system_parts.specs.declared.instance.Request.TheVariants.{Begin, Commit}
 use Rattle.system_parts.specs.declared.instance.Settled.TheVariants as how
-use Rattle.system_parts.specs.Instance.{InstanceEntry, held_of, session_of}
-use Rattle.system_parts.specs.InstanceSteps.{without_request, ends, request_verdict, decide_by as verdict_by, decide_if_accepted, decide_held, refuse_if_accepted, refuse_held, instance_ask, instance_accept, instance_decide, instance_refuse, instance_answer}
-use Rattle.system_parts.specs.InstanceLaws.{InstanceCall, Asks, Accepts, Decides, Refuses, Settles, Answers, after_call, call_session}
-use Rattle.system_parts.proofs.InstanceRequests.{held_of-after_call_other}
-use Rattle.machine.specs.State.{Client}
-use Rattle.machine.specs.Events.Renew.{renew_by}
-use Rattle.machine.specs.Events.Extend.{extend_by}
-use Rattle.machine.specs.Events.AskBegin.{asked_by, ask_begin_by}
-use Rattle.machine.specs.Events.AskCommit.{commit_of, ask_commit_by}
-use Rattle.machine.specs.Events.Accept.{accept_by, accept_request}
-use Rattle.machine.specs.Events.Decide.{both_verdict, both_if_accepted, both_held, decide_both, decide_by, decide_request}
-use Rattle.machine.specs.Events.Put.{put_by, put_commit}
-use Rattle.machine.specs.Events.Answer.{answer_by, answer_request}
-use Rattle.isolation_laws.specs.Words.{InstanceAt}
+use Rattle.system_parts.specs.InstanceLaws.{Asks, Refuses, Answers}
+use Rattle.machine.specs.Events.Decide.{decide_by}
 use Rattle.machine.proofs.Inversions.FreeVerdicts.{writes_free}
-use Rattle.machine.proofs.Lookups.{set_found, set_other}
 
 -- ---- a request at a node
 pub record Has (nodes : List (Option InstanceEntry)) (node s : ℕ) (held : Held) : Type 0 where

@@ -1,38 +1,16 @@
 -- A commit line whose premises hold has its commit.
-use Rattle.std.proofs.Common.{◌≡◌, ℕ, ◌+◌, ◌<◌, Bool, cond, List, [], ◌∷◌, length, Option, Some, None, inl, refl, ◌∙◌, ap, arith}
-use Rattle.std.proofs.lemmas.Bool.{lt-ltb, lt-leb}
-use Rattle.std.proofs.lemmas.List.{length-set}
-use Rattle.stamp_base.specs.declared.stores.Store.TheVariants.{Table}
-use Rattle.port_io.specs.declared.weather.Fate.TheVariants.{Works}
-use Rattle.port_io.specs.Planned.{planned_fate}
+use Rattle.grant_laws.proofs.Names.{◌≡◌, ℕ, ◌+◌, ◌<◌, Bool, cond, List, [], ◌∷◌, length, Option, Some, None, inl, refl}
+use Rattle.grant_laws.proofs.Names.{◌∙◌, ap, arith, lt-ltb, lt-leb, length-set, Table, Works, planned_fate, Session}
+use Rattle.grant_laws.proofs.Names.{Item, Pairs, mark_of, asked_state, Request, Commit, InstanceEntry, held_of}
+use Rattle.grant_laws.proofs.Names.{just_asked, accept_refusal, epoch_refusal, held_of-with_request_same, Client}
+use Rattle.grant_laws.proofs.Names.{client_asked, Stop, Step, Event, ask_commit_on, Line, Verb, Opens, Drives, halt_of}
+use Rattle.grant_laws.proofs.Names.{follows, EventsLowerWhatIsLeft, Played, fate_by, step_of, played, opened, line_of}
+use Rattle.grant_laws.proofs.Names.{reading_of, node_asked, CommitsAreGranted}
 use Rattle.history_book.specs.declared.cause.Cause.TheVariants as cause
-use Rattle.history_book.specs.declared.item.Actor.TheVariants.{Session}
-use Rattle.history_book.specs.declared.item.Item.{Item}
 use Rattle.history_book.specs.declared.item.Item.TheVariants as item
-use Rattle.system_parts.specs.Pairs.{Pairs, mark_of}
 use Rattle.system_parts.specs.declared.session.State.TheVariants as phase
-use Rattle.system_parts.specs.SessionSteps.{asked_state}
-use Rattle.system_parts.specs.declared.instance.Request.{Request}
-use Rattle.system_parts.specs.declared.instance.Request.TheVariants.{Commit}
-use Rattle.system_parts.specs.Instance.{InstanceEntry, held_of}
-use Rattle.system_parts.specs.InstanceSteps.{just_asked, accept_refusal, epoch_refusal}
-use Rattle.system_parts.proofs.InstanceRequests.{held_of-with_request_same}
-use Rattle.machine.specs.State.{Client}
-use Rattle.machine.specs.Clients.{client_asked}
-use Rattle.machine.specs.Effect.{Stop}
-use Rattle.machine.specs.Machine.{Step}
-use Rattle.machine.specs.declared.event.Event.{Event}
 use Rattle.machine.specs.declared.event.Event.TheVariants as event
-use Rattle.machine.specs.Events.AskCommit.{ask_commit_on}
-use Rattle.script_data.specs.declared.line.Line.{Line}
-use Rattle.script_data.specs.declared.line.Verb.{Verb}
 use Rattle.script_data.specs.declared.line.Verb.TheVariants as verb
-use Rattle.command_semantics.specs.declared.point.Point.TheVariants.{Opens, Drives}
-use Rattle.command_semantics.specs.Interruptions.{halt_of, follows}
-use Rattle.command_semantics.specs.Laws.{EventsLowerWhatIsLeft}
-use Rattle.command_semantics.specs.Runs.{Played, fate_by, step_of, played, opened}
-use Rattle.grant_laws.specs.Granted.{line_of, reading_of, node_asked}
-use Rattle.grant_laws.specs.Laws.{CommitsAreGranted}
 use Rattle.grant_laws.proofs.LongerRuns.{Longer, longer_still, appended_before, Leads, leads_on, leads_to, line_appends, run_at}
 use Rattle.grant_laws.proofs.Before.{Known, known_before, granted}
 use Rattle.grant_laws.proofs.Facts.{first_spot, is_first, has_place, can_draw, absent}

@@ -1,43 +1,20 @@
 -- A commit line: ask, acceptance, decision, put and answer, or answer and the session's placing, with an extension where the range is
 -- used up.
-use Rattle.std.proofs.Common.{◌≡◌, ℕ, ◌<◌, Bool, List, [], ◌∷◌, ◌++◌, length, Option, Some, None, true, false, refl, ◌∙◌, ap}
-use Rattle.stamp_base.specs.declared.stores.Store.{Store}
-use Rattle.stamp_base.specs.declared.stores.Store.TheVariants.{Table}
-use Rattle.stamp_base.specs.declared.stores.Mark.TheVariants.{Committed as CommittedMark}
-use Rattle.port_io.specs.declared.weather.Fate.TheVariants.{Works}
-use Rattle.history_book.specs.declared.item.Actor.TheVariants.{Session}
-use Rattle.history_book.specs.declared.item.Item.{Item}
+use Rattle.grant_laws.proofs.Names.{◌≡◌, ℕ, ◌<◌, Bool, List, [], ◌∷◌, ◌++◌, length, Option, Some, None, true, false}
+use Rattle.grant_laws.proofs.Names.{refl, ◌∙◌, ap, Store, Table, CommittedMark, Works, Session, Item, Handed, Pairs}
+use Rattle.grant_laws.proofs.Names.{mark_of, put_pair, SessionState, Held, Commit, InstanceEntry, held_of, with_request}
+use Rattle.grant_laws.proofs.Names.{held_of-with_request_same, without_request, Client, State, is_reading}
+use Rattle.grant_laws.proofs.Names.{client_handed, doing_by, doing_at, doing_of, holder_of, place_held, commit_held}
+use Rattle.grant_laws.proofs.Names.{sweeping, Effect, Event, Step, step_by, with_post, at_post, asks, asks_at_post}
+use Rattle.grant_laws.proofs.Names.{to_place, put_on, put_asks, commit_asks, answer_on, Line, Verb, ScriptData}
+use Rattle.grant_laws.proofs.Names.{ClientAt, Drives, Clocks, placing_next, drive_next, Calls, Played, fate_by, fate_of}
+use Rattle.grant_laws.proofs.Names.{step_of, calls_after, one_more, played, Run, clocks_of, next_in, run_after, on_both}
+use Rattle.grant_laws.proofs.Names.{line_of, Appends, IsPlacing}
 use Rattle.history_book.specs.declared.item.Item.TheVariants as item
-use Rattle.history_book.specs.declared.item.StoreStep.TheVariants.{Handed}
-use Rattle.system_parts.specs.Pairs.{Pairs, mark_of, put_pair}
-use Rattle.system_parts.specs.declared.session.State.{State as SessionState}
 use Rattle.system_parts.specs.declared.session.State.TheVariants as phase
-use Rattle.system_parts.specs.declared.instance.Held.{Held}
-use Rattle.system_parts.specs.declared.instance.Request.TheVariants.{Commit}
-use Rattle.system_parts.specs.Instance.{InstanceEntry, held_of, with_request}
-use Rattle.system_parts.proofs.InstanceRequests.{held_of-with_request_same}
-use Rattle.system_parts.specs.InstanceSteps.{without_request}
-use Rattle.machine.specs.State.{Client, State}
-use Rattle.machine.specs.Clients.{is_reading, client_handed}
-use Rattle.machine.specs.Readers.{doing_by, doing_at, doing_of, holder_of, place_held, commit_held, sweeping}
-use Rattle.machine.specs.Effect.{Effect}
-use Rattle.machine.specs.declared.event.Event.{Event}
 use Rattle.machine.specs.declared.event.Event.TheVariants as event
-use Rattle.machine.specs.Machine.{Step, step_by, with_post, at_post, asks, asks_at_post}
-use Rattle.machine.specs.Events.Put.{to_place, put_on, put_asks, commit_asks}
-use Rattle.machine.specs.Events.Answer.{answer_on}
-use Rattle.script_data.specs.declared.line.Line.{Line}
 use Rattle.script_data.specs.declared.line.Target.{Target}
-use Rattle.script_data.specs.declared.line.Verb.{Verb}
 use Rattle.script_data.specs.declared.line.Verb.TheVariants as verb
-use Rattle.script_data.specs.Data.{ScriptData}
-use Rattle.isolation_laws.specs.Words.{ClientAt}
-use Rattle.command_semantics.specs.declared.point.Point.TheVariants.{Drives}
-use Rattle.command_semantics.specs.Next.{Clocks, placing_next, drive_next}
-use Rattle.command_semantics.specs.Runs.{Calls, Played, fate_by, fate_of, step_of, calls_after, one_more, played, Run, clocks_of, next_in, run_after}
-use Rattle.command_semantics.proofs.Serving.{on_both}
-use Rattle.grant_laws.specs.Granted.{line_of, Appends}
-use Rattle.grant_laws.specs.Turns.{IsPlacing}
 use Rattle.grant_laws.proofs.LongerRuns.{in_last, in_one, appended_before, Leads, leads_on, leads_one, run_at}
 use Rattle.grant_laws.proofs.Spots.{Spot, IsAt, Makes, leads_there, holder_none, serves_next, serves_on}
 use Rattle.grant_laws.proofs.Effects.{with_stamp, with_record, places, commit_answered, commit_handed}

@@ -1,47 +1,26 @@
 -- What the events that serve a request make of the node's instance and of the client, where nothing stands against them.
-use Rattle.std.proofs.Common.{◌≡◌, ◌≢◌, ℕ, ◌+◌, ◌<◌, ◌≤◌, ◌^◌, ◌==◌, Bool, true, false, cond, List, [], ◌∷◌, Option, Some, None, Ok, refl, sym, ◌∙◌, ap, arith}
-use Rattle.std.proofs.lemmas.Bool.{le-ltb, eq-eqb, ne_eqb}
-use Rattle.stamp_base.specs.SetupNumbers.{SetupNumbers}
-use Rattle.stamp_base.specs.declared.stores.Mark.{Mark}
-use Rattle.stamp_base.specs.declared.stores.Mark.TheVariants.{Committed as CommittedMark}
-use Rattle.port_io.specs.declared.weather.Fate.{Fate}
-use Rattle.port_io.specs.declared.weather.Fate.TheVariants.{Works}
-use Rattle.port_io.specs.Fates.{fated}
-use Rattle.history_book.specs.declared.cause.Cause.{Cause}
+use Rattle.grant_laws.proofs.Names.{◌≡◌, ◌≢◌, ℕ, ◌+◌, ◌<◌, ◌≤◌, ◌^◌, ◌==◌, Bool, true, false, cond, List, [], ◌∷◌}
+use Rattle.grant_laws.proofs.Names.{Option, Some, None, Ok, refl, sym, ◌∙◌, ap, arith, le-ltb, eq-eqb, ne_eqb}
+use Rattle.grant_laws.proofs.Names.{SetupNumbers, Mark, CommittedMark, Fate, Works, fated, Cause, Session, Item, Handed}
+use Rattle.grant_laws.proofs.Names.{Pairs, mark_of, put_pair, ExtendRefused, Leasing, MasterRecord, is_spent}
+use Rattle.grant_laws.proofs.Names.{extend_refused, extended, answered, SessionState, begin_refusal, work_refusal}
+use Rattle.grant_laws.proofs.Names.{Verdict, Free, Held, Progress, Request, Begin, Commit, InstanceEntry, held_of}
+use Rattle.grant_laws.proofs.Names.{in_flight, with_request, session_of, stamps_by, stamps_of_held, least_unsettled}
+use Rattle.grant_laws.proofs.Names.{not_yet_of_held, was_told_not_yet, InstanceStep, stays, just_asked, moved}
+use Rattle.grant_laws.proofs.Names.{no_stamp_told, accept_refusal, accept_unless, accept_held, out_of_stamps, drawn_as}
+use Rattle.grant_laws.proofs.Names.{decided_by, decide_drawn, decide_by, settle_held, without_request, answer_begin}
+use Rattle.grant_laws.proofs.Names.{answer_if_ready, answer_held, instance_widened, stamp_of, Client, Refuses, done}
+use Rattle.grant_laws.proofs.Names.{is_reading, client_asked, client_handed, unless_gone_by, asked_by, ask_begin_by}
+use Rattle.grant_laws.proofs.Names.{ask_begin_on, commit_asked, commit_of, ask_commit_by, ask_commit_on, accept_by}
+use Rattle.grant_laws.proofs.Names.{accept_request, accept_on, both_verdict, both_held, draw_item, decision_by}
+use Rattle.grant_laws.proofs.Names.{decide_request, decide_on, to_place, put_by, put_commit, put_on, answer_by}
+use Rattle.grant_laws.proofs.Names.{answer_request, answer_on, rules_of, extend_by, extend_on}
 use Rattle.history_book.specs.declared.cause.Cause.TheVariants as cause
-use Rattle.history_book.specs.declared.item.Actor.TheVariants.{Session}
-use Rattle.history_book.specs.declared.item.Item.{Item}
 use Rattle.history_book.specs.declared.item.Item.TheVariants as item
-use Rattle.history_book.specs.declared.item.StoreStep.TheVariants.{Handed}
-use Rattle.system_parts.specs.Pairs.{Pairs, mark_of, put_pair}
-use Rattle.system_parts.specs.declared.record.ExtendRefused.{ExtendRefused}
 use Rattle.system_parts.specs.declared.record.ExtendRefused.TheVariants as not_extended
-use Rattle.system_parts.specs.Record.{Leasing, MasterRecord, is_spent, extend_refused, extended, answered}
-use Rattle.system_parts.specs.declared.session.State.{State as SessionState}
 use Rattle.system_parts.specs.declared.session.State.TheVariants as phase
-use Rattle.system_parts.specs.SessionSteps.{begin_refusal, work_refusal}
-use Rattle.system_parts.specs.declared.buckets.Verdict.{Verdict}
-use Rattle.system_parts.specs.declared.buckets.Verdict.TheVariants.{Free}
-use Rattle.system_parts.specs.declared.instance.Held.{Held}
-use Rattle.system_parts.specs.declared.instance.Progress.{Progress}
 use Rattle.system_parts.specs.declared.instance.Progress.TheVariants as progress
-use Rattle.system_parts.specs.declared.instance.Request.{Request}
-use Rattle.system_parts.specs.declared.instance.Request.TheVariants.{Begin, Commit}
 use Rattle.system_parts.specs.declared.instance.Settled.TheVariants as how
-use Rattle.system_parts.specs.Instance.{InstanceEntry, held_of, in_flight, with_request, session_of, stamps_by, stamps_of_held, least_unsettled, not_yet_of_held, was_told_not_yet}
-use Rattle.system_parts.specs.InstanceSteps.{InstanceStep, stays, just_asked, moved, no_stamp_told, accept_refusal, accept_unless, accept_held, out_of_stamps, drawn_as, decided_by, decide_drawn, decide_by, settle_held, without_request, answer_begin, answer_if_ready, answer_held, instance_widened}
-use Rattle.system_parts.specs.InstanceLaws.{stamp_of}
-use Rattle.machine.specs.State.{Client}
-use Rattle.machine.specs.Effect.{Refuses, done}
-use Rattle.machine.specs.Clients.{is_reading, client_asked, client_handed, unless_gone_by}
-use Rattle.machine.specs.Events.AskBegin.{asked_by, ask_begin_by, ask_begin_on}
-use Rattle.machine.specs.Events.AskCommit.{commit_asked, commit_of, ask_commit_by, ask_commit_on}
-use Rattle.machine.specs.Events.Accept.{accept_by, accept_request, accept_on}
-use Rattle.machine.specs.Events.Decide.{both_verdict, both_held, draw_item, decide_by as decision_by, decide_request, decide_on}
-use Rattle.machine.specs.Events.Put.{to_place, put_by, put_commit, put_on}
-use Rattle.machine.specs.Events.Answer.{answer_by, answer_request, answer_on}
-use Rattle.machine.specs.Events.Take.{rules_of}
-use Rattle.machine.specs.Events.Extend.{extend_by, extend_on}
 
 -- ---- asks
 -- the instance with the request just asked

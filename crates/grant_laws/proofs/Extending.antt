@@ -1,39 +1,15 @@
-use Rattle.std.proofs.Common.{◌≡◌, ◌≢◌, ℕ, ◌+◌, ◌<◌, ◌≤◌, ◌^◌, Bool, true, false, List, [], ◌∷◌, ◌++◌, length, Option, Some, None, ◌⊎◌, inl, inr, refl, ◌∙◌, ap, arith}
-use Rattle.std.proofs.lemmas.Bool.{cases_eq}
-use Rattle.std.proofs.lemmas.List.{set-set}
-use Rattle.stamp_base.specs.declared.stores.Store.{Store}
-use Rattle.stamp_base.specs.declared.stores.Store.TheVariants.{Master}
-use Rattle.port_io.specs.declared.weather.Fate.TheVariants.{Works}
-use Rattle.stamp_base.specs.SetupNumbers.{SetupNumbers}
+use Rattle.grant_laws.proofs.Names.{◌≡◌, ◌≢◌, ℕ, ◌+◌, ◌<◌, ◌≤◌, ◌^◌, Bool, true, false, List, [], ◌∷◌, ◌++◌, length}
+use Rattle.grant_laws.proofs.Names.{Option, Some, None, ◌⊎◌, inl, inr, refl, ◌∙◌, ap, arith, cases_eq, set-set, Store}
+use Rattle.grant_laws.proofs.Names.{Master, Works, SetupNumbers, Session, Item, MasterRecord, extended, Free, Held}
+use Rattle.grant_laws.proofs.Names.{Place, Request, InstanceEntry, held_of, with_request, instance_widened}
+use Rattle.grant_laws.proofs.Names.{held_of-with_request_same, State, Effect, Stop, Refuses, place_held, Event, Step}
+use Rattle.grant_laws.proofs.Names.{step_by, with_post, at_post, asks, asks_at_post, decide_on, both_verdict, extend_on}
+use Rattle.grant_laws.proofs.Names.{extend_asks, rules_of, Line, Verb, ScriptData, Drives, Extends, halt_of, follows}
+use Rattle.grant_laws.proofs.Names.{is_served, extend_next, Calls, Played, fate_by, fate_of, step_of, calls_after}
+use Rattle.grant_laws.proofs.Names.{one_more, played, next_in, line_of}
 use Rattle.history_book.specs.declared.cause.Cause.TheVariants as cause
-use Rattle.history_book.specs.declared.item.Actor.TheVariants.{Session}
-use Rattle.history_book.specs.declared.item.Item.{Item}
 use Rattle.history_book.specs.declared.item.Item.TheVariants as item
-use Rattle.system_parts.specs.Record.{MasterRecord, extended}
-use Rattle.system_parts.specs.declared.buckets.Verdict.TheVariants.{Free}
-use Rattle.system_parts.specs.declared.instance.Held.{Held}
-use Rattle.system_parts.specs.declared.instance.Place.{Place}
-use Rattle.system_parts.specs.declared.instance.Request.{Request}
-use Rattle.system_parts.specs.Instance.{InstanceEntry, held_of, with_request}
-use Rattle.system_parts.specs.InstanceSteps.{instance_widened}
-use Rattle.system_parts.proofs.InstanceRequests.{held_of-with_request_same}
-use Rattle.machine.specs.State.{State}
-use Rattle.machine.specs.Effect.{Effect, Stop, Refuses}
-use Rattle.machine.specs.Readers.{place_held}
-use Rattle.machine.specs.declared.event.Event.{Event}
 use Rattle.machine.specs.declared.event.Event.TheVariants as event
-use Rattle.machine.specs.Machine.{Step, step_by, with_post, at_post, asks, asks_at_post}
-use Rattle.machine.specs.Events.Decide.{decide_on, both_verdict}
-use Rattle.machine.specs.Events.Extend.{extend_on, extend_asks}
-use Rattle.machine.specs.Events.Take.{rules_of}
-use Rattle.script_data.specs.declared.line.Line.{Line}
-use Rattle.script_data.specs.declared.line.Verb.{Verb}
-use Rattle.script_data.specs.Data.{ScriptData}
-use Rattle.command_semantics.specs.declared.point.Point.TheVariants.{Drives, Extends}
-use Rattle.command_semantics.specs.Interruptions.{halt_of, follows}
-use Rattle.command_semantics.specs.Next.{is_served, extend_next}
-use Rattle.command_semantics.specs.Runs.{Calls, Played, fate_by, fate_of, step_of, calls_after, one_more, played, next_in}
-use Rattle.grant_laws.specs.Granted.{line_of}
 use Rattle.grant_laws.proofs.LongerRuns.{longer_still, Leads, leads_on, leads_to, run_at}
 use Rattle.grant_laws.proofs.Spots.{Spot, IsAt, Makes, leads_there, holder_is, serves_on}
 use Rattle.grant_laws.proofs.Effects.{waiting, lacks, widens, with_stamp}

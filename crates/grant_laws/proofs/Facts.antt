@@ -1,20 +1,10 @@
 -- What the facts of the state before a line give to the proofs: the numbers of the instance, and what stands of an open transaction.
-use Rattle.std.proofs.Common.{◌≡◌, ℕ, ◌+◌, ◌<◌, ◌≤◌, ◌^◌, length, Option, Some, None, ◌⊎◌, inl, inr, refl, subst, arith}
-use Rattle.std.proofs.lemmas.Option.{slice_get_within}
-use Rattle.stamp_base.specs.declared.stores.Store.TheVariants.{Master}
-use Rattle.stamp_base.specs.declared.stores.Mark.{Mark}
-use Rattle.stamp_base.specs.declared.stores.Mark.TheVariants.{Committed as CommittedMark, Invalid as InvalidMark}
-use Rattle.stamp_base.specs.SetupNumbers.{SetupNumbers}
-use Rattle.port_io.specs.declared.weather.Fate.TheVariants.{Works}
+use Rattle.grant_laws.proofs.Names.{◌≡◌, ℕ, ◌+◌, ◌<◌, ◌≤◌, ◌^◌, length, Option, Some, None, ◌⊎◌, inl, inr, refl, subst}
+use Rattle.grant_laws.proofs.Names.{arith, slice_get_within, Master, Mark, CommittedMark, InvalidMark, SetupNumbers}
+use Rattle.grant_laws.proofs.Names.{Works, mark_of, InstanceEntry, Client, ScriptData, InstanceAt, ClientAt, Marked}
+use Rattle.grant_laws.proofs.Names.{epoch_or_none, Played, fate_by, HasStamp}
 use Rattle.history_book.specs.Isolation.{Committed}
-use Rattle.system_parts.specs.Pairs.{mark_of}
 use Rattle.system_parts.specs.declared.session.State.TheVariants as phase
-use Rattle.system_parts.specs.Instance.{InstanceEntry}
-use Rattle.machine.specs.State.{Client}
-use Rattle.script_data.specs.Data.{ScriptData}
-use Rattle.isolation_laws.specs.Words.{InstanceAt, ClientAt, Marked, epoch_or_none}
-use Rattle.command_semantics.specs.Runs.{Played, fate_by}
-use Rattle.grant_laws.specs.Granted.{HasStamp}
 use Rattle.grant_laws.proofs.Before.{Known}
 use Rattle.grant_laws.proofs.Spots.{Spot, IsAt, none_held}
 use Rattle.grant_laws.proofs.Extending.{CanDraw}

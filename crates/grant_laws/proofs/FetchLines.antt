@@ -1,59 +1,28 @@
 -- A read line whose premises hold has its answer: the fetch, and then the steps of the read.
-use Rattle.std.proofs.Common.{◌≡◌, ℕ, ◌+◌, ◌*◌, ◌≤◌, Bool, List, [], ◌∷◌, ◌++◌, length, Option, Some, None, refl, sym, ◌∙◌, ap, subst, arith}
-use Rattle.stamp_base.specs.declared.stores.Store.{Store}
-use Rattle.stamp_base.specs.declared.stores.Store.TheVariants.{Cells}
-use Rattle.port_io.specs.declared.weather.Fate.{Fate}
-use Rattle.port_io.specs.declared.weather.Fate.TheVariants.{Works}
-use Rattle.history_book.specs.declared.cause.Cause.{Cause}
-use Rattle.history_book.specs.declared.item.Actor.TheVariants.{Session}
+use Rattle.grant_laws.proofs.Names.{◌≡◌, ℕ, ◌+◌, ◌*◌, ◌≤◌, Bool, List, [], ◌∷◌, ◌++◌, length, Option, Some, None, refl}
+use Rattle.grant_laws.proofs.Names.{sym, ◌∙◌, ap, subst, arith, Store, Cells, Fate, Works, Cause, Session, Item, Cell}
+use Rattle.grant_laws.proofs.Names.{Row, fetched, front_of, Answer, SessionState, work_refusal, Reading, ReadTurn, Asks}
+use Rattle.grant_laws.proofs.Names.{Answers, Cache, put_fresh, Remembering, UnderRead, Client, State, is_reading}
+use Rattle.grant_laws.proofs.Names.{Effect, Event, Step, step_of_effect, with_client, at_client, asks, asks_at_client}
+use Rattle.grant_laws.proofs.Names.{fetch_recall, marks_every, found_of, fetch_worked, fetch_by, fetch_open, fetch_on}
+use Rattle.grant_laws.proofs.Names.{epoch_asks, fetch_asks, reads_refusal, fetch_refused, client_fetched, open_asks}
+use Rattle.grant_laws.proofs.Names.{Line, Verb, ScriptData, ClientAt, set_found, Opens, Reads, halt_of, follows}
+use Rattle.grant_laws.proofs.Names.{EventsLowerWhatIsLeft, Calls, Played, one_more, calls_after, fate_by, fate_of}
+use Rattle.grant_laws.proofs.Names.{step_of, played, run_after, left_in, opened, OfRead, over_recalls, line_of}
+use Rattle.grant_laws.proofs.Names.{next_fate, ReadsAreGranted, Fit, option_or, SetupNumbers, IsAtWork, cells_to_read}
+use Rattle.grant_laws.proofs.Names.{is_bare, length-filter, count_by-le-length, read_steps, ScriptsArePlanned}
 use Rattle.history_book.specs.declared.item.StoreStep.TheVariants as store_step
-use Rattle.history_book.specs.declared.item.Item.{Item}
 use Rattle.history_book.specs.declared.item.Item.TheVariants as item
-use Rattle.system_parts.specs.declared.rows.Cell.{Cell}
-use Rattle.system_parts.specs.Rows.{Row, fetched, front_of}
-use Rattle.system_parts.specs.declared.key_read.Answer.{Answer}
-use Rattle.system_parts.specs.declared.session.State.{State as SessionState}
 use Rattle.system_parts.specs.declared.session.State.TheVariants as phase
-use Rattle.system_parts.specs.SessionSteps.{work_refusal}
-use Rattle.system_parts.specs.KeyRead.{Reading, ReadTurn, Asks, Answers}
-use Rattle.system_parts.specs.Cache.{Cache, put_fresh}
-use Rattle.system_parts.specs.Recalled.{Remembering}
-use Rattle.machine.specs.State.{Reads as UnderRead, Client, State}
-use Rattle.machine.specs.Clients.{is_reading}
-use Rattle.machine.specs.Effect.{Effect}
-use Rattle.machine.specs.declared.event.Event.{Event}
 use Rattle.machine.specs.declared.event.Event.TheVariants as event
-use Rattle.machine.specs.Machine.{Step, step_by as step_of_effect, with_client, at_client, asks, asks_at_client}
-use Rattle.machine.specs.Events.Fetch.{fetch_recall, marks_every, found_of, fetch_worked, fetch_by, fetch_open, fetch_on, epoch_asks, fetch_asks, reads_refusal, fetch_refused, client_fetched}
-use Rattle.machine.specs.Events.Write.{open_asks}
-use Rattle.script_data.specs.declared.line.Line.{Line}
-use Rattle.script_data.specs.declared.line.Verb.{Verb}
 use Rattle.script_data.specs.declared.line.Verb.TheVariants as verb
-use Rattle.script_data.specs.Data.{ScriptData}
-use Rattle.isolation_laws.specs.Words.{ClientAt}
-use Rattle.machine.proofs.Lookups.{set_found}
-use Rattle.command_semantics.specs.declared.point.Point.TheVariants.{Opens, Reads}
-use Rattle.command_semantics.specs.Interruptions.{halt_of, follows}
-use Rattle.command_semantics.specs.Laws.{EventsLowerWhatIsLeft}
-use Rattle.command_semantics.specs.Runs.{Calls, Played, one_more, calls_after, fate_by, fate_of, step_of, played, run_after, left_in, opened}
-use Rattle.command_semantics.proofs.ReadLines.{OfRead, over_recalls}
-use Rattle.grant_laws.specs.Granted.{line_of, next_fate}
 use Rattle.grant_laws.proofs.LongerRuns.{in_one, in_last, appended_before, Leads, leads_on, leads_one, leads_to, run_appends, line_appends, run_at}
 use Rattle.grant_laws.proofs.ReadLines.{IsReading, HasAnswer, read_answers}
 use Rattle.grant_laws.proofs.Before.{Known, known_before, granted}
-use Rattle.grant_laws.specs.Laws.{ReadsAreGranted}
 use Rattle.command_semantics.specs.Left.{of_client, cells_by, client_reads, client_fetches}
-use Rattle.command_semantics.proofs.AlwaysFit.{Fit}
 use Rattle.command_semantics.proofs.Fitting.{EpochFits, fit_at}
 use Rattle.grant_laws.proofs.ReadTurns.{CallsWork, works_on, works_now}
-use Rattle.std.specs.Option.{option_or}
-use Rattle.stamp_base.specs.SetupNumbers.{SetupNumbers}
-use Rattle.grant_laws.specs.Premises.{IsAtWork, cells_to_read}
 use Rattle.grant_laws.proofs.BareReads.{BareReadsEnd}
-use Rattle.isolation_laws.specs.Bare.{is_bare}
-use Rattle.std.proofs.lemmas.List.Sums.{length-filter, count_by-le-length}
-use Rattle.grant_laws.specs.Turns.{read_steps}
-use Rattle.command_semantics.specs.PlannedLaws.{ScriptsArePlanned}
 use Rattle.grant_laws.proofs.ShortReads.{reads_are_short}
 
 -- ---- the fetch

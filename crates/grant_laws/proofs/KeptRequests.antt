@@ -1,36 +1,16 @@
 -- For log_refinement too, which keeps what a log shows of a request.
 -- An event that does not touch a session's request at a node leaves it there, as far as it has come.
-use Rattle.std.proofs.Common.{◌≡◌, ◌≢◌, ℕ, ◌==◌, ◌&&◌, Bool, true, false, List, Option, Some, None, refl, sym, subst}
-use Rattle.std.specs.Prelude.{slice_get, slice_set, IfSome}
-use Rattle.std.proofs.lemmas.Bool.{eq-eqb, eqb-false}
-use Rattle.port_io.specs.declared.weather.Fate.{Fate}
-use Rattle.system_parts.specs.SessionSteps.{begin_refusal, work_refusal}
-use Rattle.system_parts.specs.declared.instance.Held.{Held}
-use Rattle.system_parts.specs.declared.instance.Progress.{Progress}
-use Rattle.system_parts.specs.declared.instance.Request.{Request}
-use Rattle.system_parts.specs.Instance.{InstanceEntry, held_of, stamps_at}
-use Rattle.machine.specs.State.{State}
-use Rattle.machine.specs.Clients.{is_reading}
-use Rattle.machine.specs.declared.event.Event.{Event}
+use Rattle.grant_laws.proofs.Names.{◌≡◌, ◌≢◌, ℕ, ◌==◌, ◌&&◌, Bool, true, false, List, Option, Some, None, refl, sym}
+use Rattle.grant_laws.proofs.Names.{subst, slice_get, slice_set, IfSome, eq-eqb, eqb-false, Fate, begin_refusal}
+use Rattle.grant_laws.proofs.Names.{work_refusal, Held, Progress, Request, InstanceEntry, held_of, stamps_at, State}
+use Rattle.grant_laws.proofs.Names.{is_reading, Event, Step, with_reading, stepped, take_on, renew_on, extend_on}
+use Rattle.grant_laws.proofs.Names.{ask_begin_on, ask_commit_on, accept_on, decide_on, to_place, put_on, answer_on}
+use Rattle.grant_laws.proofs.Names.{ScriptData, fate_of, step_of, Turn, Carried, event_of, turned_by, carried, IsServed}
+use Rattle.grant_laws.proofs.Names.{touches, RequestsStay}
 use Rattle.machine.specs.declared.event.Event.TheVariants as event
-use Rattle.machine.specs.Machine.{Step, with_reading, stepped}
-use Rattle.machine.specs.Events.Take.{take_on}
-use Rattle.machine.specs.Events.Renew.{renew_on}
-use Rattle.machine.specs.Events.Extend.{extend_on}
 use Rattle.machine.specs.Events.Crash.{crash_on}
-use Rattle.machine.specs.Events.AskBegin.{ask_begin_on}
-use Rattle.machine.specs.Events.AskCommit.{ask_commit_on}
-use Rattle.machine.specs.Events.Accept.{accept_on}
-use Rattle.machine.specs.Events.Decide.{decide_on}
-use Rattle.machine.specs.Events.Put.{to_place, put_on}
-use Rattle.machine.specs.Events.Answer.{answer_on}
 use Rattle.machine.proofs.LookedUp.{of_post, of_both}
 use Rattle.machine.proofs.PartsKept.{leaves_parts}
-use Rattle.script_data.specs.Data.{ScriptData}
-use Rattle.command_semantics.specs.Runs.{fate_of, step_of}
-use Rattle.turn_rules.specs.declared.turn.Turn.{Turn}
-use Rattle.turn_rules.specs.Carried.{Carried, event_of, turned_by, carried}
-use Rattle.grant_laws.specs.Turns.{IsServed, touches, RequestsStay}
 use Rattle.grant_laws.proofs.CalledRequests.{Has, PostHas, set_has, the_post, Called, called_has, begin_called, commits_called, accepts_called, decides_called, puts_called, answers_called, renew_has, extend_has}
 
 -- the state after a step has it

@@ -1,17 +1,8 @@
 -- What holds of every state that turns lead to: it is reached, and its history shows it.
-use Rattle.std.proofs.Common.{◌≡◌, List, [], ◌∷◌, Option, Some, None, refl}
-use Rattle.std.specs.Prelude.{fold}
-use Rattle.stamp_base.specs.SetupNumbers.{AreInRange}
-use Rattle.machine.specs.declared.event.Event.{Event}
-use Rattle.script_data.specs.Data.{ScriptData}
-use Rattle.cause_laws.specs.ShownInvariant.{ExplainedInvariant}
-use Rattle.cause_laws.proofs.AlwaysExplained.{tells_stay, tells_at_first}
-use Rattle.isolation_laws.specs.Sound.{ReachedInvariant}
-use Rattle.command_semantics.specs.Laws.{IsPlayable}
-use Rattle.command_semantics.specs.Runs.{fate_of}
-use Rattle.turn_rules.specs.declared.turn.Turn.{Turn}
-use Rattle.turn_rules.specs.Carried.{Carried, event_of, turned_by, turned, carried, all_passed, at_first}
-use Rattle.turn_rules.proofs.Facts.{Facts, facts_turned, facts_at_first}
+use Rattle.grant_laws.proofs.Names.{◌≡◌, List, [], ◌∷◌, Option, Some, None, refl, fold, AreInRange, Event, ScriptData}
+use Rattle.grant_laws.proofs.Names.{ExplainedInvariant, tells_stay, tells_at_first, ReachedInvariant, IsPlayable}
+use Rattle.grant_laws.proofs.Names.{fate_of, Turn, Carried, event_of, turned_by, turned, carried, all_passed, at_first}
+use Rattle.grant_laws.proofs.Names.{Facts, facts_turned, facts_at_first}
 use Rattle.grant_laws.proofs.Before.{Known}
 use Rattle.grant_laws.proofs.SettledCommits.{turn_steady}
 

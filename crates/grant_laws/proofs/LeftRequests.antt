@@ -1,35 +1,17 @@
 -- Turns of others leave a request as far as it has come, and so does an answer that comes too early.
-use Rattle.std.proofs.Common.{◌≡◌, ◌≢◌, ℕ, true, false, List, [], ◌∷◌, ◌++◌, Option, Some, None, ◌⊎◌, inl, inr, refl, sym, ◌∙◌, ap, subst}
-use Rattle.std.specs.Prelude.{fold, IfSome}
+use Rattle.grant_laws.proofs.Names.{◌≡◌, ◌≢◌, ℕ, true, false, List, [], ◌∷◌, ◌++◌, Option, Some, None, ◌⊎◌, inl, inr}
+use Rattle.grant_laws.proofs.Names.{refl, sym, ◌∙◌, ap, subst, fold, IfSome, Session, Held, Progress, Request, Begin}
+use Rattle.grant_laws.proofs.Names.{InstanceEntry, held_of, stamps_by, stamps_of_held, was_told_not_yet}
+use Rattle.grant_laws.proofs.Names.{least_unsettled, not_yet_told, answer_begin, answer_if_ready, answer_held}
+use Rattle.grant_laws.proofs.Names.{held_of-with_request_same, Client, State, Effect, refused_once, Event, Step}
+use Rattle.grant_laws.proofs.Names.{answer_by, answer_request, answer_on, ScriptData, ReachedInvariant, InstanceAt}
+use Rattle.grant_laws.proofs.Names.{set_found, one_instance, IsPlayable, Played, step_of, played, node_step, on_both}
+use Rattle.grant_laws.proofs.Names.{Turn, Carried, event_of, turned, carried, IsServed, touches, AtNode, Leave}
+use Rattle.grant_laws.proofs.Names.{AnswersEarly, LeaveWaiting, ToldToWait, EarlyAnswersWait}
 use Rattle.history_book.specs.declared.cause.Cause.TheVariants as cause
-use Rattle.history_book.specs.declared.item.Actor.TheVariants.{Session}
-use Rattle.system_parts.specs.declared.instance.Held.{Held}
-use Rattle.system_parts.specs.declared.instance.Progress.{Progress}
 use Rattle.system_parts.specs.declared.instance.Progress.TheVariants as progress
-use Rattle.system_parts.specs.declared.instance.Request.{Request}
-use Rattle.system_parts.specs.declared.instance.Request.TheVariants.{Begin}
-use Rattle.system_parts.specs.Instance.{InstanceEntry, held_of, stamps_by, stamps_of_held, was_told_not_yet, least_unsettled}
-use Rattle.system_parts.specs.InstanceSteps.{not_yet_told, answer_begin, answer_if_ready, answer_held}
-use Rattle.system_parts.proofs.InstanceRequests.{held_of-with_request_same}
-use Rattle.machine.specs.State.{Client, State}
-use Rattle.machine.specs.Effect.{Effect, refused_once}
-use Rattle.machine.specs.declared.event.Event.{Event}
 use Rattle.machine.specs.declared.event.Event.TheVariants as event
-use Rattle.machine.specs.Machine.{Step}
-use Rattle.machine.specs.Events.Answer.{answer_by, answer_request, answer_on}
-use Rattle.script_data.specs.Data.{ScriptData}
-use Rattle.isolation_laws.specs.Sound.{ReachedInvariant}
-use Rattle.isolation_laws.specs.Words.{InstanceAt}
-use Rattle.machine.proofs.Lookups.{set_found, one_instance}
-use Rattle.command_semantics.specs.Laws.{IsPlayable}
-use Rattle.command_semantics.specs.Runs.{Played, step_of, played}
-use Rattle.command_semantics.proofs.Serving.{node_step, on_both}
-use Rattle.turn_rules.specs.declared.turn.Turn.{Turn}
 use Rattle.turn_rules.specs.declared.turn.Turn.TheVariants as turn
-use Rattle.turn_rules.specs.Carried.{Carried, event_of, turned, carried}
-use Rattle.grant_laws.specs.Turns.{IsServed, touches}
-use Rattle.grant_laws.specs.Lines.{AtNode, Leave, AnswersEarly, LeaveWaiting}
-use Rattle.grant_laws.specs.Between.{ToldToWait, EarlyAnswersWait}
 use Rattle.grant_laws.proofs.KeptRequests.{stays_by}
 use Rattle.grant_laws.proofs.KnownTurns.{KnownTurns, known_stands, known_turned, known_carried}
 use Rattle.grant_laws.proofs.ServedTurns.{Parts, parts_of, served_so}

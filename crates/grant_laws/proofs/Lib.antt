@@ -1,3 +1,4 @@
+mod Names
 mod LongerRuns
 mod Before
 mod OneEvent

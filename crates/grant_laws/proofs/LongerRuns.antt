@@ -1,15 +1,8 @@
 -- A run event by event: what the first events come to is the beginning of what the whole run comes to.
-use Rattle.std.proofs.Common.{◌≡◌, ℕ, zero, suc, ◌+◌, ◌-◌, ◌≤◌, List, [], ◌∷◌, ◌++◌, append_assoc, Option, Some, None, inl, inr, refl, sym, ◌∙◌, ap, subst, arith}
-use Rattle.std.proofs.lemmas.List.{append-nil}
-use Rattle.history_book.specs.Members.{◌∈◌}
-use Rattle.history_book.specs.declared.item.Item.{Item}
-use Rattle.machine.specs.declared.event.Event.{Event}
-use Rattle.script_data.specs.declared.line.Line.{Line}
-use Rattle.script_data.specs.Data.{ScriptData}
-use Rattle.command_semantics.specs.declared.point.Point.{Point}
-use Rattle.command_semantics.specs.Interruptions.{halt_of, follows}
-use Rattle.command_semantics.specs.Runs.{Played, step_of, played, Run, next_in, run_after, left_in, going_on, run_for, opened, line_run, lines_played}
-use Rattle.grant_laws.specs.Granted.{Appends}
+use Rattle.grant_laws.proofs.Names.{◌≡◌, ℕ, zero, suc, ◌+◌, ◌-◌, ◌≤◌, List, [], ◌∷◌, ◌++◌, append_assoc, Option, Some}
+use Rattle.grant_laws.proofs.Names.{None, inl, inr, refl, sym, ◌∙◌, ap, subst, arith, append-nil, ◌∈◌, Item, Event}
+use Rattle.grant_laws.proofs.Names.{Line, ScriptData, Point, halt_of, follows, Played, step_of, played, Run, next_in}
+use Rattle.grant_laws.proofs.Names.{run_after, left_in, going_on, run_for, opened, line_run, lines_played, Appends}
 
 -- ---- a history that has gone on
 pub record Longer (before after : List Item) : Type 0 where

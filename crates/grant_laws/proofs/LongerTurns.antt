@@ -1,16 +1,7 @@
 -- Turns only append: what the history has after some of them it has after all.
-use Rattle.std.proofs.Common.{◌≡◌, List, [], ◌∷◌, ◌++◌, Option, Some, None, refl, sym, subst}
-use Rattle.std.specs.Prelude.{fold}
-use Rattle.std.proofs.lemmas.List.Sums.{fold-append}
-use Rattle.history_book.specs.Members.{◌∈◌}
-use Rattle.history_book.specs.declared.item.Item.{Item}
-use Rattle.machine.specs.declared.event.Event.{Event}
-use Rattle.script_data.specs.Data.{ScriptData}
-use Rattle.command_semantics.specs.Runs.{step_of}
-use Rattle.turn_rules.specs.declared.turn.Turn.{Turn}
-use Rattle.turn_rules.specs.Carried.{Carried, event_of, turned_by, turned, carried, carried_items}
-use Rattle.grant_laws.specs.Granted.{Appends}
-use Rattle.grant_laws.specs.Turns.{Adds}
+use Rattle.grant_laws.proofs.Names.{◌≡◌, List, [], ◌∷◌, ◌++◌, Option, Some, None, refl, sym, subst, fold, fold-append}
+use Rattle.grant_laws.proofs.Names.{◌∈◌, Item, Event, ScriptData, step_of, Turn, Carried, event_of, turned_by, turned}
+use Rattle.grant_laws.proofs.Names.{carried, carried_items, Appends, Adds}
 use Rattle.grant_laws.proofs.LongerRuns.{Longer, same_long, longer_still, in_first, in_last, in_one}
 
 longer_by : (script : ScriptData) (c : Carried) (t : Turn) (found : Option Event) → Longer c.played.items (turned_by script c t found).played.items

@@ -1,40 +1,22 @@
 -- Lines of one event: a write and a take.
-use Rattle.std.proofs.Common.{◌≡◌, ℕ, ◌+◌, ◌≤◌, ◌^◌, nat_lt, Bool, false, cond, List, [], ◌∷◌, ◌++◌, Option, Some, None, ◌⊎◌, inl, inr, refl, ◌∙◌, ap, arith}
+use Rattle.grant_laws.proofs.Names.{◌≡◌, ℕ, ◌+◌, ◌≤◌, ◌^◌, nat_lt, Bool, false, cond, List, [], ◌∷◌, ◌++◌, Option, Some}
+use Rattle.grant_laws.proofs.Names.{None, ◌⊎◌, inl, inr, refl, ◌∙◌, ap, arith, option_or, and_left, and_right, le-ltb}
+use Rattle.grant_laws.proofs.Names.{SetupNumbers, Store, Cells, Master, Fate, Works, Cause, Node, Session, Item, Row}
+use Rattle.grant_laws.proofs.Names.{Leasing, MasterRecord, is_early, is_spent, take_refused, granted_at, taken}
+use Rattle.grant_laws.proofs.Names.{answered, SessionState, work_refusal, key_refusal, InstanceEntry, Client, State}
+use Rattle.grant_laws.proofs.Names.{is_reading, Event, step_by, with_client, with_post, with_reading, asks}
+use Rattle.grant_laws.proofs.Names.{asks_at_client, asks_at_post, at_client, at_post, take_on, take_by, take_item}
+use Rattle.grant_laws.proofs.Names.{take_asks, rules_of, write_refused, write_on, write_open, write_asks, open_asks}
+use Rattle.grant_laws.proofs.Names.{Line, ScriptData, EventsLowerWhatIsLeft, Played, fate_by, fate_of, step_of, played}
+use Rattle.grant_laws.proofs.Names.{next_in, run_after, left_in, opened, line_of, reading_of, Appends, CanWrite}
+use Rattle.grant_laws.proofs.Names.{CanTake, WritesAreGranted, TakesAreGranted}
 use Rattle.std.specs.Prelude.{is_some}
-use Rattle.std.specs.Option.{option_or}
-use Rattle.std.proofs.lemmas.Bool.{and_left, and_right, le-ltb}
-use Rattle.stamp_base.specs.SetupNumbers.{SetupNumbers}
-use Rattle.stamp_base.specs.declared.stores.Store.{Store}
-use Rattle.stamp_base.specs.declared.stores.Store.TheVariants.{Cells, Master}
-use Rattle.port_io.specs.declared.weather.Fate.{Fate}
-use Rattle.port_io.specs.declared.weather.Fate.TheVariants.{Works}
-use Rattle.history_book.specs.declared.cause.Cause.{Cause}
-use Rattle.history_book.specs.declared.item.Actor.TheVariants.{Node, Session}
-use Rattle.history_book.specs.declared.item.Item.{Item}
 use Rattle.history_book.specs.declared.item.Item.TheVariants as item
-use Rattle.system_parts.specs.Rows.{Row}
 use Rattle.system_parts.specs.declared.record.TakeRefused.{TakeRefused}
 use Rattle.system_parts.specs.declared.record.TakeRefused.TheVariants as refused
-use Rattle.system_parts.specs.Record.{Leasing, MasterRecord, is_early, is_spent, take_refused, granted as granted_at, taken, answered}
-use Rattle.system_parts.specs.declared.session.State.{State as SessionState}
 use Rattle.system_parts.specs.declared.session.State.TheVariants as phase
-use Rattle.system_parts.specs.SessionSteps.{work_refusal, key_refusal}
-use Rattle.system_parts.specs.Instance.{InstanceEntry}
-use Rattle.machine.specs.State.{Client, State}
-use Rattle.machine.specs.Clients.{is_reading}
-use Rattle.machine.specs.declared.event.Event.{Event}
 use Rattle.machine.specs.declared.event.Event.TheVariants as event
-use Rattle.machine.specs.Machine.{step_by, with_client, with_post, with_reading, asks, asks_at_client, asks_at_post, at_client, at_post}
-use Rattle.machine.specs.Events.Take.{take_on, take_by, take_item, take_asks, rules_of}
-use Rattle.machine.specs.Events.Write.{write_refused, write_on, write_open, write_asks, open_asks}
-use Rattle.script_data.specs.declared.line.Line.{Line}
 use Rattle.script_data.specs.declared.line.Verb.TheVariants as verb
-use Rattle.script_data.specs.Data.{ScriptData}
-use Rattle.command_semantics.specs.Laws.{EventsLowerWhatIsLeft}
-use Rattle.command_semantics.specs.Runs.{Played, fate_by, fate_of, step_of, played, next_in, run_after, left_in, opened}
-use Rattle.grant_laws.specs.Granted.{line_of, reading_of, Appends}
-use Rattle.grant_laws.specs.Premises.{CanWrite, CanTake}
-use Rattle.grant_laws.specs.Laws.{WritesAreGranted, TakesAreGranted}
 use Rattle.grant_laws.proofs.LongerRuns.{in_one, leads_one, line_appends}
 use Rattle.grant_laws.proofs.Before.{Known, known_before, granted}
 

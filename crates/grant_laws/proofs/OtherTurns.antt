@@ -1,26 +1,12 @@
 -- A turn that is not a session's own leaves its client as it was, where its transaction is open, and its seat where it was.
-use Rattle.std.proofs.Common.{◌≡◌, ℕ, Bool, true, false, Option, Some, None, inl, refl, sym, ◌∙◌, ap}
-use Rattle.history_book.specs.declared.item.Actor.{Actor}
-use Rattle.history_book.specs.declared.item.Actor.TheVariants.{Session}
-use Rattle.system_parts.specs.KeyRead.{Reading}
-use Rattle.machine.specs.declared.event.Event.{Event}
-use Rattle.machine.specs.Machine.{Step}
-use Rattle.script_data.specs.Data.{ScriptData}
-use Rattle.command_semantics.specs.Answers.{same_actor}
-use Rattle.command_semantics.specs.Runs.{fate_of, played}
-use Rattle.command_semantics.specs.Views.{view_of}
-use Rattle.command_semantics.proofs.ScriptWalks.{actor_same, same_itself}
-use Rattle.turn_rules.specs.declared.seat.Seat.{Seat}
-use Rattle.turn_rules.specs.declared.turn.Turn.{Turn}
+use Rattle.grant_laws.proofs.Names.{◌≡◌, ℕ, Bool, true, false, Option, Some, None, inl, refl, sym, ◌∙◌, ap, Actor}
+use Rattle.grant_laws.proofs.Names.{Session, Reading, Event, Step, ScriptData, same_actor, fate_of, played, view_of}
+use Rattle.grant_laws.proofs.Names.{actor_same, same_itself, Seat, Turn, Carried, aimed_clocks, event_of, turned_by}
+use Rattle.grant_laws.proofs.Names.{carried, OwnTurn, own_turn, stage_turn, other_stays, IsNotOf, client_stays}
+use Rattle.grant_laws.proofs.Names.{ReadsKey, is_own, ReadsStay}
 use Rattle.turn_rules.specs.declared.turn.Turn.TheVariants as turn
-use Rattle.turn_rules.specs.Carried.{Carried, aimed_clocks, event_of, moved, turned_by, carried}
+use Rattle.turn_rules.specs.Carried.{moved}
 use Rattle.turn_rules.proofs.OwnSessions.{not_of}
-use Rattle.turn_rules.proofs.OwnTurns.{OwnTurn, own_turn, stage_turn}
-use Rattle.turn_rules.proofs.SeatsOn.{other_stays}
-use Rattle.turn_rules.proofs.StillReading.{IsNotOf, client_stays}
-use Rattle.grant_laws.specs.Turns.{ReadsKey}
-use Rattle.grant_laws.specs.Lines.{is_own}
-use Rattle.grant_laws.specs.Between.{ReadsStay}
 use Rattle.grant_laws.proofs.KnownTurns.{KnownTurns, known_stands, known_carried}
 
 -- ---- its event is of no session but its own

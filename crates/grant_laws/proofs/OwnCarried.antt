@@ -1,19 +1,11 @@
 -- Own turns that write and take, and what a turn appends.
-use Rattle.std.proofs.Common.{◌≡◌, ℕ, List, [], ◌∷◌, ◌++◌, Option, Some, ◌∙◌, ap}
-use Rattle.history_book.specs.declared.item.Actor.TheVariants.{Node, Session}
-use Rattle.history_book.specs.declared.item.Item.{Item}
+use Rattle.grant_laws.proofs.Names.{◌≡◌, ℕ, List, [], ◌∷◌, ◌++◌, Option, Some, ◌∙◌, ap, Node, Session, Item, Event}
+use Rattle.grant_laws.proofs.Names.{ScriptData, step_of, played, Turn, Makes, Carried, own_ahead, made_by, event_of}
+use Rattle.grant_laws.proofs.Names.{turned_by, turned, carried, TurnsKeepFacts, reading_of, Adds, WritesAreCarried}
+use Rattle.grant_laws.proofs.Names.{TakesAreCarried}
 use Rattle.history_book.specs.declared.item.Item.TheVariants as item
-use Rattle.machine.specs.declared.event.Event.{Event}
 use Rattle.machine.specs.declared.event.Event.TheVariants as event
-use Rattle.script_data.specs.Data.{ScriptData}
-use Rattle.command_semantics.specs.Runs.{step_of, played}
-use Rattle.turn_rules.specs.declared.turn.Turn.{Turn}
 use Rattle.turn_rules.specs.declared.turn.Turn.TheVariants as turn
-use Rattle.turn_rules.specs.declared.ahead.NextAction.TheVariants.{Makes}
-use Rattle.turn_rules.specs.Carried.{Carried, own_ahead, made_by, event_of, turned_by, turned, carried}
-use Rattle.turn_rules.specs.Laws.{TurnsKeepFacts}
-use Rattle.grant_laws.specs.Granted.{reading_of}
-use Rattle.grant_laws.specs.Turns.{Adds, WritesAreCarried, TakesAreCarried}
 use Rattle.grant_laws.proofs.OneEvent.{write_tells, next_take, take_tells}
 
 -- a turn whose event appends the item alone

@@ -1,35 +1,13 @@
 -- What is ahead of an actor whose seat stands at a point of a line, and the lines of one turn.
-use Rattle.std.proofs.Common.{◌≡◌, ℕ, List, [], ◌∷◌, ◌++◌, Option, Some, ◌∙◌, ap}
-use Rattle.std.specs.Prelude.{fold}
-use Rattle.history_book.specs.Members.{◌∈◌}
-use Rattle.history_book.specs.declared.item.Actor.{Actor}
-use Rattle.history_book.specs.declared.item.Actor.TheVariants.{Node, Session}
-use Rattle.history_book.specs.declared.item.Item.{Item}
+use Rattle.grant_laws.proofs.Names.{◌≡◌, ℕ, List, [], ◌∷◌, ◌++◌, Option, Some, ◌∙◌, ap, fold, ◌∈◌, Actor, Node, Session}
+use Rattle.grant_laws.proofs.Names.{Item, Event, Line, Verb, ScriptData, Point, Opens, same_actor, Clocks, view_of}
+use Rattle.grant_laws.proofs.Names.{actor_same, Makes, Seat, Turn, own_next, present_line, Carried, aimed_clocks}
+use Rattle.grant_laws.proofs.Names.{seat_of, name_posted, ahead_at, ahead_in, own_ahead, made_by, turned, carried}
+use Rattle.grant_laws.proofs.Names.{find_true, present_own, reading_of, Adds, IsAhead, RunsGrantWrites, RunsGrantTakes}
 use Rattle.history_book.specs.declared.item.Item.TheVariants as item
-use Rattle.machine.specs.declared.event.Event.{Event}
 use Rattle.machine.specs.declared.event.Event.TheVariants as event
-use Rattle.script_data.specs.declared.line.Line.{Line}
-use Rattle.script_data.specs.declared.line.Verb.{Verb}
 use Rattle.script_data.specs.declared.line.Verb.TheVariants as verb
-use Rattle.script_data.specs.Data.{ScriptData}
-use Rattle.command_semantics.specs.declared.point.Point.{Point}
-use Rattle.command_semantics.specs.declared.point.Point.TheVariants.{Opens}
-use Rattle.command_semantics.specs.Answers.{same_actor}
-use Rattle.command_semantics.specs.Next.{Clocks}
-use Rattle.command_semantics.specs.Views.{view_of}
-use Rattle.command_semantics.proofs.ScriptWalks.{actor_same}
-use Rattle.turn_rules.specs.declared.ahead.NextAction.TheVariants.{Makes}
-use Rattle.turn_rules.specs.declared.seat.Seat.{Seat}
-use Rattle.turn_rules.specs.declared.turn.Turn.{Turn}
 use Rattle.turn_rules.specs.declared.turn.Turn.TheVariants as turn
-use Rattle.turn_rules.specs.Waiting.{own_next}
-use Rattle.turn_rules.specs.Seats.{present_line}
-use Rattle.turn_rules.specs.Carried.{Carried, aimed_clocks, seat_of, name_posted, ahead_at, ahead_in, own_ahead, made_by, turned, carried}
-use Rattle.turn_rules.proofs.SeatLists.{find_true}
-use Rattle.turn_rules.proofs.OwnTurns.{present_own}
-use Rattle.grant_laws.specs.Granted.{reading_of}
-use Rattle.grant_laws.specs.Turns.{Adds}
-use Rattle.grant_laws.specs.Lines.{IsAhead, RunsGrantWrites, RunsGrantTakes}
 use Rattle.grant_laws.proofs.KnownTurns.{known_carried}
 use Rattle.grant_laws.proofs.LongerTurns.{turns_on, carries, still_has, has_added}
 use Rattle.grant_laws.proofs.OwnCarried.{turn_adds}

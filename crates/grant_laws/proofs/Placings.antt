@@ -1,51 +1,23 @@
 -- A commit that its session is to place: the step that places it, and that turns of others leave it.
-use Rattle.std.proofs.Common.{◌≡◌, ℕ, true, false, List, [], ◌∷◌, ◌++◌, fold, Option, Some, None, inr, refl, ◌∙◌, ap}
-use Rattle.stamp_base.specs.declared.stores.Mark.{Mark}
-use Rattle.stamp_base.specs.declared.stores.Mark.TheVariants.{Committed as CommittedMark, Invalid as InvalidMark}
-use Rattle.stamp_base.specs.declared.stores.Store.{Store}
-use Rattle.stamp_base.specs.declared.stores.Store.TheVariants.{Table}
-use Rattle.port_io.specs.declared.weather.Fate.{Fate}
-use Rattle.port_io.specs.declared.weather.Fate.TheVariants.{Works}
-use Rattle.port_io.specs.Fates.{fated}
-use Rattle.history_book.specs.declared.item.Actor.TheVariants.{Session}
-use Rattle.history_book.specs.declared.item.Item.{Item}
+use Rattle.grant_laws.proofs.Names.{◌≡◌, ℕ, true, false, List, [], ◌∷◌, ◌++◌, Option, Some, None, inr, refl, ◌∙◌, ap}
+use Rattle.grant_laws.proofs.Names.{Mark, CommittedMark, InvalidMark, Store, Table, Fate, Works, fated, Session, Item}
+use Rattle.grant_laws.proofs.Names.{Pairs, mark_of, put_pair, SessionState, step_refusal, Held, Client, State}
+use Rattle.grant_laws.proofs.Names.{is_reading, Event, Step, asks, asks_at_client, doing_by, doing_at, doing_of}
+use Rattle.grant_laws.proofs.Names.{holder_of, place_held, commit_held, sweeping, asked_next, step_asks_by, step_asks}
+use Rattle.grant_laws.proofs.Names.{Verb, ScriptData, Has, InFlight, is_placing, PlacingAt, ReachedInvariant, ClientAt}
+use Rattle.grant_laws.proofs.Names.{Marked, Drives, IsPlayable, placing_next, Played, fate_by, fate_of, step_of}
+use Rattle.grant_laws.proofs.Names.{place_is, NextAction, Makes, made_next, drive_ahead, Turn, Carried, own_ahead}
+use Rattle.grant_laws.proofs.Names.{event_of, turned_by, turned, carried, made_by, none_held, client_stays}
+use Rattle.grant_laws.proofs.Names.{PlacingsStay, next_fate, is_own, NoneOwn, CommitLinesPlace, IsPlacing}
+use Rattle.grant_laws.proofs.Names.{PlacingsAreCarried}
+use Rattle.std.proofs.Common.{fold}
 use Rattle.history_book.specs.declared.item.Item.TheVariants as item
-use Rattle.system_parts.specs.Pairs.{Pairs, mark_of, put_pair}
-use Rattle.system_parts.specs.declared.session.State.{State as SessionState}
 use Rattle.system_parts.specs.declared.session.State.TheVariants as phase
-use Rattle.system_parts.specs.SessionSteps.{step_refusal}
-use Rattle.system_parts.specs.declared.instance.Held.{Held}
-use Rattle.machine.specs.State.{Client, State}
-use Rattle.machine.specs.Clients.{is_reading}
-use Rattle.machine.specs.declared.event.Event.{Event}
 use Rattle.machine.specs.declared.event.Event.TheVariants as event
-use Rattle.machine.specs.Machine.{Step, asks, asks_at_client}
-use Rattle.machine.specs.Readers.{doing_by, doing_at, doing_of, holder_of, place_held, commit_held, sweeping}
 use Rattle.machine.specs.Events.Place.{place_by, place_on}
-use Rattle.machine.specs.Events.Step.{asked_next, step_asks_by, step_asks}
-use Rattle.script_data.specs.declared.line.Verb.{Verb}
 use Rattle.script_data.specs.declared.line.Verb.TheVariants as verb
-use Rattle.script_data.specs.Data.{ScriptData}
-use Rattle.isolation_laws.specs.Pending.{Has, InFlight, is_placing, PlacingAt}
-use Rattle.isolation_laws.specs.Sound.{ReachedInvariant}
-use Rattle.isolation_laws.specs.Words.{ClientAt, Marked}
-use Rattle.command_semantics.specs.declared.point.Point.TheVariants.{Drives}
-use Rattle.command_semantics.specs.Laws.{IsPlayable}
-use Rattle.command_semantics.specs.Next.{placing_next}
-use Rattle.command_semantics.specs.Runs.{Played, fate_by, fate_of, step_of}
-use Rattle.command_semantics.proofs.Stepping.{place_is}
 use Rattle.command_semantics.proofs.Working.{PlaceWork, handed_is}
-use Rattle.turn_rules.specs.declared.ahead.NextAction.{NextAction}
-use Rattle.turn_rules.specs.declared.ahead.NextAction.TheVariants.{Makes}
-use Rattle.turn_rules.specs.Waiting.{made_next, drive_ahead}
-use Rattle.turn_rules.specs.declared.turn.Turn.{Turn}
 use Rattle.turn_rules.specs.declared.turn.Turn.TheVariants as turn
-use Rattle.turn_rules.specs.Carried.{Carried, own_ahead, event_of, turned_by, turned, carried, made_by}
-use Rattle.turn_rules.proofs.StillReading.{none_held, client_stays}
-use Rattle.grant_laws.specs.Between.{PlacingsStay}
-use Rattle.grant_laws.specs.Granted.{next_fate}
-use Rattle.grant_laws.specs.Lines.{is_own, NoneOwn, CommitLinesPlace}
-use Rattle.grant_laws.specs.Turns.{IsPlacing, PlacingsAreCarried}
 use Rattle.grant_laws.proofs.KnownTurns.{KnownTurns, known_stands, known_turned, known_carried}
 use Rattle.grant_laws.proofs.OtherTurns.{other_event}
 use Rattle.grant_laws.proofs.OwnLines.{seat_makes}

@@ -1,49 +1,23 @@
 -- A read line: the fetch, and steps on the stores down to a cell that decides.
-use Rattle.std.proofs.Common.{◌≡◌, ℕ, zero, suc, ◌+◌, ◌≤◌, List, [], ◌∷◌, ◌++◌, Option, Some, None, refl, sym, ◌∙◌, ap, subst, arith}
-use Rattle.stamp_base.specs.declared.stores.Store.{Store}
-use Rattle.port_io.specs.declared.weather.Fate.{Fate}
-use Rattle.port_io.specs.declared.weather.Fate.TheVariants.{Works}
-use Rattle.history_book.specs.declared.item.Actor.TheVariants.{Session}
-use Rattle.history_book.specs.declared.item.Found.{Found}
-use Rattle.history_book.specs.declared.item.Item.{Item}
+use Rattle.grant_laws.proofs.Names.{◌≡◌, ℕ, zero, suc, ◌+◌, ◌≤◌, List, [], ◌∷◌, ◌++◌, Option, Some, None, refl, sym}
+use Rattle.grant_laws.proofs.Names.{◌∙◌, ap, subst, arith, Store, Fate, Works, Session, Found, Item, Row, Pairs, Told}
+use Rattle.grant_laws.proofs.Names.{Answer, SessionState, step_refusal, Reading, ReadTurn, Asks, Answers, read_ask}
+use Rattle.grant_laws.proofs.Names.{Cache, Remembering, UnderWay, UnderRead, Client, State, is_reading, is_reading_by}
+use Rattle.grant_laws.proofs.Names.{doing_at, doing_by, Effect, met, store_of, told_by, Event, Step, step_of_effect}
+use Rattle.grant_laws.proofs.Names.{with_client, at_client, asks, asks_at_client, client_recalled, client_put_fresh}
+use Rattle.grant_laws.proofs.Names.{read_items, found_of, step_recall, StepParts, stepped_on, work_by, next_of, step_at}
+use Rattle.grant_laws.proofs.Names.{step_due, step_on, store_asked, asked_next, step_asks_by, step_asks, Line, Verb}
+use Rattle.grant_laws.proofs.Names.{ScriptData, ClientAt, set_found, Reads, halt_of, follows, read_next, Calls, Played}
+use Rattle.grant_laws.proofs.Names.{one_more, calls_after, fate_by, fate_of, step_of, played, Run, run_after, next_in}
+use Rattle.grant_laws.proofs.Names.{unhanded, OfRead, told_recalls, line_of, Appends, next_fate, read_steps}
 use Rattle.history_book.specs.declared.item.Item.TheVariants as item
-use Rattle.system_parts.specs.Rows.{Row}
-use Rattle.system_parts.specs.Pairs.{Pairs}
-use Rattle.system_parts.specs.declared.asks.Told.{Told}
-use Rattle.system_parts.specs.declared.key_read.Answer.{Answer}
-use Rattle.system_parts.specs.declared.session.State.{State as SessionState}
 use Rattle.system_parts.specs.declared.session.State.TheVariants as phase
-use Rattle.system_parts.specs.SessionSteps.{step_refusal}
-use Rattle.system_parts.specs.KeyRead.{Reading, ReadTurn, Asks, Answers, read_ask}
-use Rattle.system_parts.specs.Cache.{Cache}
-use Rattle.system_parts.specs.Recalled.{Remembering}
-use Rattle.machine.specs.State.{UnderWay, Reads as UnderRead, Client, State}
-use Rattle.machine.specs.Clients.{is_reading, is_reading_by}
-use Rattle.machine.specs.Readers.{doing_at, doing_by}
-use Rattle.machine.specs.Effect.{Effect}
-use Rattle.machine.specs.StoreSteps.{met, store_of, told_by}
-use Rattle.machine.specs.declared.event.Event.{Event}
 use Rattle.machine.specs.declared.event.Event.TheVariants as event
-use Rattle.machine.specs.Machine.{Step, step_by as step_of_effect, with_client, at_client, asks, asks_at_client}
-use Rattle.machine.specs.Events.Fetch.{client_recalled, client_put_fresh, read_items, found_of}
-use Rattle.machine.specs.Events.Step.{step_recall, StepParts, stepped_on, work_by, next_of, read_by, step_at, step_due, step_by, step_on, store_asked, asked_next, step_asks_by, step_asks}
-use Rattle.script_data.specs.declared.line.Line.{Line}
-use Rattle.script_data.specs.declared.line.Verb.{Verb}
+use Rattle.machine.specs.Events.Step.{read_by, step_by}
 use Rattle.script_data.specs.declared.line.Verb.TheVariants as verb
-use Rattle.script_data.specs.Data.{ScriptData}
-use Rattle.isolation_laws.specs.Words.{ClientAt}
-use Rattle.machine.proofs.Lookups.{set_found}
-use Rattle.command_semantics.specs.declared.point.Point.TheVariants.{Reads}
-use Rattle.command_semantics.specs.Interruptions.{halt_of, follows}
-use Rattle.command_semantics.specs.Next.{read_next}
-use Rattle.command_semantics.specs.Runs.{Calls, Played, one_more, calls_after, fate_by, fate_of, step_of, played, Run, run_after, next_in}
-use Rattle.command_semantics.proofs.Stepping.{unhanded}
-use Rattle.command_semantics.proofs.ReadLines.{OfRead, told_recalls}
-use Rattle.grant_laws.specs.Granted.{line_of, Appends, next_fate}
 use Rattle.grant_laws.proofs.LongerRuns.{in_one, in_last, appended_before, Leads, leads_on, leads_one, leads_to, run_at}
 use Rattle.grant_laws.proofs.ReadTurns.{CallsWork, works_on, works_now, read_from}
 use Rattle.grant_laws.proofs.BareReads.{BareReadsEnd, some_left}
-use Rattle.grant_laws.specs.Turns.{read_steps}
 
 -- ---- a read under way
 pub record IsReading (s key start : ℕ) (p : Played) (r : Reading) : Type 0 where

@@ -1,41 +1,18 @@
 -- A read line under way on threads: its session's seat stands at the steps of the read, also after its own turns and those of others.
-use Rattle.std.proofs.Common.{◌≡◌, ℕ, ◌≤◌, Bool, true, false, cond, List, ◌∷◌, Option, Some, None, sym, ◌∙◌, ap, subst}
-use Rattle.std.specs.Option.{option_map}
-use Rattle.history_book.specs.declared.item.Actor.{Actor}
-use Rattle.history_book.specs.declared.item.Actor.TheVariants.{Session}
-use Rattle.system_parts.specs.declared.session.State.{State as SessionState}
+use Rattle.grant_laws.proofs.Names.{◌≡◌, ℕ, ◌≤◌, Bool, true, false, cond, List, ◌∷◌, Option, Some, None, sym, ◌∙◌, ap}
+use Rattle.grant_laws.proofs.Names.{subst, option_map, Actor, Session, SessionState, Reading, UnderWay, Client}
+use Rattle.grant_laws.proofs.Names.{is_reading_by, is_reading, doing_at, doing_by, doing_of, Stop, Event, Step, Line}
+use Rattle.grant_laws.proofs.Names.{Verb, ScriptData, Point, Reads, View, halt_of, follows, Clocks, read_next, Played}
+use Rattle.grant_laws.proofs.Names.{clocks_of, step_of, played, view_of, NextAction, Makes, Seat, Turn, own_next}
+use Rattle.grant_laws.proofs.Names.{made_next, lines_of, present_line, ahead_of, is_passed, passed, with_next_line}
+use Rattle.grant_laws.proofs.Names.{with_event_of, Carried, seat_of, event_of, with_event, seat_passed, all_passed}
+use Rattle.grant_laws.proofs.Names.{turned_by, turned, present_own, get_drop, seat_after, turned_seat, own_moved}
+use Rattle.grant_laws.proofs.Names.{ReadsKey, read_steps}
 use Rattle.system_parts.specs.declared.session.State.TheVariants as phase
-use Rattle.system_parts.specs.KeyRead.{Reading}
-use Rattle.machine.specs.State.{UnderWay, Client}
-use Rattle.machine.specs.Clients.{is_reading_by, is_reading}
-use Rattle.machine.specs.Readers.{doing_at, doing_by, doing_of}
-use Rattle.machine.specs.Effect.{Stop}
-use Rattle.machine.specs.declared.event.Event.{Event}
 use Rattle.machine.specs.declared.event.Event.TheVariants as event
-use Rattle.machine.specs.Machine.{Step}
-use Rattle.script_data.specs.declared.line.Line.{Line}
-use Rattle.script_data.specs.declared.line.Verb.{Verb}
 use Rattle.script_data.specs.declared.line.Verb.TheVariants as verb
-use Rattle.script_data.specs.Data.{ScriptData}
-use Rattle.command_semantics.specs.declared.point.Point.{Point}
-use Rattle.command_semantics.specs.declared.point.Point.TheVariants.{Reads}
-use Rattle.command_semantics.specs.declared.point.View.{View}
-use Rattle.command_semantics.specs.Interruptions.{halt_of, follows}
-use Rattle.command_semantics.specs.Next.{Clocks, read_next}
-use Rattle.command_semantics.specs.Runs.{Played, clocks_of, step_of, played}
-use Rattle.command_semantics.specs.Views.{view_of}
-use Rattle.turn_rules.specs.declared.ahead.NextAction.{NextAction}
-use Rattle.turn_rules.specs.declared.ahead.NextAction.TheVariants.{Makes}
-use Rattle.turn_rules.specs.declared.seat.Seat.{Seat}
-use Rattle.turn_rules.specs.declared.turn.Turn.{Turn}
 use Rattle.turn_rules.specs.declared.turn.Turn.TheVariants as turn
-use Rattle.turn_rules.specs.Waiting.{own_next, made_next}
-use Rattle.turn_rules.specs.Seats.{lines_of, present_line, ahead_of, is_passed, passed, with_next_line, with_event_of}
-use Rattle.turn_rules.specs.Carried.{Carried, seat_of, event_of, moved, with_event, seat_passed, all_passed, turned_by, turned}
-use Rattle.turn_rules.proofs.OwnTurns.{present_own}
-use Rattle.turn_rules.proofs.SeatLists.{get_drop}
-use Rattle.turn_rules.proofs.SeatsOn.{seat_after, turned_seat, own_moved}
-use Rattle.grant_laws.specs.Turns.{ReadsKey, read_steps}
+use Rattle.turn_rules.specs.Carried.{moved}
 use Rattle.grant_laws.proofs.OwnLines.{seat_actor}
 
 -- ---- a read line under way

@@ -1,15 +1,9 @@
 -- The calls that are ahead of a read work one after the other.
-use Rattle.std.proofs.Common.{◌≡◌, ℕ, ◌+◌, ◌<◌, ◌⊎◌, inl, inr, refl, ◌∙◌, ap, arith}
-use Rattle.stamp_base.specs.declared.stores.Store.{Store}
-use Rattle.stamp_base.specs.declared.stores.Store.TheVariants.{Cells, Table, Master}
+use Rattle.grant_laws.proofs.Names.{◌≡◌, ℕ, ◌+◌, ◌<◌, ◌⊎◌, inl, inr, refl, ◌∙◌, ap, arith, Store, Cells, Table, Master}
+use Rattle.grant_laws.proofs.Names.{planned_fate, store_of, IsReadFrom, ScriptData, Calls, calls_on, one_more}
 use Rattle.port_io.specs.declared.weather.Fate.TheVariants as fate
-use Rattle.port_io.specs.Planned.{planned_fate}
 use Rattle.system_parts.specs.declared.asks.Ask.{Ask}
 use Rattle.system_parts.specs.declared.asks.Ask.TheVariants as ask
-use Rattle.machine.specs.StoreSteps.{store_of}
-use Rattle.grant_laws.specs.Premises.{IsReadFrom}
-use Rattle.script_data.specs.Data.{ScriptData}
-use Rattle.command_semantics.specs.Runs.{Calls, calls_on, one_more}
 
 -- ---- calls that work
 -- on each store the next so many calls work

@@ -1,38 +1,19 @@
 -- Own turns of a read: its fetch, and its steps.
-use Rattle.std.proofs.Common.{◌≡◌, ℕ, ◌+◌, ◌*◌, ◌<◌, ◌≤◌, List, [], ◌∷◌, ◌++◌, length, Some, None, refl, sym, ◌∙◌, ap, subst, arith, inl, inr}
-use Rattle.port_io.specs.declared.weather.Fate.TheVariants.{Works}
-use Rattle.history_book.specs.declared.item.Actor.TheVariants.{Session}
+use Rattle.grant_laws.proofs.Names.{◌≡◌, ℕ, ◌+◌, ◌*◌, ◌<◌, ◌≤◌, List, [], ◌∷◌, ◌++◌, length, Some, None, refl, sym, ◌∙◌}
+use Rattle.grant_laws.proofs.Names.{ap, subst, arith, inl, inr, Works, Session, Item, Cell, fetched, front_of, Reading}
+use Rattle.grant_laws.proofs.Names.{ReadTurn, Asks, Answers, read_ask, Cache, put_fresh, Remembering, UnderRead, Client}
+use Rattle.grant_laws.proofs.Names.{store_of, met, Step, marks_every, client_fetched, found_of, ScriptData, ClientAt}
+use Rattle.grant_laws.proofs.Names.{set_found, IsPlayable, Played, step_of, played, OfRead, over_recalls, told_recalls}
+use Rattle.grant_laws.proofs.Names.{next_fate, ReadsKey, AnswersOr, ReadsAreCarried, read_steps, AreInRange, Makes}
+use Rattle.grant_laws.proofs.Names.{Turn, Carried, own_ahead, turned, carried, all_passed, at_first, Facts, facts_all}
+use Rattle.grant_laws.proofs.Names.{facts_at_first, cells_to_read, CanFetch}
 use Rattle.history_book.specs.declared.item.StoreStep.TheVariants as store_step
-use Rattle.history_book.specs.declared.item.Item.{Item}
 use Rattle.history_book.specs.declared.item.Item.TheVariants as item
-use Rattle.system_parts.specs.declared.rows.Cell.{Cell}
-use Rattle.system_parts.specs.Rows.{fetched, front_of}
-use Rattle.system_parts.specs.KeyRead.{Reading, ReadTurn, Asks, Answers, read_ask}
-use Rattle.system_parts.specs.Cache.{Cache, put_fresh}
-use Rattle.system_parts.specs.Recalled.{Remembering}
-use Rattle.machine.specs.State.{Reads as UnderRead, Client}
-use Rattle.machine.specs.StoreSteps.{store_of, met}
 use Rattle.machine.specs.declared.event.Event.TheVariants as event
-use Rattle.machine.specs.Machine.{Step}
-use Rattle.machine.specs.Events.Fetch.{marks_every, client_fetched, found_of}
-use Rattle.script_data.specs.Data.{ScriptData}
-use Rattle.isolation_laws.specs.Words.{ClientAt}
-use Rattle.machine.proofs.Lookups.{set_found}
-use Rattle.command_semantics.specs.Laws.{IsPlayable}
-use Rattle.command_semantics.specs.Runs.{Played, step_of, played}
-use Rattle.command_semantics.proofs.ReadLines.{OfRead, over_recalls, told_recalls}
-use Rattle.grant_laws.specs.Granted.{next_fate}
 use Rattle.grant_laws.proofs.LongerRuns.{in_one, in_last}
 use Rattle.grant_laws.proofs.OwnCarried.{own_plays}
 use Rattle.grant_laws.proofs.ReadLines.{IsReading, told_now, recall_now, StepsSo, steps_so}
-use Rattle.grant_laws.specs.Turns.{ReadsKey, AnswersOr, ReadsAreCarried, read_steps}
-use Rattle.stamp_base.specs.SetupNumbers.{AreInRange}
-use Rattle.turn_rules.specs.declared.ahead.NextAction.TheVariants.{Makes}
-use Rattle.turn_rules.specs.declared.turn.Turn.{Turn}
 use Rattle.turn_rules.specs.declared.turn.Turn.TheVariants as turn
-use Rattle.turn_rules.specs.Carried.{Carried, own_ahead, turned, carried, all_passed, at_first}
-use Rattle.turn_rules.proofs.Facts.{Facts, facts_all, facts_at_first}
-use Rattle.grant_laws.specs.Premises.{cells_to_read, CanFetch}
 use Rattle.grant_laws.proofs.FetchLines.{has_epoch, may_fetch, first_recall, FetchesSo, fetches_so}
 use Rattle.grant_laws.proofs.BareReads.{BareReadsEnd}
 

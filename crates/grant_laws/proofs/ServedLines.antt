@@ -1,38 +1,22 @@
 -- Lines whose request is served through to its answer, by the turns that serve it with any of others in between.
-use Rattle.std.proofs.Common.{◌≡◌, ℕ, ◌+◌, ◌<◌, Bool, true, false, cond, List, [], ◌∷◌, ◌++◌, Some, None, refl, sym, ◌∙◌, ap, subst}
-use Rattle.std.specs.Prelude.{fold}
-use Rattle.std.proofs.lemmas.Bool.{lt-leb}
-use Rattle.stamp_base.specs.SetupNumbers.{SetupNumbers}
-use Rattle.history_book.specs.Members.{◌∈◌}
+use Rattle.grant_laws.proofs.Names.{◌≡◌, ℕ, ◌+◌, ◌<◌, Bool, true, false, cond, List, [], ◌∷◌, ◌++◌, Some, None, refl}
+use Rattle.grant_laws.proofs.Names.{sym, ◌∙◌, ap, subst, fold, lt-leb, SetupNumbers, ◌∈◌, Session, Item, Free, Progress}
+use Rattle.grant_laws.proofs.Names.{Request, Begin, Commit, InstanceEntry, least_unsettled, drawn_as, epoch_refusal}
+use Rattle.grant_laws.proofs.Names.{draw_item, both_verdict, Verb, ScriptData, one_instance, one_client, Opens}
+use Rattle.grant_laws.proofs.Names.{IsPlayable, view_of, Makes, Turn, own_next, Carried, aimed_clocks, name_posted}
+use Rattle.grant_laws.proofs.Names.{own_ahead, turned, carried, reading_of, IsServed, Serves, IsPlacing, Hands, AtNode}
+use Rattle.grant_laws.proofs.Names.{UpToDraw, with_others, all_up_to_draw, at_ask, at_accept, at_draw, CanServeBy}
+use Rattle.grant_laws.proofs.Names.{stamp_drawn, at_begin_answer, settling_turns, at_settle, PlacesAtNode}
+use Rattle.grant_laws.proofs.Names.{PlacesBySession, RunsGrantBegins, AsksCommit, RunsGrantCommits, Client, InstanceAt}
+use Rattle.grant_laws.proofs.Names.{ClientAt}
 use Rattle.history_book.specs.declared.cause.Cause.TheVariants as cause
-use Rattle.history_book.specs.declared.item.Actor.TheVariants.{Session}
-use Rattle.history_book.specs.declared.item.Item.{Item}
 use Rattle.history_book.specs.declared.item.Item.TheVariants as item
-use Rattle.system_parts.specs.declared.buckets.Verdict.TheVariants.{Free}
-use Rattle.system_parts.specs.declared.instance.Progress.{Progress}
 use Rattle.system_parts.specs.declared.instance.Progress.TheVariants as progress
-use Rattle.system_parts.specs.declared.instance.Request.{Request}
-use Rattle.system_parts.specs.declared.instance.Request.TheVariants.{Begin, Commit}
 use Rattle.system_parts.specs.declared.instance.Settled.TheVariants as how
-use Rattle.system_parts.specs.Instance.{InstanceEntry, least_unsettled}
-use Rattle.system_parts.specs.InstanceSteps.{drawn_as, epoch_refusal}
 use Rattle.machine.specs.declared.event.Event.TheVariants as event
-use Rattle.machine.specs.Events.Decide.{draw_item, both_verdict}
-use Rattle.script_data.specs.declared.line.Verb.{Verb}
 use Rattle.script_data.specs.declared.line.Verb.TheVariants as verb
-use Rattle.script_data.specs.Data.{ScriptData}
-use Rattle.machine.proofs.Lookups.{one_instance, one_client}
-use Rattle.command_semantics.specs.declared.point.Point.TheVariants.{Opens}
-use Rattle.command_semantics.specs.Laws.{IsPlayable}
-use Rattle.command_semantics.specs.Views.{view_of}
-use Rattle.turn_rules.specs.declared.ahead.NextAction.TheVariants.{Makes}
-use Rattle.turn_rules.specs.declared.turn.Turn.{Turn}
 use Rattle.turn_rules.specs.declared.turn.Turn.TheVariants as turn
-use Rattle.turn_rules.specs.Waiting.{own_next}
-use Rattle.turn_rules.specs.Carried.{Carried, aimed_clocks, name_posted, own_ahead, turned, carried}
-use Rattle.grant_laws.specs.Granted.{reading_of}
-use Rattle.grant_laws.specs.Turns.{IsServed, Serves, IsPlacing, Hands}
-use Rattle.grant_laws.specs.Lines.{AtNode, UpToDraw, with_others, all_up_to_draw, at_ask, at_accept, at_draw, CanServeBy, stamp_drawn, at_begin_answer, settling_turns, at_settle, PlacesAtNode, PlacesBySession, Settles, RunsGrantBegins, AsksCommit, RunsGrantCommits}
+use Rattle.grant_laws.specs.Lines.{Settles}
 use Rattle.grant_laws.proofs.AskTurns.{begin_asks, commit_asks}
 use Rattle.grant_laws.proofs.KnownTurns.{KnownTurns, known_stands, known_turned, known_on, known_carried}
 use Rattle.grant_laws.proofs.LeftRequests.{of_holder, left_served, left_waiting}
@@ -43,8 +27,6 @@ use Rattle.grant_laws.proofs.LongerTurns.{turns_on, carries, still_has, has_adde
 use Rattle.grant_laws.proofs.OwnLines.{line_makes}
 use Rattle.grant_laws.proofs.ServedTurns.{Parts, parts_of}
 use Rattle.grant_laws.proofs.StageTurns.{served_by}
-use Rattle.machine.specs.State.{Client}
-use Rattle.isolation_laws.specs.Words.{InstanceAt, ClientAt}
 
 -- ---- up to the stamp
 -- after the turn and those of others

@@ -1,48 +1,21 @@
 -- The turns by which the stages of a node serve a request, whatever turns came before.
-use Rattle.std.proofs.Common.{◌≡◌, ◌≢◌, ℕ, ◌+◌, ◌<◌, Bool, cond, List, [], ◌∷◌, length, Option, Some, None, inl, inr, refl, sym, ◌∙◌, ap, subst}
-use Rattle.std.proofs.lemmas.Bool.{ne_eqb, cases_lt}
-use Rattle.std.proofs.lemmas.List.{get_or_past}
-use Rattle.std.proofs.lemmas.Option.{none-some}
-use Rattle.stamp_base.specs.declared.stores.Mark.{Mark}
-use Rattle.stamp_base.specs.declared.stores.Mark.TheVariants.{Committed as CommittedMark, Invalid as InvalidMark}
-use Rattle.port_io.specs.declared.weather.Fate.{Fate}
-use Rattle.port_io.specs.declared.weather.Fate.TheVariants.{Works}
-use Rattle.port_io.specs.Fates.{fated}
-use Rattle.history_book.specs.declared.cause.Cause.{Cause}
-use Rattle.history_book.specs.declared.item.Item.{Item}
+use Rattle.grant_laws.proofs.Names.{◌≡◌, ◌≢◌, ℕ, ◌+◌, ◌<◌, Bool, cond, List, [], ◌∷◌, length, Option, Some, None, inl}
+use Rattle.grant_laws.proofs.Names.{inr, refl, sym, ◌∙◌, ap, subst, ne_eqb, cases_lt, get_or_past, none-some, Mark}
+use Rattle.grant_laws.proofs.Names.{CommittedMark, InvalidMark, Fate, Works, fated, Cause, Item, Pairs, mark_of}
+use Rattle.grant_laws.proofs.Names.{put_pair, Verdict, Free, Held, Progress, Request, Begin, Commit, InstanceEntry}
+use Rattle.grant_laws.proofs.Names.{held_of, with_request, stamps_by, stamps_of_held, unsettled_by, least_unsettled}
+use Rattle.grant_laws.proofs.Names.{moved, accept_refusal, accept_unless, accept_if_asked, accept_held, out_of_stamps}
+use Rattle.grant_laws.proofs.Names.{decided_by, decide_drawn, decide_by, settle_if_drawn, settle_held, answer_begin}
+use Rattle.grant_laws.proofs.Names.{answer_if_ready, answer_held, stamp_of, held_of-with_request_same, Client, State}
+use Rattle.grant_laws.proofs.Names.{Effect, done, Event, Step, on_request, asks, accept_by, accept_request, accept_on}
+use Rattle.grant_laws.proofs.Names.{draw_item, decision_by, decide_request, decide_on, both_verdict, both_if_accepted}
+use Rattle.grant_laws.proofs.Names.{both_held, to_place, to_place_by, put_by, put_commit, put_on, answer_by}
+use Rattle.grant_laws.proofs.Names.{answer_request, answer_on, ScriptData, InstanceAt, ClientAt, Marked}
+use Rattle.grant_laws.proofs.Names.{ReachedInvariant, Has, InFlight, HeldPending, WaitsFor, set_found, Played, step_of}
+use Rattle.grant_laws.proofs.Names.{played, node_step, on_both, Turn, Carried, turned, Adds, IsServed, Serves}
 use Rattle.history_book.specs.declared.item.Item.TheVariants as item
-use Rattle.system_parts.specs.Pairs.{Pairs, mark_of, put_pair}
-use Rattle.system_parts.specs.declared.buckets.Verdict.{Verdict}
-use Rattle.system_parts.specs.declared.buckets.Verdict.TheVariants.{Free}
-use Rattle.system_parts.specs.declared.instance.Held.{Held}
-use Rattle.system_parts.specs.declared.instance.Progress.{Progress}
 use Rattle.system_parts.specs.declared.instance.Progress.TheVariants as progress
-use Rattle.system_parts.specs.declared.instance.Request.{Request}
-use Rattle.system_parts.specs.declared.instance.Request.TheVariants.{Begin, Commit}
 use Rattle.system_parts.specs.declared.instance.Settled.TheVariants as how
-use Rattle.system_parts.specs.Instance.{InstanceEntry, held_of, with_request, stamps_by, stamps_of_held, unsettled_by, least_unsettled}
-use Rattle.system_parts.specs.InstanceSteps.{moved, accept_refusal, accept_unless, accept_if_asked, accept_held, out_of_stamps, decided_by, decide_drawn, decide_by, settle_if_drawn, settle_held, answer_begin, answer_if_ready, answer_held}
-use Rattle.system_parts.specs.InstanceLaws.{stamp_of}
-use Rattle.system_parts.proofs.InstanceRequests.{held_of-with_request_same}
-use Rattle.machine.specs.State.{Client, State}
-use Rattle.machine.specs.Effect.{Effect, done}
-use Rattle.machine.specs.declared.event.Event.{Event}
-use Rattle.machine.specs.Machine.{Step, on_request, asks}
-use Rattle.machine.specs.Events.Accept.{accept_by, accept_request, accept_on}
-use Rattle.machine.specs.Events.Decide.{draw_item, decide_by as decision_by, decide_request, decide_on, both_verdict, both_if_accepted, both_held}
-use Rattle.machine.specs.Events.Put.{to_place, to_place_by, put_by, put_commit, put_on}
-use Rattle.machine.specs.Events.Answer.{answer_by, answer_request, answer_on}
-use Rattle.script_data.specs.Data.{ScriptData}
-use Rattle.isolation_laws.specs.Words.{InstanceAt, ClientAt, Marked}
-use Rattle.isolation_laws.specs.Sound.{ReachedInvariant}
-use Rattle.isolation_laws.specs.Pending.{Has, InFlight, HeldPending}
-use Rattle.isolation_laws.specs.Requests.{WaitsFor}
-use Rattle.machine.proofs.Lookups.{set_found}
-use Rattle.command_semantics.specs.Runs.{Played, step_of, played}
-use Rattle.command_semantics.proofs.Serving.{node_step, on_both}
-use Rattle.turn_rules.specs.declared.turn.Turn.{Turn}
-use Rattle.turn_rules.specs.Carried.{Carried, turned}
-use Rattle.grant_laws.specs.Turns.{Adds, IsServed, Serves}
 
 -- ---- the parts that a turn looks at
 held_within : (i : InstanceEntry) (s : ℕ) (held : Held) → held_of i s ≡ Some held → s < length i.requests

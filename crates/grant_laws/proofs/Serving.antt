@@ -1,33 +1,14 @@
 -- A request that was asked is accepted, and gets its stamp: at once, or after an extension of the range.
-use Rattle.std.proofs.Common.{◌≡◌, ◌≢◌, ℕ, ◌+◌, ◌≤◌, Bool, true, List, [], ◌∷◌, ◌++◌, Option, Some, None, refl, ◌∙◌, ap, arith}
-use Rattle.std.specs.Prelude.{slice_get, slice_set}
-use Rattle.stamp_base.specs.declared.stores.Store.{Store}
-use Rattle.history_book.specs.declared.item.Actor.TheVariants.{Session}
-use Rattle.history_book.specs.declared.item.Item.{Item}
+use Rattle.grant_laws.proofs.Names.{◌≡◌, ◌≢◌, ℕ, ◌+◌, ◌≤◌, Bool, true, List, [], ◌∷◌, ◌++◌, Option, Some, None, refl}
+use Rattle.grant_laws.proofs.Names.{◌∙◌, ap, arith, slice_get, slice_set, Store, Session, Item, Free, Place, Request}
+use Rattle.grant_laws.proofs.Names.{InstanceEntry, held_of, just_asked, moved, accept_refusal, decided_by, stamp_of}
+use Rattle.grant_laws.proofs.Names.{Client, State, Effect, Stop, Event, Step, step_by, with_post, with_client}
+use Rattle.grant_laws.proofs.Names.{with_reading, at_both, on_request, on_ask, asks, accept_on, draw_item, decide_on}
+use Rattle.grant_laws.proofs.Names.{both_verdict, Line, Verb, ScriptData, set_found, Drives, is_served, Played, step_of}
+use Rattle.grant_laws.proofs.Names.{calls_after, clock_after, played, node_step, on_both, line_of}
 use Rattle.history_book.specs.declared.item.Item.TheVariants as item
-use Rattle.system_parts.specs.declared.buckets.Verdict.TheVariants.{Free}
-use Rattle.system_parts.specs.declared.instance.Place.{Place}
 use Rattle.system_parts.specs.declared.instance.Progress.TheVariants as progress
-use Rattle.system_parts.specs.declared.instance.Request.{Request}
-use Rattle.system_parts.specs.Instance.{InstanceEntry, held_of}
-use Rattle.system_parts.specs.InstanceSteps.{just_asked, moved, accept_refusal, decided_by}
-use Rattle.system_parts.specs.InstanceLaws.{stamp_of}
-use Rattle.machine.specs.State.{Client, State}
-use Rattle.machine.specs.Effect.{Effect, Stop}
-use Rattle.machine.specs.declared.event.Event.{Event}
 use Rattle.machine.specs.declared.event.Event.TheVariants as event
-use Rattle.machine.specs.Machine.{Step, step_by, with_post, with_client, with_reading, at_both, on_request, on_ask, asks}
-use Rattle.machine.specs.Events.Accept.{accept_on}
-use Rattle.machine.specs.Events.Decide.{draw_item, decide_on, both_verdict}
-use Rattle.script_data.specs.declared.line.Line.{Line}
-use Rattle.script_data.specs.declared.line.Verb.{Verb}
-use Rattle.script_data.specs.Data.{ScriptData}
-use Rattle.machine.proofs.Lookups.{set_found}
-use Rattle.command_semantics.specs.declared.point.Point.TheVariants.{Drives}
-use Rattle.command_semantics.specs.Next.{is_served}
-use Rattle.command_semantics.specs.Runs.{Played, step_of, calls_after, clock_after, played}
-use Rattle.command_semantics.proofs.Serving.{node_step, on_both}
-use Rattle.grant_laws.specs.Granted.{line_of}
 use Rattle.grant_laws.proofs.LongerRuns.{Longer, Leads, run_at}
 use Rattle.grant_laws.proofs.Spots.{Spot, IsAt, Makes, leads_there, serves_on}
 use Rattle.grant_laws.proofs.Effects.{accepted, waiting, drawn, draws, with_stamp}

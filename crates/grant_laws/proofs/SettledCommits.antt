@@ -1,39 +1,22 @@
 -- Only commits are settled, whichever turns are made.
-use Rattle.std.proofs.Common.{◌≡◌, ℕ, ◌+◌, Bool, true, false, List, [], ◌∷◌, Option, Some, None, inl, inr, refl, sym, ◌∙◌, ap, subst, arith}
-use Rattle.std.specs.Prelude.{fold, slice_set}
-use Rattle.std.proofs.lemmas.Option.{same_Some, none-some}
-use Rattle.stamp_base.specs.SetupNumbers.{AreInRange, SetupNumbers}
-use Rattle.system_parts.specs.declared.instance.Held.{Held}
-use Rattle.system_parts.specs.declared.instance.Progress.{Progress}
+use Rattle.grant_laws.proofs.Names.{◌≡◌, ℕ, ◌+◌, Bool, true, false, List, [], ◌∷◌, Option, Some, None, inl, inr, refl}
+use Rattle.grant_laws.proofs.Names.{sym, ◌∙◌, ap, subst, arith, fold, slice_set, same_Some, none-some, AreInRange}
+use Rattle.grant_laws.proofs.Names.{SetupNumbers, Held, Progress, Request, Begin, Commit, InstanceEntry, held_of}
+use Rattle.grant_laws.proofs.Names.{with_request, drawn_as, just_asked, held_of-instance_new, State, Event, IsSteadyAt}
+use Rattle.grant_laws.proofs.Names.{granted, rules_of, instance_of, ScriptData, InstanceAt, instance_changed}
+use Rattle.grant_laws.proofs.Names.{instance_ended, held_set, IsPlayable, fate_of, clocks_of, Actor, Turn, OwnTurn}
+use Rattle.grant_laws.proofs.Names.{own_turn, turn_timed, stage_turn, Carried, event_of, all_passed, turned_by, turned}
+use Rattle.grant_laws.proofs.Names.{at_first, carried, Facts, facts_turned, facts_at_first}
 use Rattle.system_parts.specs.declared.instance.Progress.TheVariants as progress
-use Rattle.system_parts.specs.declared.instance.Request.{Request}
-use Rattle.system_parts.specs.declared.instance.Request.TheVariants.{Begin, Commit}
-use Rattle.system_parts.specs.Instance.{InstanceEntry, held_of, with_request}
-use Rattle.system_parts.specs.InstanceSteps.{drawn_as, just_asked}
-use Rattle.system_parts.proofs.InstanceRequests.{held_of-instance_new}
-use Rattle.machine.specs.State.{State}
-use Rattle.machine.specs.declared.event.Event.{Event}
-use Rattle.machine.specs.Machine.{reading_of, IsSteadyAt}
-use Rattle.system_parts.specs.Record.{granted}
-use Rattle.machine.specs.Events.Take.{rules_of, instance_of}
-use Rattle.script_data.specs.Data.{ScriptData}
-use Rattle.isolation_laws.specs.Words.{InstanceAt}
-use Rattle.machine.proofs.Lookups.{instance_changed, instance_ended, held_set}
+use Rattle.machine.specs.Machine.{reading_of}
 use Rattle.isolation_laws.proofs.Inversions.InversionSound.{none_at}
 use Rattle.machine.specs.Outcome.OutcomesOfRecord.{AlikeNodes, Granted, granted_nodes, Renewed, renewed_nodes, Extended, extended_nodes}
 use Rattle.machine.specs.Outcome.OutcomesOfStamps.{AtDrawn, settled_nodes}
 use Rattle.machine.specs.Outcome.Outcomes.{Outcome, OfStill, OfGranted, OfRenewed, OfExtended, OfCrashed, OfAskedBegin, OfAskedCommit, OfAccepted, OfEnded, OfDrew, OfPlaced, OfNotPlaced, OfAnsweredBegin, OfAnsweredCommit, OfHanded, left_by}
 use Rattle.isolation_laws.proofs.AlwaysHolds.{each_outcome}
-use Rattle.command_semantics.specs.Laws.{IsPlayable}
-use Rattle.command_semantics.specs.Runs.{fate_of, clocks_of}
 use Rattle.command_semantics.proofs.Timing.{tick_ahead, Timed, in_time}
-use Rattle.history_book.specs.declared.item.Actor.{Actor}
-use Rattle.turn_rules.specs.declared.turn.Turn.{Turn}
 use Rattle.turn_rules.specs.declared.turn.Turn.TheVariants as turn
 use Rattle.turn_rules.proofs.OwnTimes.{own_tick}
-use Rattle.turn_rules.proofs.OwnTurns.{OwnTurn, own_turn, turn_timed, stage_turn}
-use Rattle.turn_rules.specs.Carried.{Carried, event_of, all_passed, turned_by, turned, at_first, carried}
-use Rattle.turn_rules.proofs.Facts.{Facts, facts_turned, facts_at_first}
 
 -- a begin is never settled, nor handed over to be placed
 abbrev pub MaySettle : Request → Progress → Type 0

@@ -1,30 +1,16 @@
 -- How long a read can be: a key has at most 48 cells without a shadow, one for each session and each fault that is planned.
-use Rattle.std.proofs.Common.{◌≡◌, ℕ, ◌+◌, ◌*◌, ◌≤◌, Bool, cond, List, [], ◌∷◌, length, inl, inr, refl, sym, ap, arith}
-use Rattle.std.specs.Prelude.{count_by}
-use Rattle.std.specs.List.{filter}
-use Rattle.std.proofs.lemmas.Bool.{cases_Bool}
-use Rattle.std.proofs.lemmas.List.Sums.{sum_by-cons}
-use Rattle.stamp_base.specs.declared.stores.Store.{Store}
-use Rattle.stamp_base.specs.declared.stores.Store.TheVariants.{Cells, Table, Master}
-use Rattle.port_io.specs.Planned.{PlannedFault, same_store}
-use Rattle.history_book.specs.declared.item.Item.{Item}
+use Rattle.grant_laws.proofs.Names.{◌≡◌, ℕ, ◌+◌, ◌*◌, ◌≤◌, Bool, cond, List, [], ◌∷◌, length, inl, inr, refl, sym, ap}
+use Rattle.grant_laws.proofs.Names.{arith, count_by, filter, cases_Bool, sum_by-cons, Store, Cells, Table, Master}
+use Rattle.grant_laws.proofs.Names.{PlannedFault, same_store, Item, Cell, fetched, is_below, front_of, ScriptData}
+use Rattle.grant_laws.proofs.Names.{is_bare, EventsLowerWhatIsLeft, Played, calls_on, script_played, ScriptsArePlanned}
+use Rattle.grant_laws.proofs.Names.{Carried, carried, TurnsArePlannedSoFar, ReadsAreShort, ReadsOnThreadsAreShort}
+use Rattle.grant_laws.proofs.Names.{cells_to_read}
 use Rattle.history_book.specs.declared.item.Item.TheVariants as item
-use Rattle.system_parts.specs.declared.rows.Cell.{Cell}
-use Rattle.system_parts.specs.Rows.{fetched, is_below, front_of}
 use Rattle.script_data.specs.declared.limits.TheConstants.{FAULT_LIMIT}
-use Rattle.script_data.specs.Data.{ScriptData}
 use Rattle.machine.specs.Faults.{is_fault, faults_in}
-use Rattle.isolation_laws.specs.Bare.{is_bare}
 use Rattle.isolation_laws.proofs.Bare.FewBare.{few_bare}
 use Rattle.command_semantics.specs.Planned.{is_fault_of, plans, FaultsArePlanned}
-use Rattle.command_semantics.specs.Laws.{EventsLowerWhatIsLeft}
-use Rattle.command_semantics.specs.Runs.{Played, calls_on, script_played}
-use Rattle.command_semantics.specs.PlannedLaws.{ScriptsArePlanned}
 use Rattle.command_semantics.proofs.FaultCounts.{faults_append, due_planned}
-use Rattle.turn_rules.specs.Carried.{Carried, carried}
-use Rattle.turn_rules.specs.Laws.{TurnsArePlannedSoFar}
-use Rattle.grant_laws.specs.Laws.{ReadsAreShort, ReadsOnThreadsAreShort}
-use Rattle.grant_laws.specs.Premises.{cells_to_read}
 use Rattle.grant_laws.proofs.Before.{Known, known_before, longer_whole}
 use Rattle.grant_laws.proofs.KnownTurns.{KnownTurns, as_known, known_carried}
 use Rattle.grant_laws.proofs.LongerRuns.{Longer}

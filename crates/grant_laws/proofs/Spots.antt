@@ -1,35 +1,15 @@
 -- What stands between two events of a line that serves a session's request at a node: the node's instance, the session's client,
 -- and the parts that these events look at.
-use Rattle.std.proofs.Common.{◌≡◌, ◌≢◌, ℕ, zero, suc, ◌+◌, List, [], ◌∷◌, ◌++◌, Bool, true, cond, Option, Some, None, ◌⊎◌, inl, inr, refl, sym, ◌∙◌, ap, subst, arith}
-use Rattle.std.specs.Prelude.{slice_set}
-use Rattle.std.proofs.lemmas.Option.{same_Some, none-some}
-use Rattle.history_book.specs.declared.item.Actor.TheVariants.{Session}
-use Rattle.history_book.specs.declared.item.Item.{Item}
-use Rattle.system_parts.specs.Pairs.{Pairs}
-use Rattle.system_parts.specs.Record.{MasterRecord}
+use Rattle.grant_laws.proofs.Names.{◌≡◌, ◌≢◌, ℕ, zero, suc, ◌+◌, List, [], ◌∷◌, ◌++◌, Bool, true, cond, Option, Some}
+use Rattle.grant_laws.proofs.Names.{None, ◌⊎◌, inl, inr, refl, sym, ◌∙◌, ap, subst, arith, slice_set, same_Some}
+use Rattle.grant_laws.proofs.Names.{none-some, Session, Item, Pairs, MasterRecord, Held, Place, Request, Begin, Commit}
+use Rattle.grant_laws.proofs.Names.{InstanceEntry, held_of, place_of_progress, Client, State, held_at, first_holder}
+use Rattle.grant_laws.proofs.Names.{holder_from, holder_of, place_held, commit_held, is_commit, doing_of, sweeping}
+use Rattle.grant_laws.proofs.Names.{Event, Stop, Step, asks, Verb, ScriptData, InstanceAt, ClientAt, WaitsFor}
+use Rattle.grant_laws.proofs.Names.{ReachedInvariant, set_found, instance_changed, held_by, one_client, Point, Drives}
+use Rattle.grant_laws.proofs.Names.{halt_of, follows, Clocks, serves, is_served, drive_next, Played, Calls, clocks_of}
+use Rattle.grant_laws.proofs.Names.{step_of, calls_after, clock_after, played, next_in, line_of}
 use Rattle.system_parts.specs.declared.session.State.TheVariants as phase
-use Rattle.system_parts.specs.declared.instance.Held.{Held}
-use Rattle.system_parts.specs.declared.instance.Place.{Place}
-use Rattle.system_parts.specs.declared.instance.Request.{Request}
-use Rattle.system_parts.specs.declared.instance.Request.TheVariants.{Begin, Commit}
-use Rattle.system_parts.specs.Instance.{InstanceEntry, held_of, place_of_progress}
-use Rattle.machine.specs.State.{Client, State}
-use Rattle.machine.specs.Readers.{held_at, first_holder, holder_from, holder_of, place_held, commit_held, is_commit, doing_of, sweeping}
-use Rattle.machine.specs.declared.event.Event.{Event}
-use Rattle.machine.specs.Effect.{Stop}
-use Rattle.machine.specs.Machine.{Step, asks}
-use Rattle.script_data.specs.declared.line.Verb.{Verb}
-use Rattle.script_data.specs.Data.{ScriptData}
-use Rattle.isolation_laws.specs.Words.{InstanceAt, ClientAt}
-use Rattle.isolation_laws.specs.Requests.{WaitsFor}
-use Rattle.isolation_laws.specs.Sound.{ReachedInvariant}
-use Rattle.machine.proofs.Lookups.{set_found, instance_changed, held_by, one_client}
-use Rattle.command_semantics.specs.declared.point.Point.{Point}
-use Rattle.command_semantics.specs.declared.point.Point.TheVariants.{Drives}
-use Rattle.command_semantics.specs.Interruptions.{halt_of, follows}
-use Rattle.command_semantics.specs.Next.{Clocks, serves, is_served, drive_next}
-use Rattle.command_semantics.specs.Runs.{Played, Calls, clocks_of, step_of, calls_after, clock_after, played, next_in}
-use Rattle.grant_laws.specs.Granted.{line_of}
 use Rattle.grant_laws.proofs.LongerRuns.{Leads, leads_to, run_at}
 
 -- no node but this one holds a request of the session

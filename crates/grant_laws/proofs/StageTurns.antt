@@ -1,52 +1,24 @@
 -- The stages' turns, each under its premises.
-use Rattle.std.proofs.Common.{◌≡◌, ◌≢◌, ℕ, ◌+◌, ◌<◌, Bool, cond, List, [], ◌∷◌, Option, Some, None, refl, sym, ◌∙◌, ap, subst, inl, inr, arith}
-use Rattle.std.proofs.lemmas.Bool.{lt-ltb}
-use Rattle.stamp_base.specs.declared.stores.Store.{Store}
-use Rattle.stamp_base.specs.declared.stores.Store.TheVariants.{Table, Master}
-use Rattle.stamp_base.specs.declared.stores.Mark.TheVariants.{Committed as CommittedMark}
-use Rattle.stamp_base.specs.SetupNumbers.{SetupNumbers}
-use Rattle.port_io.specs.declared.weather.Fate.TheVariants.{Works}
+use Rattle.grant_laws.proofs.Names.{◌≡◌, ◌≢◌, ℕ, ◌+◌, ◌<◌, Bool, cond, List, [], ◌∷◌, Option, Some, None, refl, sym}
+use Rattle.grant_laws.proofs.Names.{◌∙◌, ap, subst, inl, inr, arith, lt-ltb, Store, Table, Master, CommittedMark}
+use Rattle.grant_laws.proofs.Names.{SetupNumbers, Works, Session, Item, Handed, Pairs, mark_of, put_pair, MasterRecord}
+use Rattle.grant_laws.proofs.Names.{Free, Held, Progress, Request, Commit, InstanceEntry, moved, drawn_as}
+use Rattle.grant_laws.proofs.Names.{without_request, accept_refusal, epoch_refusal, decide_drawn}
+use Rattle.grant_laws.proofs.Names.{held_of-with_request_same, Client, State, Effect, done, client_handed, Event, Step}
+use Rattle.grant_laws.proofs.Names.{step_by, with_post, with_reading, at_post, asks, asks_at_post, accept_on, draw_item}
+use Rattle.grant_laws.proofs.Names.{decide_on, both_verdict, to_place, to_place_by, put_on, put_asks, commit_asks}
+use Rattle.grant_laws.proofs.Names.{answer_on, extend_on, extend_asks, ScriptData, InstanceAt, ClientAt, Marked}
+use Rattle.grant_laws.proofs.Names.{WaitsFor, ReachedInvariant, set_found, one_client, node_step, on_both, fate_by}
+use Rattle.grant_laws.proofs.Names.{fate_of, step_of, played, Carried, carried, TurnsKeepFacts, reading_of, next_fate}
+use Rattle.grant_laws.proofs.Names.{Adds, IsServed, Serves, Hands, ServedAreGranted, ServedTurnsAreGranted}
+use Rattle.grant_laws.proofs.Names.{ExtensionsAreCarried}
 use Rattle.history_book.specs.declared.cause.Cause.TheVariants as cause
-use Rattle.history_book.specs.declared.item.Actor.TheVariants.{Session}
-use Rattle.history_book.specs.declared.item.Item.{Item}
 use Rattle.history_book.specs.declared.item.Item.TheVariants as item
-use Rattle.history_book.specs.declared.item.StoreStep.TheVariants.{Handed}
 use Rattle.system_parts.specs.declared.session.State.TheVariants as phase
-use Rattle.system_parts.specs.Pairs.{Pairs, mark_of, put_pair}
-use Rattle.system_parts.specs.Record.{MasterRecord}
-use Rattle.system_parts.specs.declared.buckets.Verdict.TheVariants.{Free}
-use Rattle.system_parts.specs.declared.instance.Held.{Held}
-use Rattle.system_parts.specs.declared.instance.Progress.{Progress}
 use Rattle.system_parts.specs.declared.instance.Progress.TheVariants as progress
-use Rattle.system_parts.specs.declared.instance.Request.{Request}
-use Rattle.system_parts.specs.declared.instance.Request.TheVariants.{Commit}
 use Rattle.system_parts.specs.declared.instance.Settled.TheVariants as how
-use Rattle.system_parts.specs.Instance.{InstanceEntry}
-use Rattle.system_parts.specs.InstanceSteps.{moved, drawn_as, without_request, accept_refusal, epoch_refusal, decide_drawn}
-use Rattle.system_parts.proofs.InstanceRequests.{held_of-with_request_same}
-use Rattle.machine.specs.State.{Client, State}
-use Rattle.machine.specs.Effect.{Effect, done}
-use Rattle.machine.specs.Clients.{client_handed}
-use Rattle.machine.specs.declared.event.Event.{Event}
 use Rattle.machine.specs.declared.event.Event.TheVariants as event
-use Rattle.machine.specs.Machine.{Step, step_by, with_post, with_reading, at_post, asks, asks_at_post}
-use Rattle.machine.specs.Events.Accept.{accept_on}
-use Rattle.machine.specs.Events.Decide.{draw_item, decide_on, both_verdict}
-use Rattle.machine.specs.Events.Put.{to_place, to_place_by, put_on, put_asks, commit_asks}
-use Rattle.machine.specs.Events.Answer.{answer_on}
-use Rattle.machine.specs.Events.Extend.{extend_on, extend_asks}
-use Rattle.script_data.specs.Data.{ScriptData}
-use Rattle.isolation_laws.specs.Words.{InstanceAt, ClientAt, Marked}
-use Rattle.isolation_laws.specs.Requests.{WaitsFor}
-use Rattle.isolation_laws.specs.Sound.{ReachedInvariant}
-use Rattle.machine.proofs.Lookups.{set_found, one_client}
-use Rattle.command_semantics.proofs.Serving.{node_step, on_both}
-use Rattle.command_semantics.specs.Runs.{fate_by, fate_of, step_of, played}
 use Rattle.turn_rules.specs.declared.turn.Turn.TheVariants as turn
-use Rattle.turn_rules.specs.Carried.{Carried, carried}
-use Rattle.turn_rules.specs.Laws.{TurnsKeepFacts}
-use Rattle.grant_laws.specs.Granted.{reading_of, next_fate}
-use Rattle.grant_laws.specs.Turns.{Adds, IsServed, Serves, Hands, ServedAreGranted, ServedTurnsAreGranted, ExtensionsAreCarried}
 use Rattle.grant_laws.proofs.Effects.{widens, commit_handed}
 use Rattle.grant_laws.proofs.OwnCarried.{turn_adds}
 use Rattle.grant_laws.proofs.ServedTurns.{Parts, parts_of, served_so, by_request, tells_by, accepts_so, draws_so, commit_answers, begin_answers, unplaced_by, places_so}

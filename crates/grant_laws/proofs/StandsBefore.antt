@@ -1,38 +1,17 @@
 -- Each request that stands at a node where no turn can be made, by how far it has come.
-use Rattle.std.proofs.Common.{◌≡◌, ◌≢◌, ℕ, Bool, true, List, [], ◌∷◌, Option, Some, None, inl, inr, refl, sym, ◌∙◌, ap, subst, arith}
-use Rattle.std.specs.Prelude.{slice_get}
-use Rattle.std.proofs.lemmas.Option.{none-some}
+use Rattle.grant_laws.proofs.Names.{◌≡◌, ◌≢◌, ℕ, Bool, true, List, [], ◌∷◌, Option, Some, None, inl, inr, refl, sym}
+use Rattle.grant_laws.proofs.Names.{◌∙◌, ap, subst, arith, slice_get, none-some, Item, Held, Place, Progress, Request}
+use Rattle.grant_laws.proofs.Names.{Begin, Commit, InstanceEntry, held_of, place_of_progress, stamps_by, unsettled_by}
+use Rattle.grant_laws.proofs.Names.{least_unsettled, answer_if_ready, Client, State, holder_of, place_held, place_of}
+use Rattle.grant_laws.proofs.Names.{commit_held, asks_commit, is_commit, Event, Step, answer_by, answer_on, decide_on}
+use Rattle.grant_laws.proofs.Names.{ScriptData, ReachedInvariant, InstanceAt, ClientAt, held_by, reading_at, step_of}
+use Rattle.grant_laws.proofs.Names.{clocks_of, Served, is_served_at, on_both, Turn, Carried, answered_from, LacksStamps}
+use Rattle.grant_laws.proofs.Names.{IsTold, stage_before, IsHeld, StandsBefore}
 use Rattle.stamp_base.specs.declared.stage.Stage.TheVariants as stage
-use Rattle.history_book.specs.declared.item.Item.{Item}
-use Rattle.system_parts.specs.declared.instance.Held.{Held}
-use Rattle.system_parts.specs.declared.instance.Place.{Place}
 use Rattle.system_parts.specs.declared.instance.Place.TheVariants as place
-use Rattle.system_parts.specs.declared.instance.Progress.{Progress}
 use Rattle.system_parts.specs.declared.instance.Progress.TheVariants as progress
-use Rattle.system_parts.specs.declared.instance.Request.{Request}
-use Rattle.system_parts.specs.declared.instance.Request.TheVariants.{Begin, Commit}
-use Rattle.system_parts.specs.Instance.{InstanceEntry, held_of, place_of_progress, stamps_by, unsettled_by, least_unsettled}
-use Rattle.system_parts.specs.InstanceSteps.{answer_if_ready}
-use Rattle.machine.specs.State.{Client, State}
-use Rattle.machine.specs.Readers.{holder_of, place_held, place_of, commit_held, asks_commit, is_commit}
-use Rattle.machine.specs.declared.event.Event.{Event}
 use Rattle.machine.specs.declared.event.Event.TheVariants as event
-use Rattle.machine.specs.Machine.{Step}
-use Rattle.machine.specs.Events.Answer.{answer_by, answer_on}
-use Rattle.machine.specs.Events.Decide.{decide_on}
-use Rattle.script_data.specs.Data.{ScriptData}
-use Rattle.isolation_laws.specs.Sound.{ReachedInvariant}
-use Rattle.isolation_laws.specs.Words.{InstanceAt, ClientAt}
-use Rattle.machine.proofs.Lookups.{held_by}
-use Rattle.command_semantics.specs.Next.{reading_at}
-use Rattle.command_semantics.specs.Runs.{step_of, clocks_of}
-use Rattle.command_semantics.proofs.Holders.{Served, is_served_at}
-use Rattle.command_semantics.proofs.Serving.{on_both}
-use Rattle.turn_rules.specs.declared.turn.Turn.{Turn}
 use Rattle.turn_rules.specs.declared.turn.Turn.TheVariants as turn
-use Rattle.turn_rules.specs.Carried.{Carried}
-use Rattle.turn_rules.specs.Lawful.{answered_from, LacksStamps, IsTold}
-use Rattle.grant_laws.specs.Stuck.{stage_before, IsHeld, StandsBefore}
 use Rattle.grant_laws.proofs.Spots.{holder_is_from}
 use Rattle.grant_laws.proofs.SettledCommits.{MaySettle}
 use Rattle.grant_laws.proofs.StoodBefore.{Stuck, must_be_held, the_client, decide_quiet, some_waits, answer_begin_quiet, settled_tells, handed_tells, answer_commit_tells, Unsettled, some_unsettled}

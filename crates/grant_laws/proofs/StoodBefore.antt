@@ -1,38 +1,19 @@
 -- Where no turn can be made, a request that stands at a node stands before a held stage, or waits for a commit that does.
-use Rattle.std.proofs.Common.{◌≡◌, ℕ, zero, suc, ◌+◌, ◌==◌, ◌||◌, Bool, true, false, cond, List, [], ◌∷◌, Option, Some, None, refl, sym, ◌∙◌, ap, subst}
-use Rattle.std.specs.Prelude.{slice_index_or, IsSomeAnd}
-use Rattle.std.specs.List.{list_any}
-use Rattle.std.proofs.lemmas.Bool.{eqb-true}
-use Rattle.std.proofs.lemmas.Option.{none-some}
+use Rattle.grant_laws.proofs.Names.{◌≡◌, ℕ, zero, suc, ◌+◌, ◌==◌, ◌||◌, Bool, true, false, cond, List, [], ◌∷◌, Option}
+use Rattle.grant_laws.proofs.Names.{Some, None, refl, sym, ◌∙◌, ap, subst, slice_index_or, IsSomeAnd, list_any}
+use Rattle.grant_laws.proofs.Names.{eqb-true, none-some, Item, Verdict, Free, Conflict, Hidden, Held, Place, Progress}
+use Rattle.grant_laws.proofs.Names.{Request, Begin, Commit, InstanceEntry, held_of, stamps_by, stamps_of_held}
+use Rattle.grant_laws.proofs.Names.{unsettled_by, unsettled_commit, only_below, lesser, least_unsettled, out_of_stamps}
+use Rattle.grant_laws.proofs.Names.{decide_drawn, decide_by, answer_begin, answer_if_ready, answer_held, Client, State}
+use Rattle.grant_laws.proofs.Names.{Event, answer_by, answer_request, answer_on, decision_by, decide_request, decide_on}
+use Rattle.grant_laws.proofs.Names.{both_verdict, both_if_accepted, both_held, ScriptData, ReachedInvariant, ClientAt}
+use Rattle.grant_laws.proofs.Names.{WaitsFor, held_by, Served, Turn, Carried, is_held, holds_at, event_of, stage_of}
+use Rattle.grant_laws.proofs.Names.{IsFree, is_accepted, is_accepted_by, IsInPlace, IsTold, IsLawful, StageTurnsAreTold}
+use Rattle.grant_laws.proofs.Names.{IsHeld}
 use Rattle.stamp_base.specs.declared.stage.Stage.{Stage}
-use Rattle.history_book.specs.declared.item.Item.{Item}
-use Rattle.system_parts.specs.declared.buckets.Verdict.{Verdict}
-use Rattle.system_parts.specs.declared.buckets.Verdict.TheVariants.{Free, Conflict, Hidden}
-use Rattle.system_parts.specs.declared.instance.Held.{Held}
-use Rattle.system_parts.specs.declared.instance.Place.{Place}
-use Rattle.system_parts.specs.declared.instance.Progress.{Progress}
 use Rattle.system_parts.specs.declared.instance.Progress.TheVariants as progress
-use Rattle.system_parts.specs.declared.instance.Request.{Request}
-use Rattle.system_parts.specs.declared.instance.Request.TheVariants.{Begin, Commit}
 use Rattle.system_parts.specs.declared.instance.Settled.{Settled}
 use Rattle.system_parts.specs.declared.instance.Settled.TheVariants as how
-use Rattle.system_parts.specs.Instance.{InstanceEntry, held_of, stamps_by, stamps_of_held, unsettled_by, unsettled_commit, only_below, lesser, least_unsettled}
-use Rattle.system_parts.specs.InstanceSteps.{out_of_stamps, decide_drawn, decide_by, answer_begin, answer_if_ready, answer_held}
-use Rattle.machine.specs.State.{Client, State}
-use Rattle.machine.specs.declared.event.Event.{Event}
-use Rattle.machine.specs.Events.Answer.{answer_by, answer_request, answer_on}
-use Rattle.machine.specs.Events.Decide.{decide_by as decision_by, decide_request, decide_on, both_verdict, both_if_accepted, both_held}
-use Rattle.script_data.specs.Data.{ScriptData}
-use Rattle.isolation_laws.specs.Sound.{ReachedInvariant}
-use Rattle.isolation_laws.specs.Words.{ClientAt}
-use Rattle.isolation_laws.specs.Requests.{WaitsFor}
-use Rattle.machine.proofs.Lookups.{held_by}
-use Rattle.command_semantics.proofs.Holders.{Served}
-use Rattle.turn_rules.specs.declared.turn.Turn.{Turn}
-use Rattle.turn_rules.specs.Carried.{Carried, is_held, holds_at, event_of}
-use Rattle.turn_rules.specs.Lawful.{stage_of, IsFree, is_accepted, is_accepted_by, IsInPlace, IsTold, IsLawful}
-use Rattle.turn_rules.specs.Told.{StageTurnsAreTold}
-use Rattle.grant_laws.specs.Stuck.{IsHeld}
 use Rattle.grant_laws.proofs.SettledCommits.{AllFit}
 
 -- what is known where no turn can be made

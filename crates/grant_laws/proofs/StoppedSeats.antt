@@ -1,31 +1,13 @@
 -- Once lines are passed, an actor with a line left has something ahead of it.
-use Rattle.std.proofs.Common.{◌≡◌, ℕ, Bool, true, false, cond, List, [], ◌∷◌, Option, Some, None, ◌⊎◌, inl, inr, refl, sym, ◌∙◌, subst}
-use Rattle.std.specs.Prelude.{fold}
-use Rattle.std.specs.Option.{option_map}
-use Rattle.std.proofs.lemmas.Option.{same_Some, none-some}
-use Rattle.history_book.specs.declared.item.Actor.{Actor}
-use Rattle.history_book.specs.declared.item.Actor.TheVariants.{Clock, Node, Session, Janitor}
-use Rattle.system_parts.specs.declared.instance.Place.{Place}
-use Rattle.machine.specs.declared.event.Event.{Event}
-use Rattle.script_data.specs.declared.line.Line.{Line}
-use Rattle.script_data.specs.declared.line.Verb.{Verb}
+use Rattle.grant_laws.proofs.Names.{◌≡◌, ℕ, Bool, true, false, cond, List, [], ◌∷◌, Option, Some, None, ◌⊎◌, inl, inr}
+use Rattle.grant_laws.proofs.Names.{refl, sym, ◌∙◌, subst, fold, option_map, same_Some, none-some, Actor, Clock, Node}
+use Rattle.grant_laws.proofs.Names.{Session, Janitor, Place, Event, Line, Verb, ScriptData, Point, Opens, Drives}
+use Rattle.grant_laws.proofs.Names.{Extends, View, Clocks, is_served, places, placing_next, idle_next, next, clocks_of}
+use Rattle.grant_laws.proofs.Names.{view_of, Waits, Passes, Reply, Name, Seat, Turn, made_next, drive_ahead}
+use Rattle.grant_laws.proofs.Names.{collect_ahead, own_opens, own_next, lines_of, lines_left, with_next_line, ahead_of}
+use Rattle.grant_laws.proofs.Names.{is_passed, passed, Carried, seat_of, event_of, with_event, seat_passed, all_passed}
+use Rattle.grant_laws.proofs.Names.{turned_by, turned, at_first, carried, drop_next, passed_actor, passed_seat}
 use Rattle.script_data.specs.declared.line.Verb.TheVariants as verb
-use Rattle.script_data.specs.Data.{ScriptData}
-use Rattle.command_semantics.specs.declared.point.Point.{Point}
-use Rattle.command_semantics.specs.declared.point.Point.TheVariants.{Opens, Drives, Extends}
-use Rattle.command_semantics.specs.declared.point.View.{View}
-use Rattle.command_semantics.specs.Next.{Clocks, is_served, places, placing_next, idle_next, next}
-use Rattle.command_semantics.specs.Runs.{clocks_of}
-use Rattle.command_semantics.specs.Views.{view_of}
-use Rattle.turn_rules.specs.declared.ahead.NextAction.TheVariants.{Waits, Passes}
-use Rattle.turn_rules.specs.declared.ahead.Why.TheVariants.{Reply, Name}
-use Rattle.turn_rules.specs.declared.seat.Seat.{Seat}
-use Rattle.turn_rules.specs.declared.turn.Turn.{Turn}
-use Rattle.turn_rules.specs.Waiting.{made_next, drive_ahead, collect_ahead, own_opens, own_next}
-use Rattle.turn_rules.specs.Seats.{lines_of, lines_left, with_next_line, ahead_of, is_passed, passed}
-use Rattle.turn_rules.specs.Carried.{Carried, seat_of, event_of, with_event, seat_passed, all_passed, turned_by, turned, at_first, carried}
-use Rattle.turn_rules.proofs.SeatLists.{drop_next}
-use Rattle.turn_rules.proofs.SeatsOn.{passed_actor, passed_seat}
 
 -- ---- the seat once lines are passed
 -- no line is left, or something is ahead of the first

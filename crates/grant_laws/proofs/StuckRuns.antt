@@ -1,35 +1,16 @@
 -- What a run waits for where no turn can be made.
-use Rattle.std.proofs.Common.{◌≡◌, ℕ, Bool, true, false, List, [], Option, Some, ◌⊎◌, inl, inr, refl, sym, ◌∙◌, ap, subst}
-use Rattle.std.specs.Prelude.{IsSomeAnd}
-use Rattle.stamp_base.specs.SetupNumbers.{AreInRange}
-use Rattle.history_book.specs.declared.item.Actor.{Actor}
-use Rattle.history_book.specs.declared.item.Actor.TheVariants.{Session}
-use Rattle.machine.specs.declared.event.Event.{Event}
-use Rattle.script_data.specs.declared.line.Line.{Line}
-use Rattle.script_data.specs.declared.line.Verb.{Verb}
+use Rattle.grant_laws.proofs.Names.{◌≡◌, ℕ, Bool, true, false, List, [], Option, Some, ◌⊎◌, inl, inr, refl, sym, ◌∙◌}
+use Rattle.grant_laws.proofs.Names.{ap, subst, IsSomeAnd, AreInRange, Actor, Session, Event, Line, Verb, ScriptData}
+use Rattle.grant_laws.proofs.Names.{View, IsPlayable, AreLinesOf, same_actor, clocks_of, view_of, actor_same}
+use Rattle.grant_laws.proofs.Names.{NextAction, Makes, Waits, Passes, Reply, Name, Seat, Turn, lines_of, lines_left}
+use Rattle.grant_laws.proofs.Names.{present_line, ahead_of, is_passed, Carried, aimed_clocks, name_posted, ahead_at}
+use Rattle.grant_laws.proofs.Names.{seat_ahead, ahead_in, own_ahead, made_by, event_of, carried, IsTold, AreForThreads}
+use Rattle.grant_laws.proofs.Names.{OwnTurnsAreTold, StageTurnsAreTold, TurnsKeepFacts, drop_get, filtered, IsStuck}
+use Rattle.grant_laws.proofs.Names.{AwaitsName, AwaitsReply, StuckRunsWait}
 use Rattle.script_data.specs.declared.line.Verb.TheVariants as verb
-use Rattle.script_data.specs.Data.{ScriptData}
-use Rattle.command_semantics.specs.declared.point.View.{View}
-use Rattle.command_semantics.specs.Laws.{IsPlayable, AreLinesOf}
-use Rattle.command_semantics.specs.Answers.{same_actor}
-use Rattle.command_semantics.specs.Runs.{clocks_of}
-use Rattle.command_semantics.specs.Views.{view_of}
-use Rattle.command_semantics.proofs.ScriptWalks.{actor_same}
-use Rattle.turn_rules.specs.declared.ahead.NextAction.{NextAction}
-use Rattle.turn_rules.specs.declared.ahead.NextAction.TheVariants.{Makes, Waits, Passes}
-use Rattle.turn_rules.specs.declared.ahead.Why.TheVariants.{Reply, Name}
-use Rattle.turn_rules.specs.declared.seat.Seat.{Seat}
-use Rattle.turn_rules.specs.declared.turn.Turn.{Turn}
 use Rattle.turn_rules.specs.declared.turn.Turn.TheVariants as turn
-use Rattle.turn_rules.specs.Seats.{lines_of, lines_left, present_line, ahead_of, is_passed}
 use Rattle.session_script.specs.PostedNames.{is_posted}
-use Rattle.turn_rules.specs.Carried.{Carried, aimed_clocks, name_posted, ahead_at, seat_ahead, ahead_in, own_ahead, made_by, event_of, carried}
-use Rattle.turn_rules.specs.Lawful.{IsTold}
-use Rattle.turn_rules.specs.Told.{AreForThreads, OwnTurnsAreTold, StageTurnsAreTold}
-use Rattle.turn_rules.specs.Laws.{TurnsKeepFacts}
 use Rattle.turn_rules.proofs.AimsAlike.{Alike, ahead_alike, passed_alike, waits_alike}
-use Rattle.turn_rules.proofs.SeatLists.{drop_get, filtered}
-use Rattle.grant_laws.specs.Stuck.{IsStuck, AwaitsName, AwaitsReply, StuckRunsWait}
 use Rattle.grant_laws.proofs.StoppedSeats.{HasStopped, always_stopped, passes_anyway, LacksName, next_name, HasRequest, next_reply}
 use Rattle.grant_laws.proofs.SettledCommits.{commits_alone_settle}
 use Rattle.grant_laws.proofs.StoodBefore.{Stuck}

@@ -1,33 +1,16 @@
 -- A read line on threads: its session's own turns go on with the read, and those of others leave it, down to its answer.
-use Rattle.std.proofs.Common.{◌≡◌, ℕ, zero, suc, ◌+◌, ◌*◌, ◌≤◌, Bool, true, false, cond, List, [], ◌∷◌, ◌++◌, length, Option, Some, None, ◌⊎◌, inl, inr, refl, sym, ◌∙◌, ap, subst, arith}
-use Rattle.std.specs.Prelude.{filter, fold}
-use Rattle.port_io.specs.declared.weather.Fate.TheVariants.{Works}
-use Rattle.history_book.specs.Members.{◌∈◌}
-use Rattle.history_book.specs.declared.item.Actor.{Actor}
-use Rattle.history_book.specs.declared.item.Actor.TheVariants.{Session}
-use Rattle.history_book.specs.declared.item.Found.{Found}
+use Rattle.grant_laws.proofs.Names.{◌≡◌, ℕ, zero, suc, ◌+◌, ◌*◌, ◌≤◌, Bool, true, false, cond, List, [], ◌∷◌, ◌++◌}
+use Rattle.grant_laws.proofs.Names.{length, Option, Some, None, ◌⊎◌, inl, inr, refl, sym, ◌∙◌, ap, subst, arith, fold}
+use Rattle.grant_laws.proofs.Names.{Works, ◌∈◌, Actor, Session, Found, read_ask, Client, store_of, Event, Step}
+use Rattle.grant_laws.proofs.Names.{ScriptData, Point, Reads, follows, IsPlayable, step_of, played, actor_same, Makes}
+use Rattle.grant_laws.proofs.Names.{Turn, Carried, aimed_clocks, own_ahead, name_posted, made_by, event_of, turned_by}
+use Rattle.grant_laws.proofs.Names.{turned, carried, next_fate, CanFetch, cells_to_read, IsAhead, is_own, StepsWork}
+use Rattle.grant_laws.proofs.Names.{RunsGrantReads}
+use Rattle.std.specs.Prelude.{filter}
 use Rattle.history_book.specs.declared.item.Item.TheVariants as item
-use Rattle.system_parts.specs.KeyRead.{read_ask}
-use Rattle.machine.specs.State.{Client}
-use Rattle.machine.specs.StoreSteps.{store_of}
-use Rattle.machine.specs.declared.event.Event.{Event}
 use Rattle.machine.specs.declared.event.Event.TheVariants as event
-use Rattle.machine.specs.Machine.{Step}
 use Rattle.script_data.specs.declared.line.Verb.TheVariants as verb
-use Rattle.script_data.specs.Data.{ScriptData}
-use Rattle.command_semantics.specs.declared.point.Point.{Point}
-use Rattle.command_semantics.specs.declared.point.Point.TheVariants.{Reads}
-use Rattle.command_semantics.specs.Interruptions.{follows}
-use Rattle.command_semantics.specs.Laws.{IsPlayable}
-use Rattle.command_semantics.specs.Runs.{step_of, played}
-use Rattle.command_semantics.proofs.ScriptWalks.{actor_same}
-use Rattle.turn_rules.specs.declared.ahead.NextAction.TheVariants.{Makes}
-use Rattle.turn_rules.specs.declared.turn.Turn.{Turn}
 use Rattle.turn_rules.specs.declared.turn.Turn.TheVariants as turn
-use Rattle.turn_rules.specs.Carried.{Carried, aimed_clocks, own_ahead, name_posted, made_by, event_of, turned_by, turned, carried}
-use Rattle.grant_laws.specs.Granted.{next_fate}
-use Rattle.grant_laws.specs.Premises.{CanFetch, cells_to_read}
-use Rattle.grant_laws.specs.Lines.{IsAhead, is_own, StepsWork, RunsGrantReads}
 use Rattle.grant_laws.proofs.FetchLines.{has_epoch, may_fetch, first_recall, FetchesSo, fetches_so}
 use Rattle.grant_laws.proofs.KnownTurns.{KnownTurns, known_turned, known_carried}
 use Rattle.grant_laws.proofs.LongerTurns.{turns_on, carries, still_has, has_appended}

@@ -1,32 +1,15 @@
 -- The worked script of a commit that strict reads refuse, computed.
-use Rattle.std.proofs.Common.{◌≡◌, false, [], ◌∷◌, None, Some, inl, refl, sym, ◌∙◌, replicate, arith}
-use Rattle.std.specs.Prelude.{slice_set}
-use Rattle.std.proofs.lemmas.Option.{none-some}
-use Rattle.stamp_base.specs.declared.stores.Mark.TheVariants.{Invalid as InvalidMark}
-use Rattle.stamp_base.specs.declared.stores.Store.TheVariants.{Table}
-use Rattle.port_io.specs.declared.weather.Fate.TheVariants.{Works}
-use Rattle.port_io.specs.Planned.{planned_fate}
+use Rattle.grant_laws.proofs.Names.{◌≡◌, false, [], ◌∷◌, None, Some, inl, refl, sym, ◌∙◌, replicate, arith, slice_set}
+use Rattle.grant_laws.proofs.Names.{none-some, InvalidMark, Table, Works, planned_fate, put_row, fetched, front_of}
+use Rattle.grant_laws.proofs.Names.{without_bare, mark_of-empty, cache_new, recalled_over, Free, Held, Commit, contents}
+use Rattle.grant_laws.proofs.Names.{record_pairs, added, kept_commit, verdict, verdict_both, InstanceEntry}
+use Rattle.grant_laws.proofs.Names.{instance_new, in_flight, least_unsettled, Client, Nothing, holder_from, ticks_of}
+use Rattle.grant_laws.proofs.Names.{InstanceAt, ClientAt, Marked, run_for, lines_played, replayed, reading_of}
+use Rattle.grant_laws.proofs.Names.{next_fate, IsBefore, Grants, CommitsAreGranted, IsAtWork, CanServe, CanCommit}
 use Rattle.history_book.specs.declared.item.Item.TheVariants as item
-use Rattle.system_parts.specs.Rows.{put_row, fetched, front_of, without_bare}
-use Rattle.system_parts.proofs.PairLaws.{mark_of-empty}
 use Rattle.system_parts.specs.declared.session.State.TheVariants as phase
-use Rattle.system_parts.specs.Cache.{cache_new}
-use Rattle.system_parts.specs.Recalled.{recalled_over}
-use Rattle.system_parts.specs.declared.buckets.Verdict.TheVariants.{Free}
-use Rattle.system_parts.specs.declared.instance.Held.{Held}
 use Rattle.system_parts.specs.declared.instance.Progress.TheVariants as progress
-use Rattle.system_parts.specs.declared.instance.Request.TheVariants.{Commit}
-use Rattle.system_parts.specs.Buckets.{contents, record_pairs, added, kept_commit, verdict, verdict_both}
-use Rattle.system_parts.specs.Instance.{InstanceEntry, instance_new, in_flight, least_unsettled}
-use Rattle.machine.specs.State.{Client, Nothing}
-use Rattle.machine.specs.Readers.{holder_from}
 use Rattle.script_data.specs.declared.line.Target.TheVariants as target
-use Rattle.script_data.specs.Ticks.{ticks_of}
-use Rattle.isolation_laws.specs.Words.{InstanceAt, ClientAt, Marked}
-use Rattle.command_semantics.specs.Runs.{run_for, lines_played, replayed}
-use Rattle.grant_laws.specs.Granted.{reading_of, next_fate, IsBefore, Grants}
-use Rattle.grant_laws.specs.Laws.{CommitsAreGranted}
-use Rattle.grant_laws.specs.Premises.{IsAtWork, CanServe, CanCommit}
 use Rattle.grant_laws.specs.Worked as worked
 use Rattle.grant_laws.proofs.WorkedScripts.{no_lead, in_range}
 

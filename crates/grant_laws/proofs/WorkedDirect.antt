@@ -1,33 +1,15 @@
 -- Commits that their sessions place, worked: in file order, and on threads.
-use Rattle.std.proofs.Common.{◌≡◌, ◌+◌, [], ◌∷◌, inl, refl, sym, ◌∙◌, subst, arith}
-use Rattle.std.proofs.lemmas.Option.{none-some}
-use Rattle.stamp_base.specs.SetupNumbers.{AreInRange}
-use Rattle.stamp_base.specs.declared.stores.Mark.TheVariants.{Invalid as InvalidMark}
-use Rattle.stamp_base.specs.declared.stores.Store.TheVariants.{Table}
-use Rattle.port_io.specs.Planned.{planned_fate}
-use Rattle.history_book.specs.Members.{◌∈◌}
-use Rattle.history_book.specs.declared.item.Actor.TheVariants.{Session}
-use Rattle.history_book.specs.declared.item.Item.{Item}
+use Rattle.grant_laws.proofs.Names.{◌≡◌, ◌+◌, [], ◌∷◌, inl, refl, sym, ◌∙◌, subst, arith, none-some, AreInRange}
+use Rattle.grant_laws.proofs.Names.{InvalidMark, Table, planned_fate, ◌∈◌, Session, Item, put_row, fetched, front_of}
+use Rattle.grant_laws.proofs.Names.{without_bare, mark_of-empty, recalled_over, record_pairs, kept_commit, verdict}
+use Rattle.grant_laws.proofs.Names.{InstanceEntry, in_flight, least_unsettled, Client, holder_from, ScriptData}
+use Rattle.grant_laws.proofs.Names.{ticks_of, IsPlayable, Played, lines_played, replayed, run_for, Carried}
+use Rattle.grant_laws.proofs.Names.{carried_items, seats_of, passed, IsBefore, reading_of, Grants, CommitsAreGranted}
+use Rattle.grant_laws.proofs.Names.{Leave, NoneOwn, at_ask, at_accept, at_draw, at_settle, CanServeBy, stamp_drawn}
+use Rattle.grant_laws.proofs.Names.{CanCommitBy, RunsGrantCommits, IsAhead, IsAtWork, CanServe, CanCommit}
 use Rattle.history_book.specs.declared.item.Item.TheVariants as item
-use Rattle.system_parts.specs.Rows.{put_row, fetched, front_of, without_bare}
-use Rattle.system_parts.proofs.PairLaws.{mark_of-empty}
-use Rattle.system_parts.specs.Recalled.{recalled_over}
-use Rattle.system_parts.specs.Buckets.{record_pairs, kept_commit, verdict}
-use Rattle.system_parts.specs.Instance.{InstanceEntry, in_flight, least_unsettled}
-use Rattle.machine.specs.State.{Client}
-use Rattle.machine.specs.Readers.{holder_from}
 use Rattle.script_data.specs.declared.line.Target.TheVariants as target
-use Rattle.script_data.specs.Data.{ScriptData}
-use Rattle.script_data.specs.Ticks.{ticks_of}
-use Rattle.command_semantics.specs.Laws.{IsPlayable}
-use Rattle.command_semantics.specs.Runs.{Played, lines_played, replayed, run_for}
 use Rattle.turn_rules.specs.declared.turn.Turn.TheVariants as turn
-use Rattle.turn_rules.specs.Carried.{Carried, carried_items}
-use Rattle.turn_rules.specs.Seats.{seats_of, passed}
-use Rattle.grant_laws.specs.Granted.{IsBefore, reading_of, Grants}
-use Rattle.grant_laws.specs.Laws.{CommitsAreGranted}
-use Rattle.grant_laws.specs.Lines.{Leave, NoneOwn, at_ask, at_accept, at_draw, at_settle, CanServeBy, stamp_drawn, CanCommitBy, RunsGrantCommits, IsAhead}
-use Rattle.grant_laws.specs.Premises.{IsAtWork, CanServe, CanCommit}
 use Rattle.grant_laws.specs.Worked as worked
 use Rattle.grant_laws.specs.WorkedRuns as runs
 use Rattle.grant_laws.proofs.WorkedScripts.{client_of, oracle_of, no_lead, in_range}

@@ -1,21 +1,13 @@
 -- A script whose commit is drawn, while its node holds the persist stage: no turn can be made.
-use Rattle.std.proofs.Common.{◌≡◌, ◌≢◌, ℕ, zero, suc, Bool, true, false, Option, Some, None, inl, refl, arith, sym, ◌∙◌, ap}
-use Rattle.std.specs.Prelude.{replicate, slice_index_or}
-use Rattle.std.proofs.lemmas.Option.{same_Some, none-some}
+use Rattle.grant_laws.proofs.Names.{◌≡◌, ◌≢◌, ℕ, zero, suc, Bool, true, false, Option, Some, None, inl, refl, arith}
+use Rattle.grant_laws.proofs.Names.{sym, ◌∙◌, ap, slice_index_or, same_Some, none-some, planned_fate, put_row, Held}
+use Rattle.grant_laws.proofs.Names.{Place, record_pairs, kept_commit, verdict, least_unsettled, first_holder}
+use Rattle.grant_laws.proofs.Names.{holder_from, place_held, seats_of, passed, Carried, is_held, holds_at, event_of}
+use Rattle.grant_laws.proofs.Names.{carried, session_view, answered_from, IsLawful, IsStuck, StandsBefore}
+use Rattle.std.specs.Prelude.{replicate}
 use Rattle.stamp_base.specs.declared.stage.Stage.TheVariants.{Persist}
-use Rattle.port_io.specs.Planned.{planned_fate}
-use Rattle.system_parts.specs.Rows.{put_row}
-use Rattle.system_parts.specs.declared.instance.Held.{Held}
-use Rattle.system_parts.specs.declared.instance.Place.{Place}
 use Rattle.system_parts.specs.declared.instance.Place.TheVariants as place
-use Rattle.system_parts.specs.Buckets.{record_pairs, kept_commit, verdict}
-use Rattle.system_parts.specs.Instance.{least_unsettled}
-use Rattle.machine.specs.Readers.{first_holder, holder_from, place_held}
 use Rattle.turn_rules.specs.declared.turn.Turn.TheVariants as turn
-use Rattle.turn_rules.specs.Seats.{seats_of, passed}
-use Rattle.turn_rules.specs.Carried.{Carried, is_held, holds_at, event_of, carried}
-use Rattle.turn_rules.specs.Lawful.{session_view, answered_from, IsLawful}
-use Rattle.grant_laws.specs.Stuck.{IsStuck, StandsBefore}
 use Rattle.grant_laws.specs.WorkedRuns as runs
 use Rattle.grant_laws.proofs.WorkedWaits.{Quiet, found_quiet, none_told, some_item}
 

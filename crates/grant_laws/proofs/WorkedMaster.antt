@@ -1,33 +1,17 @@
 -- Lines that name the master, worked: in file order, and on threads.
-use Rattle.std.proofs.Common.{◌≡◌, ◌+◌, [], ◌∷◌, Option, None, inl, refl, sym, ◌∙◌, subst, arith}
-use Rattle.std.specs.Prelude.{ℕ, MatchOption, slice_index_or}
-use Rattle.std.proofs.lemmas.Option.{none-some}
-use Rattle.stamp_base.specs.declared.stores.Mark.TheVariants.{Invalid as InvalidMark}
-use Rattle.port_io.specs.Planned.{planned_fate}
-use Rattle.history_book.specs.Members.{◌∈◌}
+use Rattle.grant_laws.proofs.Names.{◌≡◌, ◌+◌, [], ◌∷◌, Option, None, inl, refl, sym, ◌∙◌, subst, arith, MatchOption}
+use Rattle.grant_laws.proofs.Names.{slice_index_or, none-some, InvalidMark, planned_fate, ◌∈◌, Session, Item, put_row}
+use Rattle.grant_laws.proofs.Names.{fetched, front_of, without_bare, mark_of-empty, recalled_over, record_pairs}
+use Rattle.grant_laws.proofs.Names.{kept_commit, verdict, InstanceEntry, in_flight, least_unsettled, Client}
+use Rattle.grant_laws.proofs.Names.{holder_from, Line, ScriptData, ticks_of, IsPlayable, Played, lines_played, replayed}
+use Rattle.grant_laws.proofs.Names.{run_for, carried_items, seats_of, passed, IsBefore, reading_of, node_asked, Grants}
+use Rattle.grant_laws.proofs.Names.{BeginsAreGranted, CommitsAreGranted, IsAhead, Leave, LeaveWaiting, node_aimed}
+use Rattle.grant_laws.proofs.Names.{at_ask, at_accept, at_draw, at_begin_answer, CanServeBy, stamp_drawn, CanBeginBy}
+use Rattle.grant_laws.proofs.Names.{RunsGrantBegins, IsAtWork, CanServe, CanBegin, CanCommit}
+use Rattle.std.specs.Prelude.{ℕ}
 use Rattle.history_book.specs.declared.cause.Cause.TheVariants as cause
-use Rattle.history_book.specs.declared.item.Actor.TheVariants.{Session}
-use Rattle.history_book.specs.declared.item.Item.{Item}
 use Rattle.history_book.specs.declared.item.Item.TheVariants as item
-use Rattle.system_parts.specs.Rows.{put_row, fetched, front_of, without_bare}
-use Rattle.system_parts.proofs.PairLaws.{mark_of-empty}
-use Rattle.system_parts.specs.Recalled.{recalled_over}
-use Rattle.system_parts.specs.Buckets.{record_pairs, kept_commit, verdict}
-use Rattle.system_parts.specs.Instance.{InstanceEntry, in_flight, least_unsettled}
-use Rattle.machine.specs.State.{Client}
-use Rattle.machine.specs.Readers.{holder_from}
-use Rattle.script_data.specs.declared.line.Line.{Line}
 use Rattle.script_data.specs.declared.line.Target.TheVariants as target
-use Rattle.script_data.specs.Data.{ScriptData}
-use Rattle.script_data.specs.Ticks.{ticks_of}
-use Rattle.command_semantics.specs.Laws.{IsPlayable}
-use Rattle.command_semantics.specs.Runs.{Played, lines_played, replayed, run_for}
-use Rattle.turn_rules.specs.Carried.{carried_items}
-use Rattle.turn_rules.specs.Seats.{seats_of, passed}
-use Rattle.grant_laws.specs.Granted.{IsBefore, reading_of, node_asked, Grants}
-use Rattle.grant_laws.specs.Laws.{BeginsAreGranted, CommitsAreGranted}
-use Rattle.grant_laws.specs.Lines.{IsAhead, Leave, LeaveWaiting, node_aimed, at_ask, at_accept, at_draw, at_begin_answer, CanServeBy, stamp_drawn, CanBeginBy, RunsGrantBegins}
-use Rattle.grant_laws.specs.Premises.{IsAtWork, CanServe, CanBegin, CanCommit}
 use Rattle.grant_laws.specs.Worked as worked
 use Rattle.grant_laws.specs.WorkedRuns as runs
 use Rattle.grant_laws.proofs.WorkedScripts.{client_of, oracle_in, no_lead, in_range}

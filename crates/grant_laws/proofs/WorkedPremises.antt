@@ -1,25 +1,13 @@
 -- The premises of the worked scripts with turns, computed.
-use Rattle.std.proofs.Common.{◌≡◌, [], ◌∷◌, Some, inl, inr, refl, sym, ◌∙◌, arith}
-use Rattle.std.specs.Prelude.{slice_index_or}
-use Rattle.std.proofs.lemmas.Option.{none-some}
-use Rattle.stamp_base.specs.declared.stores.Mark.TheVariants.{Invalid as InvalidMark}
-use Rattle.port_io.specs.Planned.{planned_fate}
-use Rattle.system_parts.specs.Rows.{put_row, fetched, front_of, without_bare}
-use Rattle.system_parts.proofs.PairLaws.{mark_of-empty}
+use Rattle.grant_laws.proofs.Names.{◌≡◌, [], ◌∷◌, Some, inl, inr, refl, sym, ◌∙◌, arith, slice_index_or, none-some}
+use Rattle.grant_laws.proofs.Names.{InvalidMark, planned_fate, put_row, fetched, front_of, without_bare, mark_of-empty}
+use Rattle.grant_laws.proofs.Names.{recalled_over, record_pairs, kept_commit, verdict, InstanceEntry, in_flight}
+use Rattle.grant_laws.proofs.Names.{least_unsettled, Client, client_new, InstanceAt, holder_from, Played, seats_of}
+use Rattle.grant_laws.proofs.Names.{passed, Carried, turned, carried, reading_of, IsAtWork, CanWrite, CanTake, CanFetch}
+use Rattle.grant_laws.proofs.Names.{Leave, AnswersEarly, LeaveWaiting, at_ask, at_accept, at_draw, CanServeBy}
+use Rattle.grant_laws.proofs.Names.{stamp_drawn, CanBeginBy, CanCommitBy}
 use Rattle.history_book.specs.declared.item.Item.TheVariants as item
-use Rattle.system_parts.specs.Recalled.{recalled_over}
-use Rattle.system_parts.specs.Buckets.{record_pairs, kept_commit, verdict}
-use Rattle.system_parts.specs.Instance.{InstanceEntry, in_flight, least_unsettled}
-use Rattle.machine.specs.State.{Client, client_new}
-use Rattle.isolation_laws.specs.Words.{InstanceAt}
-use Rattle.machine.specs.Readers.{holder_from}
-use Rattle.command_semantics.specs.Runs.{Played}
 use Rattle.turn_rules.specs.declared.turn.Turn.TheVariants as turn
-use Rattle.turn_rules.specs.Seats.{seats_of, passed}
-use Rattle.turn_rules.specs.Carried.{Carried, turned, carried}
-use Rattle.grant_laws.specs.Granted.{reading_of}
-use Rattle.grant_laws.specs.Premises.{IsAtWork, CanWrite, CanTake, CanFetch}
-use Rattle.grant_laws.specs.Lines.{Leave, AnswersEarly, LeaveWaiting, at_ask, at_accept, at_draw, CanServeBy, stamp_drawn, CanBeginBy, CanCommitBy}
 use Rattle.grant_laws.specs.Worked as worked
 use Rattle.grant_laws.specs.WorkedRuns as runs
 use Rattle.grant_laws.proofs.WorkedScripts.{client_of, oracle_of}

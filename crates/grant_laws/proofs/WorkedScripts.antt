@@ -1,28 +1,14 @@
 -- The worked scripts, computed.
-use Rattle.std.proofs.Common.{◌≡◌, ℕ, zero, suc, ◌+◌, ◌≤◌, false, [], ◌∷◌, Option, Some, None, inl, inr, refl, sym, ◌∙◌, subst, arith}
-use Rattle.std.specs.Prelude.{slice_index_or}
-use Rattle.stamp_base.specs.declared.stores.Store.TheVariants.{Cells, Table}
-use Rattle.port_io.specs.Planned.{planned_fate}
-use Rattle.system_parts.specs.Rows.{put_row, fetched, front_of, without_bare}
-use Rattle.system_parts.specs.Recalled.{recalled_over}
-use Rattle.system_parts.specs.Buckets.{record_pairs, kept_commit, verdict}
-use Rattle.system_parts.specs.Instance.{InstanceEntry, instance_new, in_flight, least_unsettled}
-use Rattle.machine.specs.State.{Client, client_new}
-use Rattle.machine.specs.Readers.{holder_from}
-use Rattle.command_semantics.specs.Runs.{Calls, Played, calls_on, run_for, lines_played, replayed}
-use Rattle.std.proofs.lemmas.Option.{none-some}
-use Rattle.stamp_base.specs.declared.stores.Store.{Store}
-use Rattle.stamp_base.specs.declared.stores.Mark.TheVariants.{Invalid as InvalidMark}
-use Rattle.port_io.specs.declared.weather.Fate.TheVariants.{Works}
-use Rattle.system_parts.proofs.PairLaws.{mark_of-empty}
-use Rattle.stamp_base.specs.SetupNumbers.{AreInRange, default_numbers}
-use Rattle.history_book.specs.declared.item.Item.{Item}
+use Rattle.grant_laws.proofs.Names.{◌≡◌, ℕ, zero, suc, ◌+◌, ◌≤◌, false, [], ◌∷◌, Option, Some, None, inl, inr, refl}
+use Rattle.grant_laws.proofs.Names.{sym, ◌∙◌, subst, arith, slice_index_or, Cells, Table, planned_fate, put_row}
+use Rattle.grant_laws.proofs.Names.{fetched, front_of, without_bare, recalled_over, record_pairs, kept_commit, verdict}
+use Rattle.grant_laws.proofs.Names.{InstanceEntry, instance_new, in_flight, least_unsettled, Client, client_new}
+use Rattle.grant_laws.proofs.Names.{holder_from, Calls, Played, calls_on, run_for, lines_played, replayed, none-some}
+use Rattle.grant_laws.proofs.Names.{Store, InvalidMark, Works, mark_of-empty, AreInRange, default_numbers, Item}
+use Rattle.grant_laws.proofs.Names.{ticks_of, reading_of, IsBefore, Grants, CommitsAreGranted, IsAtWork, CanServe}
+use Rattle.grant_laws.proofs.Names.{CanTake, CanBegin, CanWrite, CanRead, CanCommit, cells_to_read}
 use Rattle.history_book.specs.declared.item.Item.TheVariants as item
 use Rattle.script_data.specs.declared.line.Target.TheVariants as target
-use Rattle.script_data.specs.Ticks.{ticks_of}
-use Rattle.grant_laws.specs.Granted.{reading_of, IsBefore, Grants}
-use Rattle.grant_laws.specs.Laws.{CommitsAreGranted}
-use Rattle.grant_laws.specs.Premises.{IsAtWork, CanServe, CanTake, CanBegin, CanWrite, CanRead, CanCommit, cells_to_read}
 use Rattle.grant_laws.specs.Worked as worked
 
 -- the client of a session, and the instance of a node, where they are known to be there

@@ -1,22 +1,10 @@
 -- The worked scripts with turns, computed, and the commit by the law.
-use Rattle.std.proofs.Common.{◌≡◌, [], ◌∷◌, refl, subst, arith}
-use Rattle.stamp_base.specs.declared.stores.Store.TheVariants.{Cells, Table}
-use Rattle.port_io.specs.Planned.{planned_fate}
-use Rattle.system_parts.specs.Rows.{put_row, fetched, front_of, without_bare}
-use Rattle.history_book.specs.Members.{◌∈◌}
-use Rattle.history_book.specs.declared.item.Actor.TheVariants.{Session}
-use Rattle.history_book.specs.declared.item.Item.{Item}
+use Rattle.grant_laws.proofs.Names.{◌≡◌, [], ◌∷◌, refl, subst, arith, Cells, Table, planned_fate, put_row, fetched}
+use Rattle.grant_laws.proofs.Names.{front_of, without_bare, ◌∈◌, Session, Item, recalled_over, record_pairs}
+use Rattle.grant_laws.proofs.Names.{kept_commit, verdict, least_unsettled, holder_from, ticks_of, IsPlayable, seats_of}
+use Rattle.grant_laws.proofs.Names.{passed, carried_items, IsAhead, at_ask, stamp_drawn, RunsGrantCommits}
 use Rattle.history_book.specs.declared.item.Item.TheVariants as item
-use Rattle.system_parts.specs.Recalled.{recalled_over}
-use Rattle.system_parts.specs.Buckets.{record_pairs, kept_commit, verdict}
-use Rattle.system_parts.specs.Instance.{least_unsettled}
-use Rattle.machine.specs.Readers.{holder_from}
-use Rattle.script_data.specs.Ticks.{ticks_of}
-use Rattle.command_semantics.specs.Laws.{IsPlayable}
 use Rattle.turn_rules.specs.declared.turn.Turn.TheVariants as turn
-use Rattle.turn_rules.specs.Seats.{seats_of, passed}
-use Rattle.turn_rules.specs.Carried.{carried_items}
-use Rattle.grant_laws.specs.Lines.{IsAhead, at_ask, stamp_drawn, RunsGrantCommits}
 use Rattle.grant_laws.specs.Worked as worked
 use Rattle.grant_laws.specs.WorkedRuns as runs
 use Rattle.grant_laws.proofs.WorkedScripts.{in_range, no_lead}

@@ -1,22 +1,11 @@
 -- A script whose only line awaits a name that nobody posts: no turn can be made.
-use Rattle.std.proofs.Common.{◌≡◌, ℕ, zero, suc, Bool, true, false, cond, List, [], ◌∷◌, Option, Some, None, refl, sym}
-use Rattle.std.specs.Prelude.{IsSomeAnd}
-use Rattle.std.proofs.lemmas.Option.{none-some}
-use Rattle.history_book.specs.declared.item.Actor.{Actor}
-use Rattle.history_book.specs.declared.item.Actor.TheVariants.{Session}
-use Rattle.history_book.specs.declared.item.Item.{Item}
-use Rattle.system_parts.specs.declared.instance.Place.{Place}
+use Rattle.grant_laws.proofs.Names.{◌≡◌, ℕ, zero, suc, Bool, true, false, cond, List, [], ◌∷◌, Option, Some, None, refl}
+use Rattle.grant_laws.proofs.Names.{sym, IsSomeAnd, none-some, Actor, Session, Item, Place, holder_from, Event}
+use Rattle.grant_laws.proofs.Names.{ScriptData, same_actor, Seat, seats_of, passed, Carried, seat_of, seat_ahead}
+use Rattle.grant_laws.proofs.Names.{ahead_in, made_by, event_of, carried, session_view, answered_from, IsLawful, IsTold}
+use Rattle.grant_laws.proofs.Names.{IsStuck, AwaitsName}
 use Rattle.system_parts.specs.declared.instance.Place.TheVariants as place
-use Rattle.machine.specs.Readers.{holder_from}
-use Rattle.machine.specs.declared.event.Event.{Event}
-use Rattle.script_data.specs.Data.{ScriptData}
-use Rattle.command_semantics.specs.Answers.{same_actor}
-use Rattle.turn_rules.specs.declared.seat.Seat.{Seat}
 use Rattle.turn_rules.specs.declared.turn.Turn.TheVariants as turn
-use Rattle.turn_rules.specs.Seats.{seats_of, passed}
-use Rattle.turn_rules.specs.Carried.{Carried, seat_of, seat_ahead, ahead_in, made_by, event_of, carried}
-use Rattle.turn_rules.specs.Lawful.{session_view, answered_from, IsLawful, IsTold}
-use Rattle.grant_laws.specs.Stuck.{IsStuck, AwaitsName}
 use Rattle.grant_laws.specs.WorkedRuns as runs
 
 -- ---- own turns

@@ -1,20 +1,12 @@
 -- For cause_laws, request_completion and others above too.
 -- What ties state and history holds after every list of moves with steady readings; so each history is snapshot isolated, and
 -- serial with strict reads.
-use Rattle.std.proofs.Common.{◌≡◌, ℕ, List, [], ◌∷◌, ◌++◌, append_assoc, refl, sym, ◌∙◌, subst}
-use Rattle.std.proofs.lemmas.List.{append-nil}
-use Rattle.stamp_base.specs.SetupNumbers.{SetupNumbers, AreInRange}
-use Rattle.port_io.specs.declared.weather.Fate.{Fate}
-use Rattle.history_book.specs.Isolation.{Isolated}
-use Rattle.history_book.specs.declared.item.Item.{Item}
-use Rattle.cause_rules.specs.Strict.{SerialIfStrict}
-use Rattle.machine.specs.declared.event.Event.{Event}
-use Rattle.machine.specs.State.{State, opening}
-use Rattle.machine.specs.Machine.{Step, stepped, Move, state_after, items_after, history_after, reading_of, seen_after, IsSteadyAt, AreSteady, Steady}
-use Rattle.machine.specs.Due.{AreDue}
-use Rattle.isolation_laws.specs.IsolationInvariant.{IsolationInvariant}
-use Rattle.isolation_laws.specs.Sound.{ReachedInvariant}
-use Rattle.machine.specs.Outcome.Outcomes.{Outcome, OfStill, left_by, told_by_outcome, IsTimely}
+use Rattle.isolation_laws.proofs.Names.{◌≡◌, ℕ, List, [], ◌∷◌, ◌++◌, append_assoc, refl, sym, ◌∙◌, subst, append-nil}
+use Rattle.isolation_laws.proofs.Names.{SetupNumbers, AreInRange, Fate, Isolated, Item, SerialIfStrict, Event, State}
+use Rattle.isolation_laws.proofs.Names.{opening, stepped, Move, state_after, items_after, history_after, reading_of}
+use Rattle.isolation_laws.proofs.Names.{seen_after, IsSteadyAt, AreSteady, Steady, AreDue, IsolationInvariant}
+use Rattle.isolation_laws.proofs.Names.{ReachedInvariant, Outcome, OfStill, left_by, told_by_outcome, IsTimely, ComesAt}
+use Rattle.machine.specs.Machine.{Step}
 use Rattle.machine.proofs.Outcome.Readings.{steadily}
 use Rattle.isolation_laws.proofs.Numbers.NumbersOfAll.{numbers_kept}
 use Rattle.isolation_laws.proofs.Requests.RequestsOfAll.{requests_kept}
@@ -25,7 +17,6 @@ use Rattle.isolation_laws.proofs.Requests.BeginsKept.{begins_kept}
 use Rattle.isolation_laws.proofs.Reading.ReadsKept.{reads_kept, right_reads_kept}
 use Rattle.isolation_laws.proofs.Known.KnownKept.{known_kept}
 use Rattle.isolation_laws.proofs.Bare.BareKept.{owned_kept}
-use Rattle.machine.specs.Outcome.Inverted.{ComesAt}
 use Rattle.machine.proofs.Inversions.EachOutcome.{each_outcome as each_of_event}
 use Rattle.isolation_laws.proofs.Inversions.Inversion.{parts_fit, comes_to}
 use Rattle.isolation_laws.proofs.Inversions.InversionSound.{sound_kept, opening_sound}

@@ -1,18 +1,10 @@
 -- What can come below a start: where a commit in flight began, and that a reader that is open may mark it.
-use Rattle.std.proofs.Common.{◌≡◌, ℕ, ◌<◌, ◌≤◌, Bool, true, false, List, Option, Some, ◌⊎◌, inl, inr, refl, sym, subst, arith}
+use Rattle.isolation_laws.proofs.Names.{◌≡◌, ℕ, ◌<◌, ◌≤◌, Bool, true, false, List, Option, Some, ◌⊎◌, inl, inr, refl}
+use Rattle.isolation_laws.proofs.Names.{sym, subst, arith, le-leb, Committed, Wrote, Apart, Stamped, Item, may_mark}
+use Rattle.isolation_laws.proofs.Names.{InstanceEntry, Client, State, marks_every, OpenAt, IsolationInvariant, Stage}
+use Rattle.isolation_laws.proofs.Names.{Waits, Taken, Has, InFlight, HeldPending, Pending, IsStageBelow, ComesBelow}
+use Rattle.isolation_laws.proofs.Names.{AreNewDraws, ArePending, AreAccepted}
 use Rattle.std.specs.Bool.{IsTrue}
-use Rattle.std.proofs.lemmas.Bool.{le-leb}
-use Rattle.history_book.specs.Isolation.{Committed, Wrote, Apart, Stamped}
-use Rattle.history_book.specs.declared.item.Item.{Item}
-use Rattle.system_parts.specs.KeyRead.{may_mark}
-use Rattle.system_parts.specs.Instance.{InstanceEntry}
-use Rattle.machine.specs.State.{Client, State}
-use Rattle.machine.specs.Events.Fetch.{marks_every}
-use Rattle.isolation_laws.specs.Words.{OpenAt}
-use Rattle.isolation_laws.specs.IsolationInvariant.{IsolationInvariant}
-use Rattle.isolation_laws.specs.Pending.{Stage, Waits, Taken, Has, InFlight, HeldPending, Pending, IsStageBelow, ComesBelow}
-use Rattle.isolation_laws.specs.Numbers.{AreNewDraws}
-use Rattle.isolation_laws.specs.Requests.{ArePending, AreAccepted}
 use Rattle.isolation_laws.proofs.OnceEach.{commit_above_start}
 use Rattle.isolation_laws.proofs.Owners.{taken_within, has_held, held_drew, taken_held, has_drew}
 

@@ -1,3 +1,4 @@
+mod Names
 pub mod Pushed
 pub mod Requests
 pub mod OnceEach

@@ -1,15 +1,9 @@
 -- For cause_laws, request_completion and cluster_core too.
 -- Each stamp once: two members of a list in which something holds at each place, and what follows for begins, draws and commits.
-use Rattle.std.proofs.Common.{[], ◌≡◌, ℕ, zero, suc, ◌<◌, List, ◌∷◌, Option, Some, ◌⊎◌, inl, inr, refl, sym, ◌∙◌, ap, arith, take}
-use Rattle.std.specs.Prelude.{slice_get}
-use Rattle.std.proofs.lemmas.Option.{same_Some}
-use Rattle.history_book.specs.Members.{◌∈◌, AtEach}
-use Rattle.history_book.specs.Isolation.{Committed, NewStamps, Stamped}
-use Rattle.history_book.specs.declared.item.Item.{Item}
-use Rattle.history_book.specs.declared.item.Item.TheVariants.{Begin, Draw, Placed}
-use Rattle.isolation_laws.specs.Words.{Begun, DrewCommit, drawn_stamp}
-use Rattle.isolation_laws.specs.Numbers.{IsNewDraw, AreNewDraws}
-use Rattle.machine.proofs.Orders.{three_ways}
+use Rattle.isolation_laws.proofs.Names.{[], ◌≡◌, ℕ, zero, suc, ◌<◌, List, ◌∷◌, Option, Some, ◌⊎◌, inl, inr, refl, sym}
+use Rattle.isolation_laws.proofs.Names.{◌∙◌, ap, arith, take, slice_get, same_Some, ◌∈◌, AtEach, Committed, NewStamps}
+use Rattle.isolation_laws.proofs.Names.{Stamped, Item, Begin, Draw, Placed, Begun, DrewCommit, drawn_stamp, IsNewDraw}
+use Rattle.isolation_laws.proofs.Names.{AreNewDraws, three_ways}
 
 -- ---- two members of a list in which something holds at each place
 pub place_of : {X : Type 0} (x : X) (xs : List X) → x ∈ xs → (p : ℕ) × (slice_get xs p ≡ Some x)

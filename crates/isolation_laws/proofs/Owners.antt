@@ -1,27 +1,17 @@
 -- For cause_laws too.
 -- What follows from several facts at once: whose a transaction is, what still may be placed, and what an instance with the
 -- record's term has seen.
-use Rattle.std.proofs.Common.{◌≡◌, ℕ, ◌+◌, ◌<◌, ◌≤◌, true, false, ◌⊎◌, List, Option, Some, None, inl, inr, refl, sym, ◌∙◌, ap, subst, arith}
-use Rattle.history_book.specs.Members.{◌∈◌}
-use Rattle.history_book.specs.Isolation.{Committed, Stamped}
-use Rattle.history_book.specs.declared.item.Item.{Item}
-use Rattle.history_book.specs.declared.item.Item.TheVariants.{Draw}
-use Rattle.stamp_base.specs.SetupNumbers.{SetupNumbers}
-use Rattle.system_parts.specs.Record.{MasterRecord}
-use Rattle.system_parts.specs.declared.session.State.{State as SessionState}
+use Rattle.isolation_laws.proofs.Names.{◌≡◌, ℕ, ◌+◌, ◌<◌, ◌≤◌, true, false, ◌⊎◌, List, Option, Some, None, inl, inr}
+use Rattle.isolation_laws.proofs.Names.{refl, sym, ◌∙◌, ap, subst, arith, ◌∈◌, Committed, Stamped, Item, Draw}
+use Rattle.isolation_laws.proofs.Names.{SetupNumbers, MasterRecord, SessionState, Progress, Commit, InstanceEntry}
+use Rattle.isolation_laws.proofs.Names.{Client, InstanceAt, HeldBy, ClientAt, OpenAt, Begun, DrewCommit, drawn_stamp}
+use Rattle.isolation_laws.proofs.Names.{Stage, Waits, Taken, Has, InFlight, stage_of, HeldPending, is_placing, Pending}
+use Rattle.isolation_laws.proofs.Names.{IsPending, IsOpen, Live, AreRanges, AreLeases, AreDrawn, AreBegun, ArePlaced}
+use Rattle.isolation_laws.proofs.Names.{AreRequests, WaitsFor, IsDrawnSoFar, ArePending, AreAccepted, AreOpen, AreForm}
+use Rattle.isolation_laws.proofs.Names.{one_client, three_ways}
 use Rattle.system_parts.specs.declared.session.State.TheVariants as phase
-use Rattle.system_parts.specs.declared.instance.Progress.{Progress}
 use Rattle.system_parts.specs.declared.instance.Progress.TheVariants as progress
-use Rattle.system_parts.specs.declared.instance.Request.TheVariants.{Commit}
-use Rattle.system_parts.specs.Instance.{InstanceEntry}
-use Rattle.machine.specs.State.{Client}
-use Rattle.isolation_laws.specs.Words.{InstanceAt, HeldBy, ClientAt, OpenAt, Begun, DrewCommit, drawn_stamp}
-use Rattle.isolation_laws.specs.Pending.{Stage, Waits, Taken, Has, InFlight, stage_of, HeldPending, is_placing, Pending, IsPending, IsOpen, Live}
-use Rattle.isolation_laws.specs.Numbers.{AreRanges, AreLeases, AreDrawn, AreBegun, ArePlaced}
-use Rattle.isolation_laws.specs.Requests.{AreRequests, WaitsFor, IsDrawnSoFar, ArePending, AreAccepted, AreOpen, AreForm}
-use Rattle.machine.proofs.Lookups.{one_client}
 use Rattle.isolation_laws.proofs.OnceEach.{begun_once}
-use Rattle.machine.proofs.Orders.{three_ways}
 pub use Rattle.isolation_laws.proofs.OnceEach.{drawn_once}
 
 -- ---- whose a transaction is

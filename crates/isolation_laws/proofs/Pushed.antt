@@ -1,19 +1,11 @@
 -- For cause_laws, request_completion and log_refinement too.
 -- What a history has after more items: what it had, and what they bring. Quiet items bring nothing that a fact reads.
-use Rattle.std.proofs.Common.{◌≡◌, ℕ, ◌==◌, true, false, if◌then◌else◌, List, [], ◌∷◌, ◌++◌, append_assoc, Option, Some, None, ◌⊎◌, inl, inr, refl, sym, ◌∙◌, ap, subst}
-use Rattle.std.specs.Option.{option_or}
-use Rattle.std.proofs.lemmas.List.{append-nil}
-use Rattle.std.proofs.lemmas.List.Elements.{All-head, All-tail}
-use Rattle.history_book.specs.Members.{◌∈◌}
-use Rattle.history_book.specs.Isolation.{Committed, last_write, written_by}
-use Rattle.history_book.specs.declared.item.Found.{Found}
-use Rattle.history_book.specs.declared.item.Item.{Item}
-use Rattle.history_book.specs.declared.item.Item.TheVariants.{Draw, Begin, Write, Read, Placed}
-use Rattle.history_book.proofs.MemberLemmas.{in_front}
-use Rattle.history_book.proofs.HistoryLemmas.{last_write-push}
-use Rattle.system_parts.specs.Buckets.{pairs_of}
-use Rattle.isolation_laws.specs.Words.{Begun, HasDrawn, keys_with, keys_from, written_keys, recorded_by, recorded_in, recorded}
-use Rattle.machine.specs.Quiet.{Quiet, AllQuiet}
+use Rattle.isolation_laws.proofs.Names.{◌≡◌, ℕ, ◌==◌, true, false, if◌then◌else◌, List, [], ◌∷◌, ◌++◌, append_assoc}
+use Rattle.isolation_laws.proofs.Names.{Option, Some, None, ◌⊎◌, inl, inr, refl, sym, ◌∙◌, ap, subst, option_or}
+use Rattle.isolation_laws.proofs.Names.{append-nil, All-head, All-tail, ◌∈◌, Committed, last_write, written_by, Found}
+use Rattle.isolation_laws.proofs.Names.{Item, Draw, Begin, Write, Read, Placed, in_front, last_write-push, pairs_of}
+use Rattle.isolation_laws.proofs.Names.{Begun, HasDrawn, keys_with, keys_from, written_keys, recorded_by, recorded_in}
+use Rattle.isolation_laws.proofs.Names.{recorded, Quiet, AllQuiet}
 
 pub not_true : false ≡ true → ⊥
 not_true same = cc

@@ -1,22 +1,11 @@
 -- The actors that have lines stand in their list once each.
-use Rattle.std.proofs.Common.{◌≡◌, ℕ, zero, suc, ◌<◌, Bool, true, false, ◌&&◌, ◌||◌, cond, List, [], ◌∷◌, ◌++◌, ◌⊎◌, inl, inr, refl, sym, ◌∙◌, ap, subst, arith}
-use Rattle.std.specs.Prelude.{map, filter}
-use Rattle.std.specs.List.{list_any}
-use Rattle.std.proofs.lemmas.List.{map-append}
-use Rattle.stamp_base.specs.SetupNumbers.{SetupNumbers}
-use Rattle.history_book.specs.Members.{◌∈◌}
-use Rattle.history_book.specs.declared.item.Actor.{Actor}
-use Rattle.history_book.specs.declared.item.Actor.TheVariants.{Clock, Node, Session, Janitor}
-use Rattle.history_book.proofs.MemberLemmas.{in_front, in_back, in_last, in_push}
-use Rattle.isolation_laws.proofs.Pushed.{in_append}
-use Rattle.script_data.specs.declared.line.Line.{Line}
-use Rattle.script_data.specs.Data.{ScriptData}
-use Rattle.command_semantics.specs.Answers.{same_actor, has_opening, is_of}
-use Rattle.command_semantics.specs.Laws.{ActorFits, AreLinesOf}
-use Rattle.command_semantics.proofs.ScriptWalks.{actor_same}
+use Rattle.log_refinement.proofs.Names.{◌≡◌, ℕ, zero, suc, ◌<◌, Bool, true, false, ◌&&◌, ◌||◌, cond, List, [], ◌∷◌}
+use Rattle.log_refinement.proofs.Names.{◌++◌, ◌⊎◌, inl, inr, refl, sym, ◌∙◌, ap, subst, arith, map, filter, list_any}
+use Rattle.log_refinement.proofs.Names.{map-append, SetupNumbers, ◌∈◌, Actor, Clock, Node, Session, Janitor, in_front}
+use Rattle.log_refinement.proofs.Names.{in_back, in_last, in_push, in_append, Line, ScriptData, same_actor, has_opening}
+use Rattle.log_refinement.proofs.Names.{is_of, ActorFits, AreLinesOf, actor_same, has_lines, actors_of}
 use Rattle.turn_rules.specs.declared.seat.Seat.{Seat}
 use Rattle.turn_rules.specs.Seats.{first_seat, first_seats, seats_of}
-use Rattle.thread_scripts.specs.Actors.{has_lines, actors_of}
 
 -- ---- lists without repetition
 unfoldable pub Once : List Actor → Type 0

@@ -1,25 +1,11 @@
 -- One log among the entries of all is that of an actor, and the others are of other actors.
-use Rattle.std.proofs.Common.{◌≡◌, ◌∙◌, ℕ, zero, suc, ◌<◌, true, false, List, [], ◌∷◌, ◌++◌, length, inl, inr, refl, sym, subst, arith}
-use Rattle.std.specs.Prelude.{filter, slice_index_or}
-use Rattle.std.specs.List.{Contains}
+use Rattle.log_refinement.proofs.Names.{◌≡◌, ◌∙◌, ℕ, zero, suc, ◌<◌, true, false, List, [], ◌∷◌, ◌++◌, length, inl, inr}
+use Rattle.log_refinement.proofs.Names.{refl, sym, subst, arith, filter, slice_index_or, Contains, cases_Bool, All-head}
+use Rattle.log_refinement.proofs.Names.{All-tail, ◌∈◌, Actor, in_front, in_back, in_append, ScriptData, is_of}
+use Rattle.log_refinement.proofs.Names.{AreLinesOf, has_lines, actors_of, Entry, Logged, ticks_of, rises_above, logs_of}
+use Rattle.log_refinement.proofs.Names.{InTickOrder, AllRise, is_own, first_standing}
 use Rattle.std.specs.List.Sorted.{IsPermutation}
-use Rattle.std.proofs.lemmas.Bool.{cases_Bool}
-use Rattle.std.proofs.lemmas.List.Elements.{All-head, All-tail}
 use Rattle.std.proofs.lemmas.List.Sorted.{IsPermutation-sym, Contains-permutation}
-use Rattle.history_book.specs.Members.{◌∈◌}
-use Rattle.history_book.specs.declared.item.Actor.{Actor}
-use Rattle.history_book.proofs.MemberLemmas.{in_front, in_back}
-use Rattle.isolation_laws.proofs.Pushed.{in_append}
-use Rattle.script_data.specs.Data.{ScriptData}
-use Rattle.command_semantics.specs.Answers.{is_of}
-use Rattle.command_semantics.specs.Laws.{AreLinesOf}
-use Rattle.thread_scripts.specs.Actors.{has_lines, actors_of}
-use Rattle.split_stores.specs.declared.seat.Entry.{Entry}
-use Rattle.split_stores.specs.Logs.{Logged, ticks_of, rises_above}
-use Rattle.split_stores.specs.Merging.{logs_of, InTickOrder}
-use Rattle.log_refinement.specs.Laws.{AllRise}
-use Rattle.log_refinement.specs.Follows.{is_own}
-use Rattle.log_refinement.specs.Owed.{first_standing}
 use Rattle.log_refinement.proofs.ActorList.{Once, once_actors, there_with, gone_without, no_own_lines}
 use Rattle.log_refinement.proofs.OpeningLogs.{FollowsOpened, OpenedLines, LogOf, AllOpened}
 use Rattle.log_refinement.proofs.ShownRequests.{IsApart, log_serves, no_own_line, no_stage_line}

@@ -1,31 +1,14 @@
 -- What the machine's laws say of one event to a session that has asked a node, and of its ask.
-use Rattle.std.proofs.Common.{◌≡◌, ℕ, ◌==◌, Bool, true, false, if◌then◌else◌, List, ◌++◌, ◌⊎◌, inl, inr, refl, ap, subst}
-use Rattle.std.proofs.lemmas.Bool.{eqb-true, eq-eqb}
-use Rattle.history_book.specs.Members.{◌∈◌}
-use Rattle.history_book.specs.declared.cause.Cause.{Cause}
+use Rattle.log_refinement.proofs.Names.{◌≡◌, ℕ, ◌==◌, Bool, true, false, if◌then◌else◌, List, ◌++◌, ◌⊎◌, inl, inr, refl}
+use Rattle.log_refinement.proofs.Names.{ap, subst, eqb-true, eq-eqb, ◌∈◌, Cause, Actor, Node, Session, Item, in_back}
+use Rattle.log_refinement.proofs.Names.{Store, Master, Ask, closes, open_asks_of, ClientAt, ExplainedInvariant}
+use Rattle.log_refinement.proofs.Names.{actor_same, AllNot, Ends, OverStaysOver, ClosedAsksAreOver, LostAsksAreOver}
+use Rattle.log_refinement.proofs.Names.{SilentAnswersRepeat, SessionsTakeTurns, BeginsAreAsked, AsksAreTurns, Owed}
+use Rattle.log_refinement.proofs.Names.{Denied, leaves_cells, leaves_nothing, denies_request, is_lost, fails_record}
+use Rattle.log_refinement.proofs.Names.{WasDenied, HasCome}
 use Rattle.history_book.specs.declared.cause.Cause.TheVariants as cause
-use Rattle.history_book.specs.declared.item.Actor.{Actor}
-use Rattle.history_book.specs.declared.item.Actor.TheVariants.{Node, Session}
-use Rattle.history_book.specs.declared.item.Item.{Item}
 use Rattle.history_book.specs.declared.item.Item.TheVariants as item
-use Rattle.history_book.proofs.MemberLemmas.{in_back}
-use Rattle.stamp_base.specs.declared.stores.Store.{Store}
-use Rattle.stamp_base.specs.declared.stores.Store.TheVariants.{Master}
-use Rattle.cause_rules.specs.Asks.{Ask}
-use Rattle.cause_rules.specs.OpenAsks.{closes, open_asks_of}
-use Rattle.isolation_laws.specs.Words.{ClientAt}
-use Rattle.cause_laws.specs.ShownInvariant.{ExplainedInvariant}
-use Rattle.command_semantics.proofs.ScriptWalks.{actor_same}
-use Rattle.command_semantics.proofs.Walks.{AllNot}
-use Rattle.request_completion.specs.Ends.{Ends}
 use Rattle.request_completion.specs.Laws.{EndsAtFirst, EventsKeepEnds}
-use Rattle.request_completion.specs.Overs.{OverStaysOver, ClosedAsksAreOver}
-use Rattle.request_completion.specs.Silences.{LostAsksAreOver, SilentAnswersRepeat}
-use Rattle.request_completion.specs.SessionTransitions.{SessionsTakeTurns, BeginsAreAsked, AsksAreTurns}
-use Rattle.log_refinement.specs.declared.owed.Owed.{Owed}
-use Rattle.log_refinement.specs.declared.owed.Owed.TheVariants.{Denied}
-use Rattle.log_refinement.specs.Owed.{leaves_cells, leaves_nothing, denies_request, is_lost, fails_record}
-use Rattle.log_refinement.specs.Served.{WasDenied, HasCome}
 use Rattle.log_refinement.proofs.Moves.{items_of, state_after, history_after, AskMove}
 use Rattle.log_refinement.proofs.SinceAsk.{IsSince, none_asks}
 

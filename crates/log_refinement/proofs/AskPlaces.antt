@@ -1,34 +1,17 @@
 -- An ask and what has come of it, from its item to the next line of its session.
-use Rattle.std.proofs.Common.{◌≡◌, ℕ, ◌<◌, Bool, true, if◌then◌else◌, List, [], ◌∷◌, ◌++◌, Option, None, Some, inl, inr, refl, sym, ◌∙◌, ap, subst, arith, length}
-use Rattle.std.specs.Prelude.{slice_get}
+use Rattle.log_refinement.proofs.Names.{◌≡◌, ℕ, ◌<◌, Bool, true, if◌then◌else◌, List, [], ◌∷◌, ◌++◌, Option, None, Some}
+use Rattle.log_refinement.proofs.Names.{inl, inr, refl, sym, ◌∙◌, ap, subst, arith, length, slice_get, append-nil}
+use Rattle.log_refinement.proofs.Names.{slice_get_within, ◌∈◌, Session, Item, in_front, InstanceEntry, Client, State}
+use Rattle.log_refinement.proofs.Names.{stepped, Ask, ask_by, asks_for, its_ask, since_ask, last_told-push, since-push}
+use Rattle.log_refinement.proofs.Names.{ExplainedInvariant, ClientAt, written_keys, one_client, Fit, found, AllNot}
+use Rattle.log_refinement.proofs.Names.{Ends, WasTold, Owed, Nothing, Answer, Standing, with_items, is_paid}
 use Rattle.std.specs.Option.{option_or}
-use Rattle.std.proofs.lemmas.List.{append-nil}
-use Rattle.std.proofs.lemmas.Option.{slice_get_within}
-use Rattle.history_book.specs.Members.{◌∈◌}
 use Rattle.history_book.specs.declared.cause.Cause.TheVariants as cause
-use Rattle.history_book.specs.declared.item.Actor.TheVariants.{Session}
-use Rattle.history_book.specs.declared.item.Item.{Item}
 use Rattle.history_book.specs.declared.item.Item.TheVariants as item
-use Rattle.history_book.proofs.MemberLemmas.{in_front}
 use Rattle.system_parts.specs.declared.session.State.TheVariants as phase
-use Rattle.system_parts.specs.Instance.{InstanceEntry}
 use Rattle.machine.specs.declared.event.Event.{Event}
 use Rattle.machine.specs.declared.event.Event.TheVariants as event
-use Rattle.machine.specs.State.{Client, State}
-use Rattle.machine.specs.Machine.{stepped}
-use Rattle.cause_rules.specs.Asks.{Ask, ask_by, asks_for, its_ask, since_ask}
-use Rattle.cause_laws.proofs.SinceWords.{last_told-push, since-push}
-use Rattle.cause_laws.specs.ShownInvariant.{ExplainedInvariant}
-use Rattle.isolation_laws.specs.Words.{ClientAt, written_keys}
-use Rattle.machine.proofs.Lookups.{one_client}
-use Rattle.command_semantics.proofs.AlwaysFit.{Fit, found}
-use Rattle.command_semantics.proofs.Walks.{AllNot}
-use Rattle.request_completion.specs.Ends.{Ends}
-use Rattle.request_completion.specs.Silences.{WasTold}
 use Rattle.log_refinement.specs.declared.owed.Due.TheVariants as due
-use Rattle.log_refinement.specs.declared.owed.Owed.{Owed}
-use Rattle.log_refinement.specs.declared.owed.Owed.TheVariants.{Nothing, Answer}
-use Rattle.log_refinement.specs.Owed.{Standing, with_items, is_paid}
 use Rattle.log_refinement.proofs.AskFacts.{MachineLaws, Passed, same_self, EndsBy}
 use Rattle.log_refinement.proofs.BeginAsks.{NoCommitted, begin_ask, tells_no_commit, BeginComes, begin_later, begin_items, begin_ended}
 use Rattle.log_refinement.proofs.CommitAsks.{CommitAsk, Place, PlaceBefore, PlaceBehind, place_later, keys_same, CommitComes, commit_later}

@@ -1,26 +1,16 @@
 -- What the ask of a begin has come to, by what its actor's log owes of it.
-use Rattle.std.proofs.Common.{◌≡◌, ℕ, ◌==◌, Bool, true, false, ◌&&◌, if◌then◌else◌, List, [], ◌∷◌, None, Some, ◌⊎◌, inl, inr, refl, sym, ◌∙◌, ap, subst}
-use Rattle.std.proofs.lemmas.Option.{same_Some, none-some}
-use Rattle.history_book.specs.Members.{◌∈◌}
-use Rattle.history_book.specs.declared.cause.Cause.{Cause}
-use Rattle.history_book.specs.declared.item.Actor.{Actor}
-use Rattle.stamp_base.specs.declared.stores.Store.TheVariants.{Master}
-use Rattle.history_book.specs.declared.item.Actor.TheVariants.{Node, Session}
-use Rattle.history_book.specs.declared.item.Item.{Item}
+use Rattle.log_refinement.proofs.Names.{◌≡◌, ℕ, ◌==◌, Bool, true, false, ◌&&◌, if◌then◌else◌, List, [], ◌∷◌, None, Some}
+use Rattle.log_refinement.proofs.Names.{◌⊎◌, inl, inr, refl, sym, ◌∙◌, ap, subst, same_Some, none-some, ◌∈◌, Cause}
+use Rattle.log_refinement.proofs.Names.{Actor, Master, Node, Session, Item, in_back, in_front, in_push, Client, Ask}
+use Rattle.log_refinement.proofs.Names.{its_ask, closes, open_asks_of, same_actor, actor_same, NoneEnds, EndsWith}
+use Rattle.log_refinement.proofs.Names.{IsAsked, SessionTransition, Rests, AsksBegin, AsksCommit, Begins, LosesBegin}
+use Rattle.log_refinement.proofs.Names.{Writes, Frees, Undoes, Hands, Commits, Refuses, LeavesOpen, Vanishes, IsGone}
+use Rattle.log_refinement.proofs.Names.{Due, Owed, Nothing, Read, Answer, Denied, Removal, Erasure, Quiet, leaves_cells}
+use Rattle.log_refinement.proofs.Names.{leaves_nothing, after_own_refusal, is_lost, after_refusal, fails_record}
+use Rattle.log_refinement.proofs.Names.{after_asking, ends_completion, removes, is_idle, owed_after, Standing}
+use Rattle.log_refinement.proofs.Names.{with_item, with_items, is_settled, IsOver, WasDenied}
 use Rattle.history_book.specs.declared.item.Item.TheVariants as item
-use Rattle.history_book.proofs.MemberLemmas.{in_back, in_front, in_push}
 use Rattle.system_parts.specs.declared.session.State.TheVariants as phase
-use Rattle.machine.specs.State.{Client}
-use Rattle.cause_rules.specs.Asks.{Ask, its_ask}
-use Rattle.cause_rules.specs.OpenAsks.{closes, open_asks_of}
-use Rattle.command_semantics.specs.Answers.{same_actor}
-use Rattle.command_semantics.proofs.ScriptWalks.{actor_same}
-use Rattle.request_completion.specs.SessionTransitions.{NoneEnds, EndsWith, IsAsked, SessionTransition, Rests, AsksBegin, AsksCommit, Begins, LosesBegin, Writes, Frees, Undoes, Hands, Commits, Refuses, LeavesOpen, Vanishes, IsGone}
-use Rattle.log_refinement.specs.declared.owed.Due.{Due}
-use Rattle.log_refinement.specs.declared.owed.Owed.{Owed}
-use Rattle.log_refinement.specs.declared.owed.Owed.TheVariants.{Nothing, Read, Answer, Denied, Removal, Erasure, Quiet}
-use Rattle.log_refinement.specs.Owed.{leaves_cells, leaves_nothing, after_own_refusal, is_lost, after_refusal, fails_record, after_asking, ends_completion, removes, is_idle, owed_after, Standing, with_item, with_items, is_settled}
-use Rattle.log_refinement.specs.Served.{IsOver, WasDenied}
 use Rattle.log_refinement.proofs.AskFacts.{MachineLaws, Passed, stays_over, closes_ask, loses_ask, if_either, lost_is, nothing_left, leaving_closes, opening_closes, crashing_closes, failed_at, EndsBy}
 use Rattle.log_refinement.proofs.ItemLists.{in_split}
 use Rattle.log_refinement.proofs.Moves.{items_of, history_after, AskMove, since_after}

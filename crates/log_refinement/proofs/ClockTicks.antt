@@ -1,19 +1,11 @@
 -- The base clock goes up in the entries of all logs as the lines of the clock say, in their order.
-use Rattle.std.proofs.Common.{◌≡◌, ℕ, ◌≤◌, Bool, true, false, ◌&&◌, cond, List, [], ◌∷◌, Option, Some, None, inl, inr, refl, sym, ◌∙◌, ap, subst, arith}
-use Rattle.std.specs.Prelude.{filter, sum, unwrap_or}
-use Rattle.history_book.specs.declared.item.Actor.{Actor}
-use Rattle.history_book.specs.declared.item.Actor.TheVariants.{Clock, Node, Session, Janitor}
-use Rattle.stamp_base.specs.SetupNumbers.{SetupNumbers}
-use Rattle.script_data.specs.declared.line.Line.{Line}
-use Rattle.script_data.specs.declared.line.Verb.{Verb}
+use Rattle.log_refinement.proofs.Names.{◌≡◌, ℕ, ◌≤◌, Bool, true, false, ◌&&◌, cond, List, [], ◌∷◌, Option, Some, None}
+use Rattle.log_refinement.proofs.Names.{inl, inr, refl, sym, ◌∙◌, ap, subst, arith, filter, sum, unwrap_or, Actor}
+use Rattle.log_refinement.proofs.Names.{Clock, Node, Session, Janitor, SetupNumbers, Line, Verb, tick_of, same_actor}
+use Rattle.log_refinement.proofs.Names.{has_opening, is_of, tick_by, with_tick, ticks_in, Entry, rise_by, rises_in}
+use Rattle.log_refinement.proofs.Names.{first_event, Standing, gone_on, opened}
 use Rattle.script_data.specs.declared.line.Verb.TheVariants as verb
-use Rattle.script_data.specs.Ticks.{tick_of, ticks_of}
-use Rattle.command_semantics.specs.Answers.{same_actor, has_opening, is_of}
-use Rattle.command_semantics.specs.Planned.{tick_by, with_tick, ticks_in}
-use Rattle.split_stores.specs.declared.seat.Entry.{Entry}
-use Rattle.split_stores.specs.Orders.{rise_by, rises_in}
-use Rattle.log_refinement.specs.Follows.{first_event}
-use Rattle.log_refinement.specs.Owed.{Standing, gone_on, opened}
+use Rattle.script_data.specs.Ticks.{ticks_of}
 use Rattle.log_refinement.proofs.FirstEvents.{first_rises}
 use Rattle.log_refinement.proofs.OpeningLogs.{FollowsOpened}
 use Rattle.log_refinement.proofs.OtherLogs.{OwnLine, AreOwn, IsOther, other_rise}

@@ -1,38 +1,20 @@
 -- What the ask of a commit has come to, by what its actor's log owes of it.
-use Rattle.std.proofs.Common.{◌≡◌, ℕ, Bool, true, false, if◌then◌else◌, List, [], ◌∷◌, ◌++◌, Option, Some, ◌⊎◌, inl, inr, refl, sym, ◌∙◌, ap, subst, append_assoc, arith}
-use Rattle.std.specs.Prelude.{is_some}
-use Rattle.std.proofs.lemmas.Option.{same_Some}
-use Rattle.history_book.specs.Members.{◌∈◌}
-use Rattle.history_book.specs.declared.cause.Cause.{Cause}
+use Rattle.log_refinement.proofs.Names.{◌≡◌, ℕ, Bool, true, false, if◌then◌else◌, List, [], ◌∷◌, ◌++◌, Option, Some}
+use Rattle.log_refinement.proofs.Names.{◌⊎◌, inl, inr, refl, sym, ◌∙◌, ap, subst, append_assoc, arith, is_some}
+use Rattle.log_refinement.proofs.Names.{same_Some, ◌∈◌, Cause, Master, Node, Session, Item, in_front, SessionState}
+use Rattle.log_refinement.proofs.Names.{Held, Request, InstanceEntry, held_of, Client, State, ClientAt, written_keys}
+use Rattle.log_refinement.proofs.Names.{one_client, held_by, in_append, Ask, its_ask, open_asks_of, ExplainedInvariant}
+use Rattle.log_refinement.proofs.Names.{AllNot, IsHeld, IsToAsk, HasVanished, Comes, Made, Failed, Vanished, Left, Ends}
+use Rattle.log_refinement.proofs.Names.{EndsCommit, NoneEnds, SessionTransition, Owed, Nothing, Read, Answer, Denied}
+use Rattle.log_refinement.proofs.Names.{Removal, Erasure, Quiet, leaves_cells, HasFailed, WasOpen, IsRemoved, IsErased}
+use Rattle.log_refinement.proofs.Names.{WasDenied}
 use Rattle.history_book.specs.declared.cause.Cause.TheVariants as cause
-use Rattle.stamp_base.specs.declared.stores.Store.TheVariants.{Master}
-use Rattle.history_book.specs.declared.item.Actor.TheVariants.{Node, Session}
 use Rattle.history_book.specs.declared.item.StoreStep.TheVariants as step
-use Rattle.history_book.specs.declared.item.Item.{Item}
 use Rattle.history_book.specs.declared.item.Item.TheVariants as item
-use Rattle.history_book.proofs.MemberLemmas.{in_front}
 use Rattle.system_parts.specs.declared.asks.Ask as asks
-use Rattle.system_parts.specs.declared.session.State.{State as SessionState}
 use Rattle.system_parts.specs.declared.session.State.TheVariants as phase
-use Rattle.system_parts.specs.declared.instance.Held.{Held}
-use Rattle.system_parts.specs.declared.instance.Request.{Request}
 use Rattle.system_parts.specs.declared.instance.Request.TheVariants as request
-use Rattle.system_parts.specs.Instance.{InstanceEntry, held_of}
-use Rattle.machine.specs.State.{Client, State}
-use Rattle.isolation_laws.specs.Words.{ClientAt, written_keys}
-use Rattle.machine.proofs.Lookups.{one_client, held_by}
-use Rattle.isolation_laws.proofs.Pushed.{in_append}
-use Rattle.cause_rules.specs.Asks.{Ask, its_ask}
-use Rattle.cause_rules.specs.OpenAsks.{open_asks_of}
 use Rattle.cause_laws.specs.Requests.{ask_for, held_count}
-use Rattle.cause_laws.specs.ShownInvariant.{ExplainedInvariant}
-use Rattle.command_semantics.proofs.Walks.{AllNot}
-use Rattle.request_completion.specs.Ends.{IsHeld, IsToAsk, HasVanished, Comes, Made, Failed, Vanished, Left, Ends}
-use Rattle.request_completion.specs.SessionTransitions.{EndsCommit, NoneEnds, SessionTransition}
-use Rattle.log_refinement.specs.declared.owed.Owed.{Owed}
-use Rattle.log_refinement.specs.declared.owed.Owed.TheVariants.{Nothing, Read, Answer, Denied, Removal, Erasure, Quiet}
-use Rattle.log_refinement.specs.Owed.{leaves_cells}
-use Rattle.log_refinement.specs.Served.{HasFailed, WasOpen, IsRemoved, IsErased, WasDenied}
 use Rattle.log_refinement.proofs.AskFacts.{MachineLaws, Passed, stays_over}
 use Rattle.log_refinement.proofs.CommitTrails.{commit_ask, of_commit, after_open, IsUndone, Trail, not_begin, trail_next, leaves_ends, undone_turn, free_turn, NoLeaving, open_turn}
 use Rattle.log_refinement.proofs.ItemLists.{split_cases, in_split, none_append}

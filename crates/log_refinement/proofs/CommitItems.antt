@@ -1,32 +1,17 @@
 -- What the items of its actor's own events say of the ask of a commit, and that it is over once nothing is owed.
-use Rattle.std.proofs.Common.{◌≡◌, ℕ, ◌==◌, Bool, true, false, ◌&&◌, if◌then◌else◌, List, [], ◌∷◌, ◌++◌, Some, ◌⊎◌, inl, inr, refl, sym, ◌∙◌, ap, subst, append_assoc}
-use Rattle.std.specs.Prelude.{not, filter}
-use Rattle.std.proofs.lemmas.Bool.{and_parts, eqb-true}
-use Rattle.std.proofs.lemmas.Option.{same_Some}
-use Rattle.history_book.specs.Members.{◌∈◌}
-use Rattle.history_book.specs.declared.cause.Cause.{Cause}
+use Rattle.log_refinement.proofs.Names.{◌≡◌, ℕ, ◌==◌, Bool, true, false, ◌&&◌, if◌then◌else◌, List, [], ◌∷◌, ◌++◌, Some}
+use Rattle.log_refinement.proofs.Names.{◌⊎◌, inl, inr, refl, sym, ◌∙◌, ap, subst, append_assoc, not, filter, and_parts}
+use Rattle.log_refinement.proofs.Names.{eqb-true, same_Some, ◌∈◌, Cause, Actor, Session, Item, in_back, Store, Client}
+use Rattle.log_refinement.proofs.Names.{State, written_keys, open_asks_of, Opens, same_actor, actor_same, AllNot, Owes}
+use Rattle.log_refinement.proofs.Names.{EndsCommit, OfBegin, SessionTransition, Due, Owed, Nothing, Read, Answer}
+use Rattle.log_refinement.proofs.Names.{Denied, Removal, Erasure, Quiet, leaves_cells, leaves_nothing}
+use Rattle.log_refinement.proofs.Names.{after_own_refusal, is_lost, after_refusal, fails_record, after_asking}
+use Rattle.log_refinement.proofs.Names.{ends_completion, removes, is_idle, owed_after, written_after, without_key}
+use Rattle.log_refinement.proofs.Names.{unerased_after, Standing, with_item, with_items, is_nil, is_settled, HasCome}
 use Rattle.history_book.specs.declared.cause.Cause.TheVariants as cause
-use Rattle.history_book.specs.declared.item.Actor.{Actor}
-use Rattle.history_book.specs.declared.item.Actor.TheVariants.{Session}
 use Rattle.history_book.specs.declared.item.StoreStep.TheVariants as step
-use Rattle.history_book.specs.declared.item.Item.{Item}
 use Rattle.history_book.specs.declared.item.Item.TheVariants as item
-use Rattle.history_book.proofs.MemberLemmas.{in_back}
-use Rattle.stamp_base.specs.declared.stores.Store.{Store}
 use Rattle.system_parts.specs.declared.session.State.TheVariants as phase
-use Rattle.machine.specs.State.{Client, State}
-use Rattle.isolation_laws.specs.Words.{written_keys}
-use Rattle.cause_rules.specs.OpenAsks.{open_asks_of}
-use Rattle.command_semantics.specs.Answers.{Opens, same_actor}
-use Rattle.command_semantics.proofs.ScriptWalks.{actor_same}
-use Rattle.command_semantics.proofs.Walks.{AllNot}
-use Rattle.request_completion.specs.Closings.{Owes}
-use Rattle.request_completion.specs.SessionTransitions.{EndsCommit, OfBegin, SessionTransition}
-use Rattle.log_refinement.specs.declared.owed.Due.{Due}
-use Rattle.log_refinement.specs.declared.owed.Owed.{Owed}
-use Rattle.log_refinement.specs.declared.owed.Owed.TheVariants.{Nothing, Read, Answer, Denied, Removal, Erasure, Quiet}
-use Rattle.log_refinement.specs.Owed.{leaves_cells, leaves_nothing, after_own_refusal, is_lost, after_refusal, fails_record, after_asking, ends_completion, removes, is_idle, owed_after, written_after, without_key, unerased_after, Standing, with_item, with_items, is_nil, is_settled}
-use Rattle.log_refinement.specs.Served.{HasCome}
 use Rattle.log_refinement.proofs.AskFacts.{MachineLaws, Passed, closes_ask, loses_ask, if_either, lost_is, nothing_left, leaving_closes, opening_closes, failed_at, EndsBy}
 use Rattle.log_refinement.proofs.CommitAsks.{CommitAsk, ask_of, asked_upto, Place, PlaceBefore, PlaceBehind, now_asked, turn_of, passed_of, Settled, Erasing, CommitComes, removed_now, settled_at_rest}
 use Rattle.log_refinement.proofs.CommitTrails.{after_open, is_committing, clashes, not_begin, leaves_ends, IsRefused, refused_turn, IsOpened, opened_turn}

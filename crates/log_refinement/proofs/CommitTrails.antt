@@ -1,24 +1,14 @@
 -- Where a session stands since it asked for its commit.
-use Rattle.std.proofs.Common.{◌≡◌, ℕ, Bool, true, false, List, [], ◌∷◌, ◌++◌, None, Some, ◌⊎◌, inl, inr, refl, sym, ◌∙◌, ap, subst}
-use Rattle.std.proofs.lemmas.Option.{same_Some, none-some}
-use Rattle.history_book.specs.Members.{◌∈◌}
-use Rattle.history_book.specs.declared.cause.Cause.{Cause}
+use Rattle.log_refinement.proofs.Names.{◌≡◌, ℕ, Bool, true, false, List, [], ◌∷◌, ◌++◌, None, Some, ◌⊎◌, inl, inr, refl}
+use Rattle.log_refinement.proofs.Names.{sym, ◌∙◌, ap, subst, same_Some, none-some, ◌∈◌, Cause, Session, Item, in_push}
+use Rattle.log_refinement.proofs.Names.{SessionState, SessionEntry, aborted_by, Client, client_aborted, Ask, its_ask}
+use Rattle.log_refinement.proofs.Names.{Opens, AllNot, Owes, ends_commit, EndsCommit, NoneEnds, EndsWith, IsAsked}
+use Rattle.log_refinement.proofs.Names.{IsCommitting, TurnUndone, SessionTransition, Rests, AsksBegin, AsksCommit}
+use Rattle.log_refinement.proofs.Names.{Begins, LosesBegin, Writes, Frees, Undoes, Hands, Commits, Refuses, LeavesOpen}
+use Rattle.log_refinement.proofs.Names.{Vanishes, IsGone, leaves_cells}
 use Rattle.history_book.specs.declared.cause.Cause.TheVariants as cause
-use Rattle.history_book.specs.declared.item.Actor.TheVariants.{Session}
-use Rattle.history_book.specs.declared.item.Item.{Item}
 use Rattle.history_book.specs.declared.item.Item.TheVariants as item
-use Rattle.history_book.proofs.MemberLemmas.{in_push}
-use Rattle.system_parts.specs.declared.session.State.{State as SessionState}
 use Rattle.system_parts.specs.declared.session.State.TheVariants as phase
-use Rattle.system_parts.specs.SessionSteps.{SessionEntry, aborted_by}
-use Rattle.machine.specs.State.{Client}
-use Rattle.machine.specs.Clients.{client_aborted}
-use Rattle.cause_rules.specs.Asks.{Ask, its_ask}
-use Rattle.command_semantics.specs.Answers.{Opens}
-use Rattle.command_semantics.proofs.Walks.{AllNot}
-use Rattle.request_completion.specs.Closings.{Owes}
-use Rattle.request_completion.specs.SessionTransitions.{ends_commit, EndsCommit, NoneEnds, EndsWith, IsAsked, IsCommitting, IsUndone as TurnUndone, SessionTransition, Rests, AsksBegin, AsksCommit, Begins, LosesBegin, Writes, Frees, Undoes, Hands, Commits, Refuses, LeavesOpen, Vanishes, IsGone}
-use Rattle.log_refinement.specs.Owed.{leaves_cells}
 use Rattle.log_refinement.proofs.ItemLists.{none_append}
 
 abbrev pub commit_ask : ℕ → ℕ → Ask

@@ -1,57 +1,42 @@
 -- How far the request that a node holds has come, and that the event which is due takes it on: none that is due is refused since there
 -- is no request.
-use Rattle.std.proofs.Common.{◌≡◌, ℕ, ◌+◌, ◌==◌, ◌<◌, ◌&&◌, Bool, true, false, if◌then◌else◌, List, [], ◌∷◌, Option, None, Some, Ok, inl, inr, refl, sym, ◌∙◌, ap, subst, length}
-use Rattle.std.specs.Prelude.{nat_lt, nat_le, slice_get, slice_set, ◌⊎◌}
-use Rattle.std.proofs.lemmas.Bool.{cases_lt, cases_Bool, and_parts, eqb-true}
-use Rattle.std.proofs.lemmas.List.{get_or_past}
-use Rattle.std.proofs.lemmas.Option.{none-some}
-use Rattle.stamp_base.specs.declared.stores.Mark.{Mark}
-use Rattle.port_io.specs.declared.weather.Fate.{Fate}
-use Rattle.port_io.specs.declared.weather.Fate.TheVariants.{Works, FailsUnchanged, FailsApplied}
-use Rattle.history_book.specs.declared.cause.Cause.{Cause}
+use Rattle.log_refinement.proofs.Names.{◌≡◌, ℕ, ◌+◌, ◌==◌, ◌<◌, ◌&&◌, Bool, true, false, if◌then◌else◌, List, [], ◌∷◌}
+use Rattle.log_refinement.proofs.Names.{Option, None, Some, Ok, inl, inr, refl, sym, ◌∙◌, ap, subst, length, nat_lt}
+use Rattle.log_refinement.proofs.Names.{nat_le, slice_get, slice_set, cases_lt, cases_Bool, and_parts, eqb-true}
+use Rattle.log_refinement.proofs.Names.{get_or_past, none-some, Mark, Fate, Works, FailsUnchanged, FailsApplied, Cause}
+use Rattle.log_refinement.proofs.Names.{Node, Session, Item, Held, Request, InstanceEntry, held_of, with_request}
+use Rattle.log_refinement.proofs.Names.{unsettled_by, least_unsettled, stamps_by, stamps_of_held, stamps_at}
+use Rattle.log_refinement.proofs.Names.{was_told_not_yet, InstanceStep, moved, epoch_refusal, accept_unless}
+use Rattle.log_refinement.proofs.Names.{accept_if_asked, accept_held, out_of_stamps, decide_drawn, drawn_as, verdict_by}
+use Rattle.log_refinement.proofs.Names.{settle_if_drawn, settle_held, instance_settle, answer_begin, answer_if_ready}
+use Rattle.log_refinement.proofs.Names.{answer_held, reply_of, held_of-with_request_same, Pairs, mark_of, Client, State}
+use Rattle.log_refinement.proofs.Names.{Step, with_reading, stepped, of_post, of_both, set_found, Effect, refused}
+use Rattle.log_refinement.proofs.Names.{Event, Due, Owed, Nothing, Read, Answer, Denied, Removal, Erasure, Quiet}
+use Rattle.log_refinement.proofs.Names.{ends_read, leaves_cells, leaves_nothing, is_lost, fails_record}
+use Rattle.log_refinement.proofs.Names.{after_own_refusal, after_asking, ends_completion, removes, is_idle, owed_after}
+use Rattle.log_refinement.proofs.Names.{after_due, is_due, is_step, opener, timed_at, touches, same_actor}
+use Rattle.std.specs.Prelude.{◌⊎◌}
 use Rattle.history_book.specs.declared.cause.Cause.TheVariants as cause
-use Rattle.history_book.specs.declared.item.Actor.TheVariants.{Node, Session}
-use Rattle.history_book.specs.declared.item.Item.{Item}
 use Rattle.history_book.specs.declared.item.Item.TheVariants as item
 use Rattle.system_parts.specs.declared.buckets.Verdict.{Verdict}
 use Rattle.system_parts.specs.declared.buckets.Verdict.TheVariants.{Free, Conflict, Hidden}
-use Rattle.system_parts.specs.declared.instance.Held.{Held}
 use Rattle.system_parts.specs.declared.instance.Progress.{Progress}
 use Rattle.system_parts.specs.declared.instance.Progress.TheVariants.{Asked, Accepted, Drawn, Settled, Handed}
 use Rattle.system_parts.specs.declared.instance.Reply.{Reply}
-use Rattle.system_parts.specs.declared.instance.Request.{Request}
 use Rattle.system_parts.specs.declared.instance.Request.TheVariants as request
 use Rattle.system_parts.specs.declared.instance.Settled.{Settled as How}
 use Rattle.system_parts.specs.declared.instance.Settled.TheVariants as how
-use Rattle.system_parts.specs.Instance.{InstanceEntry, held_of, with_request, unsettled_by, least_unsettled, stamps_by, stamps_of_held, stamps_at, was_told_not_yet}
-use Rattle.system_parts.specs.InstanceSteps.{InstanceStep, moved, epoch_refusal, accept_unless, accept_if_asked, accept_held, out_of_stamps, decide_drawn, drawn_as, decide_by as verdict_by, settle_if_drawn, settle_held, instance_settle, answer_begin, answer_if_ready, answer_held, reply_of}
-use Rattle.system_parts.proofs.InstanceRequests.{held_of-with_request_same}
-use Rattle.system_parts.specs.Pairs.{Pairs, mark_of}
-use Rattle.machine.specs.State.{Client, State}
 use Rattle.machine.specs.declared.event.Event as timed
 use Rattle.machine.specs.declared.event.Event.TheVariants as made
-use Rattle.machine.specs.Machine.{Step, with_reading, stepped}
-use Rattle.machine.proofs.LookedUp.{of_post, of_both}
-use Rattle.machine.proofs.Lookups.{set_found}
 use Rattle.machine.specs.Fits.{StopOf}
-use Rattle.machine.specs.Effect.{Effect, refused}
 use Rattle.machine.specs.Events.Accept.{accept_by, accept_request, accept_on}
 use Rattle.machine.specs.Events.Decide.{both_verdict, both_held, both_if_accepted, draw_item, decide_by, decide_request, decide_on}
 use Rattle.machine.specs.Events.Put.{to_place, to_place_by, put_by, put_commit, put_on}
 use Rattle.machine.specs.Events.Answer.{answer_by, answer_request, answer_on}
-use Rattle.split_parts.specs.declared.event.Event.{Event}
 use Rattle.split_parts.specs.declared.event.Event.TheVariants as event
-use Rattle.log_refinement.specs.declared.owed.Due.{Due}
 use Rattle.log_refinement.specs.declared.owed.Due.TheVariants as due
-use Rattle.log_refinement.specs.declared.owed.Owed.{Owed}
-use Rattle.log_refinement.specs.declared.owed.Owed.TheVariants.{Nothing, Read, Answer, Denied, Removal, Erasure, Quiet}
-use Rattle.log_refinement.specs.Owed.{ends_read, leaves_cells, leaves_nothing, is_lost, fails_record, after_own_refusal, after_asking, ends_completion, removes, is_idle, owed_after, after_due, is_due, is_step}
-use Rattle.log_refinement.specs.Follows.{opener}
-use Rattle.split_stores.specs.Merged.{timed_at}
-use Rattle.grant_laws.specs.Turns.{touches}
 use Rattle.grant_laws.proofs.CalledRequests.{Has, the_post}
 use Rattle.grant_laws.proofs.KeptRequests.{keeps}
-use Rattle.command_semantics.specs.Answers.{same_actor}
 use Rattle.log_refinement.proofs.AskFacts.{same_self}
 
 -- ---- what a request waits for

@@ -1,22 +1,13 @@
 -- The first event of a line is what its run opens with, and it opens a line of its actor alone.
-use Rattle.std.proofs.Common.{◌≡◌, ℕ, false, List, [], Option, Some, None, refl, sym, subst}
-use Rattle.std.proofs.lemmas.Option.{none-some}
-use Rattle.history_book.specs.declared.item.Actor.{Actor}
-use Rattle.history_book.specs.declared.item.Actor.TheVariants.{Clock, Node, Session, Janitor}
+use Rattle.log_refinement.proofs.Names.{◌≡◌, ℕ, false, List, [], Option, Some, None, refl, sym, subst, none-some, Actor}
+use Rattle.log_refinement.proofs.Names.{Clock, Node, Session, Janitor, Verb, Clocks, next, tick_by, OpensNone, Event}
+use Rattle.log_refinement.proofs.Names.{timed_at, rise_by, opener, first_event}
 use Rattle.machine.specs.declared.event.Doing.TheVariants as doing
 use Rattle.script_data.specs.declared.line.Target.TheVariants as target
-use Rattle.script_data.specs.declared.line.Verb.{Verb}
 use Rattle.script_data.specs.declared.line.Verb.TheVariants as verb
 use Rattle.command_semantics.specs.declared.point.Point.TheVariants.{Opens}
 use Rattle.command_semantics.specs.declared.point.View.{View}
-use Rattle.command_semantics.specs.Next.{Clocks, next}
-use Rattle.command_semantics.specs.Planned.{tick_by}
-use Rattle.command_semantics.proofs.PlainEvents.{OpensNone}
-use Rattle.split_parts.specs.declared.event.Event.{Event}
 use Rattle.split_parts.specs.declared.event.Event.TheVariants as event
-use Rattle.split_stores.specs.Merged.{timed_at}
-use Rattle.split_stores.specs.Orders.{rise_by}
-use Rattle.log_refinement.specs.Follows.{opener, first_event}
 
 -- ---- the first event of a line
 -- the run of the line opens with it, at the time of its clock; it opens lines of the actor, and ticks as long as the line

@@ -1,15 +1,9 @@
 -- For split_driver.
 -- A log that follows the lines of its actor has the first event of each of them, in their order.
-use Rattle.std.proofs.Common.{◌≡◌, List, [], ◌∷◌, Option, Some, inl, inr, refl, sym, subst}
-use Rattle.std.specs.Prelude.{filter}
-use Rattle.history_book.specs.declared.item.Actor.{Actor}
-use Rattle.script_data.specs.declared.line.Line.{Line}
-use Rattle.script_data.specs.Data.{ScriptData}
-use Rattle.split_parts.specs.declared.event.Event.{Event}
-use Rattle.split_stores.specs.declared.seat.Entry.{Entry}
-use Rattle.split_stores.specs.Logs.{Logged}
-use Rattle.log_refinement.specs.Follows.{first_event, plain_event, TellsNoFirst, with_first, first_events, AreAmong, Follows, is_own, AllFollow, AllBegin}
-use Rattle.log_refinement.specs.Owed.{Standing, first_standing, gone_on, opened}
+use Rattle.log_refinement.proofs.Names.{◌≡◌, List, [], ◌∷◌, Option, Some, inl, inr, refl, sym, subst, filter, Actor}
+use Rattle.log_refinement.proofs.Names.{Line, ScriptData, Event, Entry, Logged, first_event, plain_event, TellsNoFirst}
+use Rattle.log_refinement.proofs.Names.{with_first, first_events, AreAmong, Follows, is_own, AllFollow, AllBegin}
+use Rattle.log_refinement.proofs.Names.{Standing, first_standing, gone_on, opened}
 use Rattle.log_refinement.proofs.OpeningLogs.{first_alone, plain_by}
 
 -- one line more

@@ -1,9 +1,6 @@
 -- Where an item stands in a list of items that another is put behind.
-use Rattle.std.proofs.Common.{◌≡◌, List, [], ◌∷◌, ◌++◌, ◌⊎◌, inl, inr, refl, sym, ap, subst}
-use Rattle.history_book.specs.Members.{◌∈◌}
-use Rattle.history_book.specs.declared.item.Item.{Item}
-use Rattle.history_book.proofs.MemberLemmas.{in_back}
-use Rattle.isolation_laws.proofs.Pushed.{in_append}
+use Rattle.log_refinement.proofs.Names.{◌≡◌, List, [], ◌∷◌, ◌++◌, ◌⊎◌, inl, inr, refl, sym, ap, subst, ◌∈◌, Item}
+use Rattle.log_refinement.proofs.Names.{in_back, in_append}
 
 -- ---- a list is taken apart at an item
 -- it stands in the first of two lists

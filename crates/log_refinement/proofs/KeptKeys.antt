@@ -1,22 +1,14 @@
 -- The log of a session has the keys that its open transaction wrote.
-use Rattle.std.proofs.Common.{◌≡◌, ℕ, ◌==◌, Bool, true, false, ◌||◌, if◌then◌else◌, List, [], ◌∷◌, ◌++◌, ◌⊎◌, inl, inr, refl, sym, ◌∙◌, ap, subst}
-use Rattle.std.specs.List.{list_any}
-use Rattle.std.proofs.lemmas.Bool.{eqb-true}
-use Rattle.history_book.specs.Members.{◌∈◌}
-use Rattle.history_book.specs.declared.item.Actor.{Actor}
-use Rattle.history_book.specs.declared.item.Actor.TheVariants.{Session}
-use Rattle.history_book.specs.declared.item.Item.{Item}
+use Rattle.log_refinement.proofs.Names.{◌≡◌, ℕ, ◌==◌, Bool, true, false, ◌||◌, if◌then◌else◌, List, [], ◌∷◌, ◌++◌, ◌⊎◌}
+use Rattle.log_refinement.proofs.Names.{inl, inr, refl, sym, ◌∙◌, ap, subst, list_any, eqb-true, ◌∈◌, Actor, Session}
+use Rattle.log_refinement.proofs.Names.{Item, in_front, in_last, in_push, SessionState, SessionEntry, has_key, Client}
+use Rattle.log_refinement.proofs.Names.{State, Verb, ClientAt, ExplainedInvariant, TurnUndone, SessionTransition, Rests}
+use Rattle.log_refinement.proofs.Names.{AsksBegin, AsksCommit, Begins, LosesBegin, Writes, Frees, Undoes, Hands}
+use Rattle.log_refinement.proofs.Names.{Commits, Refuses, LeavesOpen, Vanishes, IsGone, TakesAsks, with_key}
+use Rattle.log_refinement.proofs.Names.{written_after, Standing, standing_with, with_item, with_items, owed_first}
+use Rattle.log_refinement.proofs.Names.{opened}
 use Rattle.history_book.specs.declared.item.Item.TheVariants as item
-use Rattle.history_book.proofs.MemberLemmas.{in_front, in_last, in_push}
-use Rattle.system_parts.specs.declared.session.State.{State as SessionState}
 use Rattle.system_parts.specs.declared.session.State.TheVariants as phase
-use Rattle.system_parts.specs.SessionSteps.{SessionEntry, has_key}
-use Rattle.machine.specs.State.{Client, State}
-use Rattle.script_data.specs.declared.line.Verb.{Verb}
-use Rattle.isolation_laws.specs.Words.{ClientAt}
-use Rattle.cause_laws.specs.ShownInvariant.{ExplainedInvariant}
-use Rattle.request_completion.specs.SessionTransitions.{IsUndone as TurnUndone, SessionTransition, Rests, AsksBegin, AsksCommit, Begins, LosesBegin, Writes, Frees, Undoes, Hands, Commits, Refuses, LeavesOpen, Vanishes, IsGone, TakesAsks}
-use Rattle.log_refinement.specs.Owed.{with_key, written_after, Standing, standing_with, with_item, with_items, owed_first, opened}
 use Rattle.log_refinement.proofs.AskFacts.{MachineLaws, same_self}
 use Rattle.log_refinement.proofs.CommitTrails.{aborted_undone, IsUndone}
 use Rattle.log_refinement.proofs.Moves.{Move, items_of, state_after}

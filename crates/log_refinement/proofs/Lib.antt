@@ -1,3 +1,4 @@
+mod Names
 mod Weaving
 mod FirstEvents
 mod OpeningLogs

@@ -1,23 +1,13 @@
 -- What is played with one entry after the other is reached, where each kept what its step appends and the ticks are few.
-use Rattle.std.proofs.Common.{◌≡◌, ℕ, suc, ◌+◌, ◌≤◌, ◌^◌, List, [], ◌∷◌, Option, Some, None, refl, arith}
-use Rattle.std.specs.Prelude.{slice_index_or, unwrap_or, sum}
+use Rattle.log_refinement.proofs.Names.{◌≡◌, ℕ, suc, ◌+◌, ◌≤◌, ◌^◌, List, [], ◌∷◌, Option, Some, None, refl, arith}
+use Rattle.log_refinement.proofs.Names.{slice_index_or, unwrap_or, sum, Fate, AtEach, ScriptData, Clocks, with_tick}
+use Rattle.log_refinement.proofs.Names.{Played, fate_of, clocks_of, clock_after, Fit, fit_stays, TakesFit, takes_stay}
+use Rattle.log_refinement.proofs.Names.{EventsStayTold, IsTold, Event, Entry, timed_at, timed_in, played_with}
+use Rattle.log_refinement.proofs.Names.{entries_played, IsReplayed, rise_by, rises_in}
 use Rattle.std.proofs.lemmas.List.Sums.{sum_by-cons}
-use Rattle.port_io.specs.declared.weather.Fate.{Fate}
-use Rattle.history_book.specs.Members.{AtEach}
 use Rattle.machine.specs.declared.event.Event as machine
-use Rattle.script_data.specs.Data.{ScriptData}
-use Rattle.command_semantics.specs.Next.{Clocks}
-use Rattle.command_semantics.specs.Planned.{with_tick}
-use Rattle.command_semantics.specs.Runs.{Played, fate_of, clocks_of, clock_after}
-use Rattle.command_semantics.proofs.AlwaysFit.{Fit, fit_stays}
-use Rattle.command_semantics.proofs.Takes.{TakesFit, takes_stay}
 use Rattle.command_semantics.specs.SoFar.{ReadsClocks}
-use Rattle.command_semantics.specs.Orders.{EventsStayTold, IsTold}
-use Rattle.split_parts.specs.declared.event.Event.{Event}
 use Rattle.split_parts.specs.declared.event.Event.TheVariants as event
-use Rattle.split_stores.specs.declared.seat.Entry.{Entry}
-use Rattle.split_stores.specs.Merged.{timed_at, timed_in, played_with, entries_played, IsReplayed}
-use Rattle.split_stores.specs.Orders.{rise_by, rises_in}
 
 -- ---- what was played is reached, and stays so
 pub record IsGood (script : ScriptData) (p : Played) : Type 0 where

@@ -1,10 +1,6 @@
 -- One event at a place of a history, and past a session that has asked.
-use Rattle.std.proofs.Common.{ℕ, List, ◌++◌}
-use Rattle.port_io.specs.declared.weather.Fate.{Fate}
-use Rattle.history_book.specs.declared.item.Item.{Item}
+use Rattle.log_refinement.proofs.Names.{ℕ, List, ◌++◌, Fate, Item, Client, State, stepped}
 use Rattle.machine.specs.declared.event.Event.{Event}
-use Rattle.machine.specs.State.{Client, State}
-use Rattle.machine.specs.Machine.{stepped}
 
 -- ---- an event at a place of a history
 pub record Move : Type 0 where

@@ -1,22 +1,12 @@
 -- The log of an actor, which follows all lines of the actor, follows those that have an opening item.
-use Rattle.std.proofs.Common.{◌≡◌, ◌⊎◌, Bool, true, false, cond, ◌&&◌, List, [], ◌∷◌, Option, Some, None, inl, inr, refl, sym, ◌∙◌, ap, subst}
-use Rattle.std.specs.Prelude.{filter, is_some}
-use Rattle.std.specs.List.{AllZip}
-use Rattle.std.proofs.lemmas.Option.{none-some}
-use Rattle.history_book.specs.declared.item.Actor.{Actor}
-use Rattle.history_book.specs.declared.item.Actor.TheVariants.{Clock, Node, Session, Janitor}
-use Rattle.script_data.specs.declared.line.Line.{Line}
-use Rattle.script_data.specs.declared.line.Verb.{Verb}
+use Rattle.log_refinement.proofs.Names.{◌≡◌, ◌⊎◌, Bool, true, false, cond, ◌&&◌, List, [], ◌∷◌, Option, Some, None, inl}
+use Rattle.log_refinement.proofs.Names.{inr, refl, sym, ◌∙◌, ap, subst, filter, is_some, AllZip, none-some, Actor}
+use Rattle.log_refinement.proofs.Names.{Clock, Node, Session, Janitor, Line, Verb, ScriptData, has_opening, is_of}
+use Rattle.log_refinement.proofs.Names.{actor_same, Event, Entry, Logged, FollowsLines, opener, first_event}
+use Rattle.log_refinement.proofs.Names.{plain_event, IsLater, Follows, is_own, AllFollow, Standing, first_standing}
+use Rattle.log_refinement.proofs.Names.{gone_on, opened, is_paid}
 use Rattle.script_data.specs.declared.line.Verb.TheVariants as verb
-use Rattle.script_data.specs.Data.{ScriptData}
-use Rattle.command_semantics.specs.Answers.{has_opening, is_of}
-use Rattle.command_semantics.proofs.ScriptWalks.{actor_same}
-use Rattle.split_parts.specs.declared.event.Event.{Event}
 use Rattle.split_parts.specs.declared.event.Event.TheVariants as event
-use Rattle.split_stores.specs.declared.seat.Entry.{Entry}
-use Rattle.split_stores.specs.Logs.{Logged}
-use Rattle.log_refinement.specs.Follows.{FollowsLines, opener, first_event, plain_event, IsLater, Follows, is_own, AllFollow}
-use Rattle.log_refinement.specs.Owed.{Standing, first_standing, gone_on, opened, is_paid}
 
 -- ---- the walk over lines that have an opening item
 -- the entries open these lines one after the other, and those between append no item that opens one

@@ -1,33 +1,12 @@
 -- The entries of an actor's log open lines of that actor alone, and append no item that opens a line of another.
-use Rattle.std.proofs.Common.{◌≡◌, ◌<◌, Bool, true, false, cond, List, [], ◌∷◌, Some, None, ◌⊎◌, inl, inr, refl, sym, ◌∙◌, ap, subst}
-use Rattle.std.specs.Prelude.{filter}
-use Rattle.std.proofs.lemmas.Option.{same_Some, none-some}
-use Rattle.stamp_base.specs.SetupNumbers.{SetupNumbers}
-use Rattle.port_io.specs.declared.weather.Fate.{Fate}
-use Rattle.history_book.specs.Members.{◌∈◌}
-use Rattle.history_book.specs.declared.item.Actor.{Actor}
-use Rattle.history_book.specs.declared.item.Actor.TheVariants.{Clock}
-use Rattle.history_book.specs.declared.item.Item.{Item}
-use Rattle.machine.specs.State.{State}
-use Rattle.machine.specs.Machine.{stepped}
-use Rattle.script_data.specs.declared.line.Line.{Line}
-use Rattle.isolation_laws.specs.Sound.{ReachedInvariant}
+use Rattle.log_refinement.proofs.Names.{◌≡◌, ◌<◌, Bool, true, false, cond, List, [], ◌∷◌, Some, None, ◌⊎◌, inl, inr}
+use Rattle.log_refinement.proofs.Names.{refl, sym, ◌∙◌, ap, subst, filter, same_Some, none-some, SetupNumbers, Fate}
+use Rattle.log_refinement.proofs.Names.{◌∈◌, Actor, Clock, Item, State, stepped, Line, ReachedInvariant, same_actor}
+use Rattle.log_refinement.proofs.Names.{has_opening, is_of, ActorFits, VerbFits, AreLinesOf, Clocks, view_of, Fit}
+use Rattle.log_refinement.proofs.Names.{events_plain, actor_same, both_true, AllNot, plain_not, Event, Entry, timed_at}
+use Rattle.log_refinement.proofs.Names.{rise_by, opener, first_event, Standing, gone_on, opened}
 use Rattle.command_semantics.specs.declared.point.Point.TheVariants.{Opens}
-use Rattle.command_semantics.specs.Answers.{same_actor, has_opening, is_of}
-use Rattle.command_semantics.specs.Laws.{ActorFits, VerbFits, AreLinesOf}
-use Rattle.command_semantics.specs.Next.{Clocks}
-use Rattle.command_semantics.specs.Views.{view_of}
-use Rattle.command_semantics.proofs.AlwaysFit.{Fit}
 use Rattle.command_semantics.proofs.LineWalks.{any_not}
-use Rattle.command_semantics.proofs.PlainEvents.{events_plain}
-use Rattle.command_semantics.proofs.ScriptWalks.{actor_same, both_true}
-use Rattle.command_semantics.proofs.Walks.{AllNot, plain_not}
-use Rattle.split_parts.specs.declared.event.Event.{Event}
-use Rattle.split_stores.specs.declared.seat.Entry.{Entry}
-use Rattle.split_stores.specs.Merged.{timed_at}
-use Rattle.split_stores.specs.Orders.{rise_by}
-use Rattle.log_refinement.specs.Follows.{opener, first_event}
-use Rattle.log_refinement.specs.Owed.{Standing, gone_on, opened}
 use Rattle.log_refinement.proofs.FirstEvents.{first_is, first_own, none_opens, quiet_rise}
 use Rattle.log_refinement.proofs.OpeningLogs.{FollowsOpened}
 

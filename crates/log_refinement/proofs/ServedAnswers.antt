@@ -1,19 +1,12 @@
 -- A history that serves the lines of a script answers them, at the same places.
-use Rattle.std.proofs.Common.{◌≡◌, ℕ, Bool, true, false, if◌then◌else◌, List, [], ◌∷◌, ◌++◌, Option, None, Some, inl, inr, refl, subst}
-use Rattle.std.specs.Prelude.{filter}
-use Rattle.history_book.specs.declared.item.Actor.{Actor}
+use Rattle.log_refinement.proofs.Names.{◌≡◌, ℕ, Bool, true, false, if◌then◌else◌, List, [], ◌∷◌, ◌++◌, Option, None}
+use Rattle.log_refinement.proofs.Names.{Some, inl, inr, refl, subst, filter, Actor, Item, ScriptData, Line, Target}
+use Rattle.log_refinement.proofs.Names.{Verb, Opens, read_begun, asks_last, Answered, is_of, ends_read, Begun, Reads}
+use Rattle.log_refinement.proofs.Names.{Asks, begun_by, begun_after, HasEnded, AnsweredServed, ServedHistoriesAnswer}
 use Rattle.history_book.specs.declared.item.StoreStep.TheVariants as step
-use Rattle.history_book.specs.declared.item.Item.{Item}
 use Rattle.history_book.specs.declared.item.Item.TheVariants as item
-use Rattle.script_data.specs.Data.{ScriptData}
-use Rattle.script_data.specs.declared.line.Line.{Line}
-use Rattle.script_data.specs.declared.line.Target.{Target}
-use Rattle.script_data.specs.declared.line.Verb.{Verb}
 use Rattle.script_data.specs.declared.line.Verb.TheVariants as verb
-use Rattle.command_semantics.specs.Answers.{Opens, read_begun, asks_last, Answered, is_of}
-use Rattle.log_refinement.specs.Owed.{ends_read}
-use Rattle.log_refinement.specs.Served.{Begun, Nothing, Reads, Asks, begun_by, begun_after, HasEnded, AnsweredServed}
-use Rattle.log_refinement.specs.Laws.{ServedHistoriesAnswer}
+use Rattle.log_refinement.specs.Served.{Nothing}
 use Rattle.log_refinement.proofs.WalkedItems.{ends_is}
 
 -- the read that a line has begun

@@ -1,32 +1,15 @@
 -- Entries among which the log of an actor stands, which follows its lines, serve these lines.
-use Rattle.std.proofs.Common.{◌≡◌, ℕ, ◌<◌, arith, length, false, Bool, true, List, [], ◌∷◌, ◌++◌, Some, None, inl, inr, refl, sym, ◌∙◌, ap, subst}
-use Rattle.stamp_base.specs.SetupNumbers.{SetupNumbers}
-use Rattle.history_book.specs.declared.item.Actor.{Actor}
-use Rattle.history_book.specs.declared.item.Actor.TheVariants.{Session}
-use Rattle.history_book.specs.declared.item.Item.{Item}
+use Rattle.log_refinement.proofs.Names.{◌≡◌, ℕ, ◌<◌, arith, length, false, Bool, true, List, [], ◌∷◌, ◌++◌, Some, None}
+use Rattle.log_refinement.proofs.Names.{inl, inr, refl, sym, ◌∙◌, ap, subst, SetupNumbers, Actor, Session, Item, Line}
+use Rattle.log_refinement.proofs.Names.{Target, Verb, ScriptData, IsAnswer, asks_last, ActorFits, VerbFits, last_master}
+use Rattle.log_refinement.proofs.Names.{Played, fate_of, AllNot, plain_not, ◌∈◌, Step, stepped, node_for, Event, Entry}
+use Rattle.log_refinement.proofs.Names.{timed_at, timed_in, played_with, IsReplayed, kept_items, Ends, opener}
+use Rattle.log_refinement.proofs.Names.{first_event, Standing, is_step, is_paid, with_items, gone_on, opened}
+use Rattle.log_refinement.proofs.Names.{others_serve, Begun, begun_by, HasEnded, AnsweredServed}
 use Rattle.history_book.specs.declared.item.Item.TheVariants as item
-use Rattle.script_data.specs.declared.line.Line.{Line}
-use Rattle.script_data.specs.declared.line.Target.{Target}
 use Rattle.script_data.specs.declared.line.Target.TheVariants as target
-use Rattle.script_data.specs.declared.line.Verb.{Verb}
-use Rattle.script_data.specs.Data.{ScriptData}
-use Rattle.command_semantics.specs.Answers.{IsAnswer, asks_last}
-use Rattle.command_semantics.specs.Laws.{ActorFits, VerbFits}
-use Rattle.command_semantics.specs.Master.{last_master}
-use Rattle.command_semantics.specs.Runs.{Played, fate_of}
 use Rattle.command_semantics.proofs.OpeningItems.{Begins}
-use Rattle.command_semantics.proofs.Walks.{AllNot, plain_not}
-use Rattle.history_book.specs.Members.{◌∈◌}
-use Rattle.machine.specs.Machine.{Step, stepped}
 use Rattle.machine.specs.declared.event.Event.TheVariants as machine_event
-use Rattle.split_parts.specs.Parts.{node_for}
-use Rattle.split_parts.specs.declared.event.Event.{Event}
-use Rattle.split_stores.specs.declared.seat.Entry.{Entry}
-use Rattle.split_stores.specs.Merged.{timed_at, timed_in, played_with, IsReplayed, kept_items}
-use Rattle.request_completion.specs.Ends.{Ends}
-use Rattle.log_refinement.specs.Follows.{opener, first_event}
-use Rattle.log_refinement.specs.Owed.{Standing, is_step, is_paid, with_items, gone_on, opened}
-use Rattle.log_refinement.specs.Served.{others_serve, Begun, begun_by, HasEnded, AnsweredServed}
 use Rattle.log_refinement.proofs.AskFacts.{MachineLaws}
 use Rattle.log_refinement.proofs.AskPlaces.{Known, client_before}
 use Rattle.log_refinement.proofs.KeptKeys.{KeysKept, keys_later, items_keep, items_take, opened_keep, opened_take}

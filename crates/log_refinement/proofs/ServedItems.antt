@@ -1,41 +1,23 @@
 -- The walk of a history along an actor's lines, over the items of one entry: what a line has begun, and what is owed of it.
-use Rattle.std.proofs.Common.{◌≡◌, ℕ, ◌==◌, ◌<◌, Bool, true, false, if◌then◌else◌, List, [], ◌∷◌, ◌++◌, Option, Some, None, ◌⊎◌, inl, inr, refl, sym, ◌∙◌, ap, subst, append_assoc, arith, length}
-use Rattle.std.proofs.lemmas.Option.{same_Some}
-use Rattle.stamp_base.specs.SetupNumbers.{SetupNumbers}
-use Rattle.std.proofs.lemmas.Bool.{and_parts, cases_Bool, eqb-true}
-use Rattle.std.proofs.lemmas.List.{append-nil}
-use Rattle.port_io.specs.declared.weather.Fate.{Fate}
-use Rattle.history_book.specs.Members.{◌∈◌}
-use Rattle.history_book.specs.declared.item.Actor.{Actor}
-use Rattle.history_book.specs.declared.item.Actor.TheVariants.{Clock, Node, Session, Janitor}
+use Rattle.log_refinement.proofs.Names.{◌≡◌, ℕ, ◌==◌, ◌<◌, Bool, true, false, if◌then◌else◌, List, [], ◌∷◌, ◌++◌}
+use Rattle.log_refinement.proofs.Names.{Option, Some, None, ◌⊎◌, inl, inr, refl, sym, ◌∙◌, ap, subst, append_assoc}
+use Rattle.log_refinement.proofs.Names.{arith, length, same_Some, SetupNumbers, and_parts, cases_Bool, eqb-true}
+use Rattle.log_refinement.proofs.Names.{append-nil, Fate, ◌∈◌, Actor, Clock, Node, Session, Janitor, Item, in_front}
+use Rattle.log_refinement.proofs.Names.{in_back, State, Ask, ScriptData, Line, Target, Verb, IsAnswer, asks_last}
+use Rattle.log_refinement.proofs.Names.{last_master, ActorFits, TargetFits, VerbFits, found, AllNot, Event, timed_at}
+use Rattle.log_refinement.proofs.Names.{Due, Owed, OwesNothing, Read, Answer, Denied, Removal, Erasure, Quiet}
+use Rattle.log_refinement.proofs.Names.{ends_read, Standing, with_item, with_items, is_paid, is_due, due_after}
+use Rattle.log_refinement.proofs.Names.{denies_request, when_due, after_due, repeats, after_repeat, is_step, opened}
+use Rattle.log_refinement.proofs.Names.{standing_with, first_event, others_serve, HasCrashed, WasDenied, IsLeft}
+use Rattle.log_refinement.proofs.Names.{HasCome, Begun, Reads, Asks, begun_by, begun_after, HasEnded, AnsweredServed}
 use Rattle.history_book.specs.declared.item.StoreStep.TheVariants as step
-use Rattle.history_book.specs.declared.item.Item.{Item}
 use Rattle.history_book.specs.declared.item.Item.TheVariants as item
-use Rattle.history_book.proofs.MemberLemmas.{in_front, in_back}
 use Rattle.machine.specs.declared.event.Event.TheVariants as made
-use Rattle.machine.specs.State.{State}
-use Rattle.cause_rules.specs.Asks.{Ask}
-use Rattle.script_data.specs.Data.{ScriptData}
-use Rattle.script_data.specs.declared.line.Line.{Line}
-use Rattle.script_data.specs.declared.line.Target.{Target}
 use Rattle.script_data.specs.declared.line.Target.TheVariants as target
-use Rattle.script_data.specs.declared.line.Verb.{Verb}
 use Rattle.script_data.specs.declared.line.Verb.TheVariants as verb
-use Rattle.command_semantics.specs.Answers.{IsAnswer, asks_last}
-use Rattle.command_semantics.specs.Master.{last_master}
-use Rattle.command_semantics.specs.Laws.{ActorFits, TargetFits, VerbFits}
-use Rattle.command_semantics.proofs.AlwaysFit.{found}
-use Rattle.command_semantics.proofs.Walks.{AllNot}
-use Rattle.split_parts.specs.declared.event.Event.{Event}
 use Rattle.split_parts.specs.declared.event.Event.TheVariants as event
-use Rattle.split_stores.specs.Merged.{timed_at}
-use Rattle.log_refinement.specs.declared.owed.Due.{Due}
 use Rattle.log_refinement.specs.declared.owed.Due.TheVariants as due
-use Rattle.log_refinement.specs.declared.owed.Owed.{Owed}
-use Rattle.log_refinement.specs.declared.owed.Owed.TheVariants.{Nothing as OwesNothing, Read, Answer, Denied, Removal, Erasure, Quiet}
-use Rattle.log_refinement.specs.Owed.{ends_read, Standing, with_item, with_items, is_paid, is_due, due_after, denies_request, when_due, after_due, repeats, after_repeat, is_step, opened, standing_with}
-use Rattle.log_refinement.specs.Follows.{first_event}
-use Rattle.log_refinement.specs.Served.{others_serve, HasCrashed, WasDenied, IsLeft, HasCome, Begun, Nothing, Reads, Asks, begun_by, begun_after, HasEnded, AnsweredServed}
+use Rattle.log_refinement.specs.Served.{Nothing}
 use Rattle.log_refinement.proofs.AskFacts.{MachineLaws, if_either, was_denied, EndsBy}
 use Rattle.log_refinement.proofs.DueRequests.{HeldAt, NodeShows}
 use Rattle.log_refinement.proofs.ShownRequests.{AsksNode, crashed_or_not}

@@ -1,13 +1,8 @@
 -- Where nobody else serves what a session asks, a history that serves the script ends its asks by their outcomes.
-use Rattle.std.proofs.Common.{◌≡◌, Bool, true, false, List, [], ◌∷◌, ◌++◌, inl, inr}
-use Rattle.std.specs.Prelude.{filter}
-use Rattle.history_book.specs.declared.item.Actor.{Actor}
-use Rattle.history_book.specs.declared.item.Item.{Item}
-use Rattle.script_data.specs.declared.line.Line.{Line}
-use Rattle.script_data.specs.Data.{ScriptData}
-use Rattle.command_semantics.specs.Answers.{is_of}
-use Rattle.log_refinement.specs.Served.{Begun, Nothing, Reads, Asks, begun_by, begun_after, HasEnded, AnsweredServed, HasOutcome}
-use Rattle.log_refinement.specs.Laws.{ScriptsWithoutStageLinesAreServed}
+use Rattle.log_refinement.proofs.Names.{◌≡◌, Bool, true, false, List, [], ◌∷◌, ◌++◌, inl, inr, filter, Actor, Item}
+use Rattle.log_refinement.proofs.Names.{Line, ScriptData, is_of, Begun, Reads, Asks, begun_by, begun_after, HasEnded}
+use Rattle.log_refinement.proofs.Names.{AnsweredServed, HasOutcome, ScriptsWithoutStageLinesAreServed}
+use Rattle.log_refinement.specs.Served.{Nothing}
 
 not_both : (b : Bool) → b ≡ true → b ≡ false → ⊥
 not_both true is none = let clash : true ≡ false = none in cc

@@ -1,33 +1,19 @@
 -- The history that logs settle into, which follow the lines of a script, answers the script and is as it plans.
-use Rattle.std.proofs.Common.{◌≡◌, ℕ, ◌≤◌, List, [], None, refl, sym, ◌∙◌, ap, subst, arith}
-use Rattle.std.specs.Prelude.{filter, sum, IsTrue}
-use Rattle.history_book.specs.Members.{◌∈◌}
-use Rattle.history_book.specs.declared.item.Actor.{Actor}
-use Rattle.history_book.specs.declared.item.Actor.TheVariants.{Clock, Session}
-use Rattle.history_book.specs.declared.item.Item.{Item}
-use Rattle.system_parts.specs.declared.session.State.{State as SessionState}
-use Rattle.system_parts.specs.SessionSteps.{has_transaction}
+use Rattle.log_refinement.proofs.Names.{◌≡◌, ℕ, ◌≤◌, List, [], None, refl, sym, ◌∙◌, ap, subst, arith, filter, sum}
+use Rattle.log_refinement.proofs.Names.{IsTrue, ◌∈◌, Actor, Clock, Session, Item, SessionState, has_transaction}
+use Rattle.log_refinement.proofs.Names.{ScriptData, is_of, asks_last, Answered, ticks_in, opening_played, fit_at_first}
+use Rattle.log_refinement.proofs.Names.{takes_at_first, EventsStayTold, ticks_made, actors_of, Logged, kept_items}
+use Rattle.log_refinement.proofs.Names.{IsSettledAt, Settled, logs_of, rises_in, without_lines, SettledByPlans}
+use Rattle.log_refinement.proofs.Names.{IsOrdered, SettledIsOrdered, SettledIsPlanned, AllRise, IsCarried}
+use Rattle.log_refinement.proofs.Names.{SettledLogsAnswer, SettledLogsArePlanned, SettledLogsKeepService}
+use Rattle.log_refinement.proofs.Names.{SettledLogsServe, first_standing, HasEnded, AnsweredServed}
 use Rattle.cause_laws.proofs.AlwaysExplained.{tells_at_first}
-use Rattle.script_data.specs.Data.{ScriptData}
-use Rattle.command_semantics.specs.Answers.{is_of, asks_last, Answered}
-use Rattle.command_semantics.specs.Planned.{ticks_in}
-use Rattle.command_semantics.specs.Runs.{opening_played}
-use Rattle.command_semantics.proofs.AlwaysFit.{fit_at_first}
 use Rattle.command_semantics.proofs.Ending.{opening_reached}
-use Rattle.command_semantics.proofs.Takes.{takes_at_first}
-use Rattle.command_semantics.specs.Orders.{EventsStayTold, ticks_made}
 use Rattle.script_data.specs.Ticks.{ticks_of}
 use Rattle.script_service.specs.Service.{OrdersKeepService}
 use Rattle.service_rules.specs.Service.{KeepsService}
 use Rattle.cluster_core.specs.ClusterModel.{ClusterModel}
-use Rattle.thread_scripts.specs.Actors.{actors_of}
-use Rattle.split_stores.specs.Logs.{Logged}
-use Rattle.split_stores.specs.Merged.{kept_items, IsSettledAt, Settled}
-use Rattle.split_stores.specs.Merging.{logs_of}
-use Rattle.split_stores.specs.Orders.{rises_in, without_lines, SettledByPlans, IsOrdered, SettledIsOrdered, SettledIsPlanned}
-use Rattle.log_refinement.specs.Laws.{AllRise, IsCarried, SettledLogsAnswer, SettledLogsArePlanned, SettledLogsKeepService, SettledLogsServe}
-use Rattle.log_refinement.specs.Owed.{first_standing}
-use Rattle.log_refinement.specs.Served.{HasEnded, Nothing, AnsweredServed}
+use Rattle.log_refinement.specs.Served.{Nothing}
 use Rattle.log_refinement.proofs.AskFacts.{MachineLaws}
 use Rattle.log_refinement.proofs.ActorLogs.{WovenLog, woven_log}
 use Rattle.log_refinement.proofs.ClockTicks.{rises_as_lines, ticks_most}

@@ -1,49 +1,24 @@
 -- What a session has asked stands at its node as far as its log shows it, where nobody else serves it and the node has not crashed.
-use Rattle.std.proofs.Common.{◌≡◌, ℕ, ◌==◌, ◌&&◌, ◌||◌, Bool, true, false, cond, if◌then◌else◌, List, [], ◌∷◌, Option, None, Some, Ok, ◌⊎◌, inl, inr, refl, sym, ◌∙◌, ap, subst, ◌<◌, length}
-use Rattle.std.specs.Prelude.{slice_get, slice_set, filter}
-use Rattle.std.specs.List.{list_any}
-use Rattle.std.proofs.lemmas.Bool.{cases_eq, eqb-true}
-use Rattle.std.proofs.lemmas.Option.{same_Some, none-some}
-use Rattle.stamp_base.specs.SetupNumbers.{SetupNumbers}
-use Rattle.port_io.specs.declared.weather.Fate.{Fate}
-use Rattle.history_book.specs.Members.{◌∈◌}
-use Rattle.history_book.specs.declared.cause.Cause.{Cause}
+use Rattle.log_refinement.proofs.Names.{◌≡◌, ℕ, ◌==◌, ◌&&◌, ◌||◌, Bool, true, false, cond, if◌then◌else◌, List, [], ◌∷◌}
+use Rattle.log_refinement.proofs.Names.{Option, None, Some, Ok, ◌⊎◌, inl, inr, refl, sym, ◌∙◌, ap, subst, ◌<◌, length}
+use Rattle.log_refinement.proofs.Names.{slice_get, slice_set, filter, list_any, cases_eq, eqb-true, same_Some}
+use Rattle.log_refinement.proofs.Names.{none-some, SetupNumbers, Fate, ◌∈◌, Cause, Actor, Node, Session, Janitor, Item}
+use Rattle.log_refinement.proofs.Names.{begin_refusal, work_refusal, Request, InstanceEntry, held_of, with_request}
+use Rattle.log_refinement.proofs.Names.{in_flight, session_of, InstanceStep, stays, just_asked, Client, State}
+use Rattle.log_refinement.proofs.Names.{is_reading, Step, stepped, set_found, held_of-with_request_same, of_both, Line}
+use Rattle.log_refinement.proofs.Names.{Verb, ScriptData, node_for, Event, Entry, timed_at, touches, Due, Owed, Nothing}
+use Rattle.log_refinement.proofs.Names.{Read, Answer, Denied, Removal, Erasure, Quiet, Standing, with_item, with_items}
+use Rattle.log_refinement.proofs.Names.{after_due, repeats, after_repeat, is_step, gone_on, opened, opener, plain_event}
+use Rattle.log_refinement.proofs.Names.{IsLater, Follows, is_stage_for, others_serve, HasCrashed}
 use Rattle.history_book.specs.declared.cause.Cause.TheVariants as cause
-use Rattle.history_book.specs.declared.item.Actor.{Actor}
-use Rattle.history_book.specs.declared.item.Actor.TheVariants.{Node, Session, Janitor}
-use Rattle.history_book.specs.declared.item.Item.{Item}
 use Rattle.history_book.specs.declared.item.Item.TheVariants as item
-use Rattle.system_parts.specs.SessionSteps.{begin_refusal, work_refusal}
-use Rattle.system_parts.specs.declared.instance.Request.{Request}
 use Rattle.system_parts.specs.declared.instance.Request.TheVariants as request
-use Rattle.system_parts.specs.Instance.{InstanceEntry, held_of, with_request, in_flight, session_of}
-use Rattle.system_parts.specs.InstanceSteps.{InstanceStep, stays, just_asked}
-use Rattle.machine.specs.State.{Client, State}
-use Rattle.machine.specs.Clients.{is_reading}
 use Rattle.machine.specs.declared.event.Event.TheVariants as made
-use Rattle.machine.specs.Machine.{Step, stepped}
 use Rattle.machine.specs.Events.AskBegin.{asked_by, ask_begin_by}
 use Rattle.machine.specs.Events.AskCommit.{commit_of, ask_commit_by}
-use Rattle.machine.proofs.Lookups.{set_found}
-use Rattle.system_parts.proofs.InstanceRequests.{held_of-with_request_same}
-use Rattle.machine.proofs.LookedUp.{of_both}
-use Rattle.script_data.specs.declared.line.Line.{Line}
-use Rattle.script_data.specs.declared.line.Verb.{Verb}
 use Rattle.script_data.specs.declared.line.Verb.TheVariants as verb
-use Rattle.script_data.specs.Data.{ScriptData}
-use Rattle.split_parts.specs.Parts.{node_for}
-use Rattle.split_parts.specs.declared.event.Event.{Event}
 use Rattle.split_parts.specs.declared.event.Event.TheVariants as event
-use Rattle.split_stores.specs.declared.seat.Entry.{Entry}
-use Rattle.split_stores.specs.Merged.{timed_at}
-use Rattle.grant_laws.specs.Turns.{touches}
-use Rattle.log_refinement.specs.declared.owed.Due.{Due}
 use Rattle.log_refinement.specs.declared.owed.Due.TheVariants as due
-use Rattle.log_refinement.specs.declared.owed.Owed.{Owed}
-use Rattle.log_refinement.specs.declared.owed.Owed.TheVariants.{Nothing, Read, Answer, Denied, Removal, Erasure, Quiet}
-use Rattle.log_refinement.specs.Owed.{Standing, with_item, with_items, after_due, repeats, after_repeat, is_step, gone_on, opened}
-use Rattle.log_refinement.specs.Follows.{opener, plain_event, IsLater, Follows}
-use Rattle.log_refinement.specs.Served.{is_stage_for, others_serve, HasCrashed}
 use Rattle.log_refinement.proofs.DueRequests.{HeldAt, NodeShows, CanDecide, IsRest, shows_rest, shows_past, owed_over, rest_over, due_rest, own_answer}
 use Rattle.log_refinement.proofs.FirstEvents.{first_own}
 use Rattle.log_refinement.proofs.OtherLogs.{IsOther}

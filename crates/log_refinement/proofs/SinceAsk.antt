@@ -1,17 +1,10 @@
 -- A history since the ask of a session, in which the session opens no further line.
-use Rattle.std.proofs.Common.{◌≡◌, ℕ, ◌==◌, Bool, false, ◌&&◌, if◌then◌else◌, List, [], ◌∷◌, ◌++◌, None, Some, inl, inr, refl, sym, ◌∙◌, ap, subst, append_assoc}
-use Rattle.std.specs.Prelude.{All}
-use Rattle.std.proofs.lemmas.Bool.{cases_Bool, eqb-true}
-use Rattle.std.proofs.lemmas.List.Elements.{All-nil, All-cons}
-use Rattle.history_book.specs.Members.{◌∈◌}
-use Rattle.history_book.specs.declared.item.Actor.TheVariants.{Session}
-use Rattle.history_book.specs.declared.item.Item.{Item}
+use Rattle.log_refinement.proofs.Names.{◌≡◌, ℕ, ◌==◌, Bool, false, ◌&&◌, if◌then◌else◌, List, [], ◌∷◌, ◌++◌, None, Some}
+use Rattle.log_refinement.proofs.Names.{inl, inr, refl, sym, ◌∙◌, ap, subst, append_assoc, All, cases_Bool, eqb-true}
+use Rattle.log_refinement.proofs.Names.{All-nil, All-cons, ◌∈◌, Session, Item, Ask, ask_by, asks_for, its_ask}
+use Rattle.log_refinement.proofs.Names.{since_ask, last_told-same, since-more, Opens, AllNot, not_append, NoAsk}
+use Rattle.log_refinement.proofs.Names.{NoneAsks}
 use Rattle.history_book.specs.declared.item.Item.TheVariants as item
-use Rattle.cause_rules.specs.Asks.{Ask, ask_by, asks_for, its_ask, since_ask}
-use Rattle.cause_laws.proofs.SinceWords.{last_told-same, since-more}
-use Rattle.command_semantics.specs.Answers.{Opens}
-use Rattle.command_semantics.proofs.Walks.{AllNot, not_append}
-use Rattle.request_completion.specs.Overs.{NoAsk, NoneAsks}
 
 -- ---- items with which the session opens no line
 pub in_not : (s : ℕ) (xs : List Item) (x : Item) → AllNot (Session s) xs → x ∈ xs → Opens (Session s) x → ⊥

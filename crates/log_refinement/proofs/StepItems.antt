@@ -1,19 +1,16 @@
 -- What the items of a session's step say of it: a fault, a removal or an idle refusal that it rests then; an erase what it undoes.
-use Rattle.std.proofs.Common.{◌≡◌, ℕ, Bool, true, false, List, [], ◌∷◌, ◌++◌, Option, None, Some, inl, inr, refl, sym, ◌∙◌, ap, subst}
-use Rattle.std.proofs.lemmas.Option.{none-some}
-use Rattle.std.specs.Prelude.{slice_get, slice_set, IsTrue, if◌then◌else◌}
-use Rattle.stamp_base.specs.declared.stores.Mark.{Mark}
-use Rattle.port_io.specs.declared.weather.Fate.{Fate}
-use Rattle.port_io.specs.declared.weather.Fate.TheVariants.{Works, FailsUnchanged, FailsApplied}
-use Rattle.history_book.specs.Members.{◌∈◌}
-use Rattle.history_book.specs.declared.cause.Cause.{Cause}
+use Rattle.log_refinement.proofs.Names.{◌≡◌, ℕ, Bool, true, false, List, [], ◌∷◌, ◌++◌, Option, None, Some, inl, inr}
+use Rattle.log_refinement.proofs.Names.{refl, sym, ◌∙◌, ap, subst, none-some, slice_get, slice_set, IsTrue, Mark, Fate}
+use Rattle.log_refinement.proofs.Names.{Works, FailsUnchanged, FailsApplied, ◌∈◌, Cause, Session, Item, Pairs, mark_of}
+use Rattle.log_refinement.proofs.Names.{SessionState, SessionEntry, step_refusal, handed_by, handed_commit}
+use Rattle.log_refinement.proofs.Names.{has_transaction, UnderWay, Settles, Completes, Client, State, is_reading}
+use Rattle.log_refinement.proofs.Names.{is_reading_by, client_freed, Effect, Step, stepped, at_client, step_by}
+use Rattle.log_refinement.proofs.Names.{with_client, ClientAt, ReachedInvariant, client_set, one_client, set_found}
+use Rattle.std.specs.Prelude.{if◌then◌else◌}
 use Rattle.history_book.specs.declared.cause.Cause.TheVariants as cause
-use Rattle.history_book.specs.declared.item.Actor.TheVariants.{Session}
 use Rattle.history_book.specs.declared.item.StoreStep.TheVariants as step
-use Rattle.history_book.specs.declared.item.Item.{Item}
 use Rattle.history_book.specs.declared.item.Item.TheVariants as item
 use Rattle.system_parts.specs.Rows.{Row}
-use Rattle.system_parts.specs.Pairs.{Pairs, mark_of}
 use Rattle.system_parts.specs.declared.asks.Ask.{Ask}
 use Rattle.system_parts.specs.declared.asks.Ask.TheVariants as ask
 use Rattle.system_parts.specs.declared.asks.Told.{Told}
@@ -21,26 +18,19 @@ use Rattle.system_parts.specs.declared.asks.Told.TheVariants as told
 use Rattle.system_parts.specs.declared.resolve.Outcome.TheVariants as outcome
 use Rattle.system_parts.specs.declared.resolve.SettlePoint.{SettlePoint}
 use Rattle.system_parts.specs.declared.resolve.SettlePoint.TheVariants as point
-use Rattle.system_parts.specs.declared.session.State.{State as SessionState}
 use Rattle.system_parts.specs.declared.session.State.TheVariants as phase
 use Rattle.system_parts.specs.Completion.{finish_asks, undo_asks}
 use Rattle.system_parts.specs.KeyRead.{Reading, ReadTurn, Asks, Answers, read_ask}
 use Rattle.system_parts.specs.Recalled.{Remembering}
 use Rattle.system_parts.specs.Resolve.{Settling, own_settling, ask_at, settle_ask, SettleTurn, Decides, settle_turn}
-use Rattle.system_parts.specs.SessionSteps.{SessionEntry, step_refusal, handed_by, handed_commit, has_transaction}
 use Rattle.machine.specs.declared.event.Event.TheVariants as event
-use Rattle.machine.specs.State.{UnderWay, Nothing, Reads, Settles, Completes, Client, State}
-use Rattle.machine.specs.Clients.{is_reading, is_reading_by, client_freed}
-use Rattle.machine.specs.Effect.{Effect}
+use Rattle.machine.specs.State.{Nothing, Reads}
 use Rattle.machine.specs.Events.Fetch.{client_recalled, client_put_fresh, read_items}
 use Rattle.machine.specs.Events.Place.{place_by}
 use Rattle.machine.specs.Events.Step.{StepParts, step_recall, settle_items, client_settled, read_step, settle_step, complete_step, placed_among, after_asks, own_resolve, work_by, work_of, step_at, step_due, step_by as step_refused, step_on}
-use Rattle.machine.specs.Machine.{Step, stepped, at_client, step_by, with_client}
 use Rattle.machine.specs.StoreSteps.{met, entry_of, mark_item, step_item, mark_kept, effect_items, store_of, told_by}
-use Rattle.isolation_laws.specs.Words.{ClientAt, Begun}
-use Rattle.isolation_laws.specs.Sound.{ReachedInvariant}
+use Rattle.isolation_laws.specs.Words.{Begun}
 use Rattle.isolation_laws.specs.UnderWay.{IsUndo}
-use Rattle.machine.proofs.Lookups.{client_set, one_client, set_found}
 
 -- ---- what items say
 -- the session neither places a commit nor completes a transaction

@@ -1,28 +1,14 @@
 -- Entries among which the log of an actor stands, which follows its lines, answer these lines.
-use Rattle.std.proofs.Common.{◌≡◌, ℕ, ◌<◌, true, List, [], ◌∷◌, ◌++◌, Option, Some, None, inl, inr, refl, sym, subst}
-use Rattle.stamp_base.specs.SetupNumbers.{SetupNumbers}
-use Rattle.history_book.specs.declared.item.Actor.{Actor}
-use Rattle.history_book.specs.declared.item.Item.{Item}
+use Rattle.log_refinement.proofs.Names.{◌≡◌, ℕ, ◌<◌, true, List, [], ◌∷◌, ◌++◌, Option, Some, None, inl, inr, refl, sym}
+use Rattle.log_refinement.proofs.Names.{subst, SetupNumbers, Actor, Item, State, Line, Target, ScriptData, IsAnswer}
+use Rattle.log_refinement.proofs.Names.{asks_last, Answered, ActorFits, VerbFits, Clocks, target_node, Played, fate_of}
+use Rattle.log_refinement.proofs.Names.{clocks_of, view_of, events_plain, last_fits, AllNot, plain_not, Entry, timed_in}
+use Rattle.log_refinement.proofs.Names.{replayed_items, played_with, IsReplayed, kept_items, opener, first_event}
+use Rattle.log_refinement.proofs.Names.{Standing, is_paid, gone_on, opened}
 use Rattle.machine.specs.declared.event.Event as machine
-use Rattle.machine.specs.State.{State}
-use Rattle.script_data.specs.declared.line.Line.{Line}
-use Rattle.script_data.specs.declared.line.Target.{Target}
 use Rattle.script_data.specs.declared.line.Target.TheVariants as target
-use Rattle.script_data.specs.Data.{ScriptData}
-use Rattle.command_semantics.specs.Answers.{IsAnswer, asks_last, Answered}
-use Rattle.command_semantics.specs.Laws.{ActorFits, VerbFits}
-use Rattle.command_semantics.specs.Next.{Clocks, target_node}
-use Rattle.command_semantics.specs.Runs.{Played, fate_of, clocks_of}
-use Rattle.command_semantics.specs.Views.{view_of}
 use Rattle.command_semantics.proofs.OpenedLines.{line_answered}
 use Rattle.command_semantics.proofs.OpeningItems.{Begins}
-use Rattle.command_semantics.proofs.PlainEvents.{events_plain}
-use Rattle.command_semantics.proofs.Takes.{last_fits}
-use Rattle.command_semantics.proofs.Walks.{AllNot, plain_not}
-use Rattle.split_stores.specs.declared.seat.Entry.{Entry}
-use Rattle.split_stores.specs.Merged.{timed_in, replayed_items, played_with, IsReplayed, kept_items}
-use Rattle.log_refinement.specs.Follows.{opener, first_event}
-use Rattle.log_refinement.specs.Owed.{Standing, is_paid, gone_on, opened}
 use Rattle.log_refinement.proofs.FirstEvents.{first_is, none_opens}
 use Rattle.log_refinement.proofs.MadeEntries.{IsGood, AllMade}
 use Rattle.log_refinement.proofs.OpeningLogs.{FollowsOpened}

@@ -1,23 +1,15 @@
 -- The walk of a history along an actor's lines, over the items of one entry: a read that a line has begun is owed until it ends.
-use Rattle.std.proofs.Common.{◌≡◌, ℕ, ◌==◌, Bool, true, false, cond, List, [], ◌∷◌, ◌++◌, Option, Some, None, inl, inr, refl, sym, ◌∙◌, ap, subst}
-use Rattle.std.proofs.lemmas.Bool.{and_parts, cases_Bool, eqb-true}
-use Rattle.std.proofs.lemmas.List.{append-nil}
-use Rattle.history_book.specs.declared.item.Actor.{Actor}
-use Rattle.history_book.specs.declared.item.Actor.TheVariants.{Session}
+use Rattle.log_refinement.proofs.Names.{◌≡◌, ℕ, ◌==◌, Bool, true, false, cond, List, [], ◌∷◌, ◌++◌, Option, Some, None}
+use Rattle.log_refinement.proofs.Names.{inl, inr, refl, sym, ◌∙◌, ap, subst, and_parts, cases_Bool, eqb-true}
+use Rattle.log_refinement.proofs.Names.{append-nil, Actor, Session, Item, Line, Verb, same_actor, IsAnswer, read_begun}
+use Rattle.log_refinement.proofs.Names.{EndsRead, asks_last, Answered, actor_same, AllNot, plain_not, shifted}
+use Rattle.log_refinement.proofs.Names.{walks_over, Entry, Owed, Nothing, Read, ends_read, owed_after, Standing}
+use Rattle.log_refinement.proofs.Names.{standing_with, with_item, with_items, is_settled, is_paid, after_due}
+use Rattle.log_refinement.proofs.Names.{after_repeat, is_step, gone_on, owed_first, opened}
 use Rattle.history_book.specs.declared.item.StoreStep.TheVariants as step
-use Rattle.history_book.specs.declared.item.Item.{Item}
 use Rattle.history_book.specs.declared.item.Item.TheVariants as item
-use Rattle.script_data.specs.declared.line.Line.{Line}
-use Rattle.script_data.specs.declared.line.Verb.{Verb}
 use Rattle.script_data.specs.declared.line.Verb.TheVariants as verb
-use Rattle.command_semantics.specs.Answers.{same_actor, IsAnswer, read_begun, EndsRead, asks_last, Answered}
 use Rattle.command_semantics.proofs.OpeningItems.{Begins}
-use Rattle.command_semantics.proofs.ScriptWalks.{actor_same}
-use Rattle.command_semantics.proofs.Walks.{AllNot, plain_not, shifted, walks_over}
-use Rattle.split_stores.specs.declared.seat.Entry.{Entry}
-use Rattle.log_refinement.specs.declared.owed.Owed.{Owed}
-use Rattle.log_refinement.specs.declared.owed.Owed.TheVariants.{Nothing, Read}
-use Rattle.log_refinement.specs.Owed.{ends_read, owed_after, Standing, standing_with, with_item, with_items, is_settled, is_paid, after_due, after_repeat, is_step, gone_on, owed_first, opened}
 
 -- ---- what is owed of a read
 -- a read that the walk has begun is owed

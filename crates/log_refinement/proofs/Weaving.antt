@@ -1,10 +1,8 @@
 -- Entries in the order of their ticks: each is the next of one log, or one of another log.
-use Rattle.std.proofs.Common.{◌≡◌, ℕ, ◌+◌, ◌<◌, ◌≤◌, nat_lt, true, List, [], ◌∷◌, length, ◌⊎◌, inl, inr, refl, sym, ap, subst, arith}
-use Rattle.std.proofs.lemmas.Bool.{and_parts, ltb-true}
-use Rattle.history_book.specs.Members.{◌∈◌}
+use Rattle.log_refinement.proofs.Names.{◌≡◌, ℕ, ◌+◌, ◌<◌, ◌≤◌, true, List, [], ◌∷◌, length, ◌⊎◌, inl, inr, refl, sym}
+use Rattle.log_refinement.proofs.Names.{ap, subst, arith, and_parts, ltb-true, ◌∈◌, Entry, ticks_of, rises_above}
+use Rattle.std.proofs.Common.{nat_lt}
 use Rattle.tick_word.specs.Rule.{ticks_from}
-use Rattle.split_stores.specs.declared.seat.Entry.{Entry}
-use Rattle.split_stores.specs.Logs.{ticks_of, rises_above}
 
 -- these entries stand among the others in their order, and each of the others has the property
 unfoldable pub Woven : (Entry → Type 0) → List Entry → List Entry → Type 0

@@ -1,10 +1,7 @@
 -- The small examples of asks that were denied.
-use Rattle.std.proofs.Common.{◌≡◌, true, false, [], ◌∷◌, inl, inr, refl, arith}
-use Rattle.history_book.specs.Members.{◌∈◌}
-use Rattle.history_book.specs.declared.item.Actor.TheVariants.{Node}
+use Rattle.log_refinement.proofs.Names.{◌≡◌, true, false, [], ◌∷◌, inl, inr, refl, arith, ◌∈◌, Node, ScriptData}
+use Rattle.log_refinement.proofs.Names.{others_serve, HasEnded}
 use Rattle.history_book.specs.declared.item.Item.TheVariants.{Crash}
-use Rattle.script_data.specs.Data.{ScriptData}
-use Rattle.log_refinement.specs.Served.{others_serve, HasEnded}
 use Rattle.log_refinement.specs.Worked.{no_request, alone, with_stage, asked_and, asks_and}
 
 pub stage_ends : HasEnded (with_stage 0) (asked_and (no_request 0 0 ∷ [])) (asks_and (no_request 0 0 ∷ []))

@@ -1,39 +1,18 @@
 -- A client that has vanished stays so, whatever an event makes of it.
-use Rattle.std.proofs.Common.{[], ◌≡◌, ℕ, zero, suc, List, ◌∷◌, Option, Some, None, Result, Ok, Err, refl, sym, ◌∙◌, ap, subst}
-use Rattle.std.specs.Prelude.{slice_get, slice_set, IfSome}
-use Rattle.std.specs.Option.{option_or}
-use Rattle.std.proofs.lemmas.Option.{same_Some}
-use Rattle.stamp_base.specs.SetupNumbers.{SetupNumbers}
-use Rattle.port_io.specs.declared.weather.Fate.{Fate}
-use Rattle.system_parts.specs.Rows.{Row}
-use Rattle.system_parts.specs.Pairs.{Pairs}
-use Rattle.history_book.specs.declared.cause.Cause.{Cause}
+use Rattle.machine.proofs.Names.{[], ◌≡◌, ℕ, zero, suc, List, ◌∷◌, Option, Some, None, Result, Ok, Err, refl, sym, ◌∙◌}
+use Rattle.machine.proofs.Names.{ap, subst, slice_get, slice_set, IfSome, option_or, same_Some, SetupNumbers, Fate, Row}
+use Rattle.machine.proofs.Names.{Pairs, Cause, Phase, begin_refusal, work_refusal, step_refusal, vanish_refusal}
+use Rattle.machine.proofs.Names.{key_refusal, Held, Decided, Reply, Request, Begin, Commit, InstanceEntry, held_of}
+use Rattle.machine.proofs.Names.{stamps_at, instance_accept, instance_answer, Client, is_reading, after_refusal}
+use Rattle.machine.proofs.Names.{unless_gone_by, unless_gone, crashed_client, crashed_clients, after_loss, crash_on}
+use Rattle.machine.proofs.Names.{ask_begin_by, ask_begin_on, ask_commit_by, ask_commit_on, accept_by, accept_request}
+use Rattle.machine.proofs.Names.{accept_on, decide_both, decide_by, decide_request, decide_on, answer_by}
+use Rattle.machine.proofs.Names.{answer_request, answer_on, write_open, write_on, reads_refusal, fetch_open, fetch_on}
+use Rattle.machine.proofs.Names.{step_made, step_on, offer_by, heal_at, heal_on, abort_by, abort_on, vanish_by}
+use Rattle.machine.proofs.Names.{vanish_on}
 use Rattle.history_book.specs.declared.cause.Cause.TheVariants as cause
-use Rattle.system_parts.specs.declared.session.State.{State as Phase}
 use Rattle.system_parts.specs.declared.session.State.TheVariants.{Gone}
-use Rattle.system_parts.specs.SessionSteps.{begin_refusal, work_refusal, step_refusal, vanish_refusal, key_refusal}
-use Rattle.system_parts.specs.declared.instance.Held.{Held}
-use Rattle.system_parts.specs.declared.instance.Decided.{Decided}
-use Rattle.system_parts.specs.declared.instance.Reply.{Reply}
 use Rattle.system_parts.specs.declared.instance.Reply.TheVariants as reply
-use Rattle.system_parts.specs.declared.instance.Request.{Request}
-use Rattle.system_parts.specs.declared.instance.Request.TheVariants.{Begin, Commit}
-use Rattle.system_parts.specs.Instance.{InstanceEntry, held_of, stamps_at}
-use Rattle.system_parts.specs.InstanceSteps.{instance_accept, instance_answer}
-use Rattle.machine.specs.State.{Client}
-use Rattle.machine.specs.Clients.{is_reading, after_refusal, unless_gone_by, unless_gone}
-use Rattle.machine.specs.Events.Crash.{crashed_client, crashed_clients, after_loss, crash_on}
-use Rattle.machine.specs.Events.AskBegin.{ask_begin_by, ask_begin_on}
-use Rattle.machine.specs.Events.AskCommit.{ask_commit_by, ask_commit_on}
-use Rattle.machine.specs.Events.Accept.{accept_by, accept_request, accept_on}
-use Rattle.machine.specs.Events.Decide.{decide_both, decide_by, decide_request, decide_on}
-use Rattle.machine.specs.Events.Answer.{answer_by, answer_request, answer_on}
-use Rattle.machine.specs.Events.Write.{write_open, write_on}
-use Rattle.machine.specs.Events.Fetch.{reads_refusal, fetch_open, fetch_on}
-use Rattle.machine.specs.Events.Step.{step_by as step_made, step_on}
-use Rattle.machine.specs.Events.Heal.{offer_by, heal_at, heal_on}
-use Rattle.machine.specs.Events.Abort.{abort_by, abort_on}
-use Rattle.machine.specs.Events.Vanish.{vanish_by, vanish_on}
 
 abbrev pub IsGone : Client → Type 0
 IsGone c = c.entry.state ≡ Gone

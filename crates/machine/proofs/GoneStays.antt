@@ -1,24 +1,9 @@
 -- A session that has vanished stays so, over each event.
-use Rattle.std.proofs.Common.{◌≡◌, ℕ, false, List, Option, Some, refl, sym, subst}
-use Rattle.std.specs.Prelude.{slice_get, slice_set}
-use Rattle.port_io.specs.declared.weather.Fate.{Fate}
-use Rattle.system_parts.specs.Instance.{InstanceEntry}
-use Rattle.machine.specs.declared.event.Event.{Event}
+use Rattle.machine.proofs.Names.{◌≡◌, ℕ, false, List, Option, Some, refl, sym, subst, slice_get, slice_set, Fate}
+use Rattle.machine.proofs.Names.{InstanceEntry, Event, Client, State, Step, with_reading, at_client, at_both, stepped}
+use Rattle.machine.proofs.Names.{ask_begin_on, ask_commit_on, accept_on, decide_on, answer_on, write_on, fetch_on}
+use Rattle.machine.proofs.Names.{step_on, heal_on, abort_on, vanish_on, touches_clients, IsGoneAt, GoneStaysGone}
 use Rattle.machine.specs.declared.event.Event.TheVariants as event
-use Rattle.machine.specs.State.{Client, State}
-use Rattle.machine.specs.Machine.{Step, with_reading, at_client, at_both, stepped}
-use Rattle.machine.specs.Events.AskBegin.{ask_begin_on}
-use Rattle.machine.specs.Events.AskCommit.{ask_commit_on}
-use Rattle.machine.specs.Events.Accept.{accept_on}
-use Rattle.machine.specs.Events.Decide.{decide_on}
-use Rattle.machine.specs.Events.Answer.{answer_on}
-use Rattle.machine.specs.Events.Write.{write_on}
-use Rattle.machine.specs.Events.Fetch.{fetch_on}
-use Rattle.machine.specs.Events.Step.{step_on}
-use Rattle.machine.specs.Events.Heal.{heal_on}
-use Rattle.machine.specs.Events.Abort.{abort_on}
-use Rattle.machine.specs.Events.Vanish.{vanish_on}
-use Rattle.machine.specs.Laws.{touches_clients, IsGoneAt, GoneStaysGone}
 use Rattle.machine.proofs.LookedUp.{of_post, of_client, of_both}
 use Rattle.machine.proofs.PartsKept.{leaves_parts}
 use Rattle.machine.proofs.GoneClients.{IsGone, StaysGone, GoneIn, gone_here, gone_set, crash_gone, begin_gone, commit_gone, write_gone, fetch_gone, step_gone, heal_gone, abort_gone, vanish_gone, accept_gone, decide_gone, answer_gone}

@@ -1,21 +1,11 @@
 -- Which store each kind of event asks, and that its refusals that leave all put back what was looked up.
-use Rattle.std.proofs.Common.{◌≡◌, ℕ, Bool, true, false, List, Option, Some, None, refl, ap}
-use Rattle.std.specs.Prelude.{slice_get, length, IfSome}
-use Rattle.stamp_base.specs.declared.stores.Store.{Store}
-use Rattle.port_io.specs.declared.weather.Fate.{Fate}
-use Rattle.port_io.specs.declared.weather.Fate.TheVariants.{Works, FailsUnchanged, FailsApplied}
-use Rattle.history_book.specs.declared.item.Item.{Item}
-use Rattle.system_parts.specs.Rows.{Row}
-use Rattle.system_parts.specs.Pairs.{Pairs}
-use Rattle.system_parts.specs.Record.{MasterRecord}
-use Rattle.system_parts.specs.Sweep.{Sweeping}
-use Rattle.system_parts.specs.Instance.{InstanceEntry}
-use Rattle.machine.specs.State.{Client, State}
-use Rattle.machine.specs.Effect.{Faults, Effect, done}
-use Rattle.machine.specs.Machine.{Step, step_by, nothing, with_post, with_client, at_post, at_client, asks_at_post, asks_at_client, on_record, on_clients, on_ask, on_request, on_table, on_client, on_cells, on_stores, on_sweep, on_swept}
-use Rattle.machine.specs.Events.Step.{StepParts}
-use Rattle.machine.specs.Events.SweepStep.{SweepParts}
-use Rattle.machine.specs.Laws.{IsFaultOf, KeepsStop, KeepStops}
+use Rattle.machine.proofs.Names.{◌≡◌, ℕ, Bool, true, false, List, Option, Some, None, refl, ap, slice_get, length}
+use Rattle.machine.proofs.Names.{IfSome, Store, Fate, Works, FailsUnchanged, FailsApplied, Item, Row, Pairs}
+use Rattle.machine.proofs.Names.{MasterRecord, Sweeping, InstanceEntry, Client, State, Faults, Effect, done, Step}
+use Rattle.machine.proofs.Names.{step_by, nothing, with_post, with_client, at_post, at_client, asks_at_post}
+use Rattle.machine.proofs.Names.{asks_at_client, on_record, on_clients, on_ask, on_request, on_table, on_client}
+use Rattle.machine.proofs.Names.{on_cells, on_stores, on_sweep, on_swept, StepParts, SweepParts, IsFaultOf, KeepsStop}
+use Rattle.machine.proofs.Names.{KeepStops}
 use Rattle.machine.proofs.LookedUp.{of_post, of_client, of_both}
 use Rattle.machine.proofs.Refusals.{LeavesAll, Plain, AllLeft, nothing_left, put_left, same_post, same_client, same_both}
 use Rattle.machine.proofs.StoreAsked.{AskedOnce}

@@ -1,17 +1,10 @@
 -- What each kind of event leaves of the parts that it does not touch, and that nodes and clients stay as many. Each of the kinds is
 -- one by the parts that it looks up and puts back.
-use Rattle.std.proofs.Common.{◌≡◌, ℕ, zero, suc, Bool, true, false, List, [], ◌∷◌, Option, Some, None, refl, sym, ◌∙◌, ap, arith}
-use Rattle.std.specs.Prelude.{slice_get, slice_set, length}
-use Rattle.system_parts.specs.Rows.{Row}
-use Rattle.system_parts.specs.Pairs.{Pairs}
-use Rattle.system_parts.specs.Record.{MasterRecord}
-use Rattle.system_parts.specs.Sweep.{Sweeping}
-use Rattle.system_parts.specs.Instance.{InstanceEntry}
-use Rattle.machine.specs.State.{Client, State}
-use Rattle.machine.specs.Effect.{Effect}
-use Rattle.machine.specs.Machine.{step_by, with_post, with_client, at_post, at_client, at_both, on_record, on_clients, on_ask, on_request, on_table, on_client, on_cells, on_stores, on_sweep, on_swept}
-use Rattle.machine.specs.Events.Step.{StepParts}
-use Rattle.machine.specs.Events.SweepStep.{SweepParts}
+use Rattle.machine.proofs.Names.{◌≡◌, ℕ, zero, suc, Bool, true, false, List, [], ◌∷◌, Option, Some, None, refl, sym}
+use Rattle.machine.proofs.Names.{◌∙◌, ap, arith, slice_get, slice_set, length, Row, Pairs, MasterRecord, Sweeping}
+use Rattle.machine.proofs.Names.{InstanceEntry, Client, State, Effect, step_by, with_post, with_client, at_post}
+use Rattle.machine.proofs.Names.{at_client, at_both, on_record, on_clients, on_ask, on_request, on_table, on_client}
+use Rattle.machine.proofs.Names.{on_cells, on_stores, on_sweep, on_swept, StepParts, SweepParts}
 
 -- the parts that are not touched, in the order clients, nodes, sweep, rows, pairs, master
 pub record Kept (c n s r p m : Bool) (old new : State) : Type 0 where

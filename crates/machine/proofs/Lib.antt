@@ -1,3 +1,4 @@
+mod Names
 pub mod LookedUp
 mod GoneClients
 mod ToldOnce

@@ -1,9 +1,7 @@
 -- For isolation_laws, request_completion, command_semantics and others above too.
 -- An event by the parts that it looks up: where one of them is not of the system nothing is done, else it has been found.
-use Rattle.std.proofs.Common.{◌≡◌, Option, Some, None, refl}
-use Rattle.system_parts.specs.Instance.{InstanceEntry}
-use Rattle.machine.specs.State.{Client, State}
-use Rattle.machine.specs.Machine.{Step, nothing, at_post, at_client, at_both}
+use Rattle.machine.proofs.Names.{◌≡◌, Option, Some, None, refl, InstanceEntry, Client, State, Step, nothing, at_post}
+use Rattle.machine.proofs.Names.{at_client, at_both}
 
 pub of_post : (P : Step → Type 0) (w : State) (f : Option InstanceEntry → Step) (found : Option (Option InstanceEntry)) → P (nothing w) → ((post : Option InstanceEntry) → found ≡ Some post → P (f post)) → P (at_post w found f)
 of_post P w f None none each = none

@@ -1,15 +1,9 @@
 -- For isolation_laws, cause_laws, request_completion and others above too.
 -- What is found in a list after one place was set: at that place what was put there, elsewhere what was there.
-use Rattle.std.proofs.Common.{◌≡◌, ◌≢◌, ℕ, zero, suc, List, [], ◌∷◌, Option, Some, None, ◌⊎◌, inl, inr, refl, sym, ◌∙◌, ap, arith}
-use Rattle.std.specs.Prelude.{slice_get, slice_set, slice_index_or}
-use Rattle.std.proofs.lemmas.Option.{same_Some, none-some}
-use Rattle.system_parts.specs.declared.instance.Held.{Held}
-use Rattle.system_parts.specs.declared.instance.Progress.{Progress}
-use Rattle.system_parts.specs.declared.instance.Request.{Request}
-use Rattle.system_parts.specs.declared.instance.Request.TheVariants.{Begin as BeginRequest, Commit}
-use Rattle.system_parts.specs.Instance.{InstanceEntry, held_of, with_request, session_of}
-use Rattle.machine.specs.State.{Client}
-use Rattle.machine.specs.FoundAt.{InstanceAt, HeldBy, ClientAt}
+use Rattle.machine.proofs.Names.{◌≡◌, ◌≢◌, ℕ, zero, suc, List, [], ◌∷◌, Option, Some, None, ◌⊎◌, inl, inr, refl, sym}
+use Rattle.machine.proofs.Names.{◌∙◌, ap, arith, slice_get, slice_set, slice_index_or, same_Some, none-some, Held}
+use Rattle.machine.proofs.Names.{Progress, Request, BeginRequest, Commit, InstanceEntry, held_of, with_request}
+use Rattle.machine.proofs.Names.{session_of, Client, InstanceAt, HeldBy, ClientAt}
 pub use Rattle.machine.proofs.Refusals.{set_same}
 
 suc_same : (a b : ℕ) → suc a ≡ suc b → a ≡ b

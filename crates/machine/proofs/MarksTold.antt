@@ -1,26 +1,15 @@
 -- For cause_laws too.
 -- What a call on the stores leaves of the marks of the commit table, with what it
 -- tells. A mark is placed with its item, also where the call failed.
-use Rattle.std.proofs.Common.{◌≡◌, ℕ, List, [], ◌∷◌, ◌++◌, Option, Some, None, ◌⊎◌, inl, inr, refl, sym, ◌∙◌, subst}
-use Rattle.std.proofs.lemmas.Bool.{cases_eq}
-use Rattle.stamp_base.specs.declared.stores.Mark.{Mark}
-use Rattle.stamp_base.specs.declared.stores.Mark.TheVariants.{Committed as CommittedMark, Invalid as InvalidMark}
-use Rattle.port_io.specs.declared.weather.Fate.{Fate}
-use Rattle.port_io.specs.declared.weather.Fate.TheVariants.{Works, FailsUnchanged, FailsApplied}
+use Rattle.machine.proofs.Names.{◌≡◌, ℕ, List, [], ◌∷◌, ◌++◌, Option, Some, None, ◌⊎◌, inl, inr, refl, sym, ◌∙◌, subst}
+use Rattle.machine.proofs.Names.{cases_eq, Mark, CommittedMark, InvalidMark, Fate, Works, FailsUnchanged, FailsApplied}
+use Rattle.machine.proofs.Names.{Actor, Item, in_front, in_last, Row, Pairs, mark_of, put_pair, without_committed}
+use Rattle.machine.proofs.Names.{entry_or, mark_of-put_pair, mark_of-put_pair_other, unless_committed}
+use Rattle.machine.proofs.Names.{mark_of-without_committed, mark_of-without_committed_other, Ask, Told, Met, met}
+use Rattle.machine.proofs.Names.{told_mark, pairs_after, told_by, items_met, Marked, MarksTold}
 use Rattle.history_book.specs.Members.{◌∈◌}
-use Rattle.history_book.specs.declared.item.Actor.{Actor}
-use Rattle.history_book.specs.declared.item.Item.{Item}
 use Rattle.history_book.specs.declared.item.Item.TheVariants as item
-use Rattle.history_book.proofs.MemberLemmas.{in_front, in_last}
-use Rattle.system_parts.specs.Rows.{Row}
-use Rattle.system_parts.specs.Pairs.{Pairs, mark_of, put_pair, without_committed}
-use Rattle.system_parts.proofs.PairLaws.{entry_or, mark_of-put_pair, mark_of-put_pair_other, unless_committed, mark_of-without_committed, mark_of-without_committed_other}
-use Rattle.system_parts.specs.declared.asks.Ask.{Ask}
 use Rattle.system_parts.specs.declared.asks.Ask.TheVariants as ask
-use Rattle.system_parts.specs.declared.asks.Told.{Told}
-use Rattle.machine.specs.StoreSteps.{Met, met, told_mark, pairs_after, told_by, items_met}
-use Rattle.machine.specs.FoundAt.{Marked}
-use Rattle.machine.specs.MarksTold.{MarksTold}
 
 pub marks_same : (pairs : Pairs) (items : List Item) → MarksTold pairs pairs items
 marks_same pairs items t marked = inl marked

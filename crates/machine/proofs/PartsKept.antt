@@ -2,35 +2,16 @@
 -- Each event is of one kind, by the parts that it looks up and puts back: so it leaves what it does not touch, its refusals that
 -- leave all do, and it asks a store as its definition says. Other tables name the events that matter to them, and leave the rest to
 -- these laws by a catch-all.
-use Rattle.std.proofs.Common.{◌≡◌, ℕ, List, [], ◌∷◌, Option, Some, None, refl, arith}
-use Rattle.std.specs.Prelude.{length}
-use Rattle.port_io.specs.declared.weather.Fate.{Fate}
-use Rattle.system_parts.specs.declared.instance.Held.{Held}
-use Rattle.system_parts.specs.Instance.{InstanceEntry}
-use Rattle.machine.specs.declared.event.Event.{Event}
+use Rattle.machine.proofs.Names.{◌≡◌, ℕ, List, [], ◌∷◌, Option, Some, None, refl, arith, length, Fate, Held}
+use Rattle.machine.proofs.Names.{InstanceEntry, Event, Client, State, with_reading, asks, stepped, reading_of}
+use Rattle.machine.proofs.Names.{seen_after, take_on, take_asks, renew_on, renew_asks, extend_on, extend_asks}
+use Rattle.machine.proofs.Names.{crashed_clients, crash_on, ask_begin_on, ask_commit_on, accept_on, decide_on, put_on}
+use Rattle.machine.proofs.Names.{put_asks, answer_on, write_on, write_asks, fetch_on, fetch_asks, step_on, step_asks}
+use Rattle.machine.proofs.Names.{heal_on, heal_asks, abort_on, vanish_on, sweep_open_on, sweep_step_on, sweep_step_asks}
+use Rattle.machine.proofs.Names.{LeavesParts, StoresAreAskedOnce, RefusalsLeaveAll, state_seen, touches_clients}
+use Rattle.machine.proofs.Names.{touches_nodes, touches_sweep, touches_rows, touches_pairs, touches_master}
 use Rattle.machine.specs.declared.event.Event.TheVariants as event
-use Rattle.machine.specs.State.{Client, State}
-use Rattle.machine.specs.Machine.{with_reading, asks, stepped, reading_of, seen_after}
 use Rattle.machine.specs.Events.Clock.{tick_items, note_items}
-use Rattle.machine.specs.Events.Take.{take_on, take_asks}
-use Rattle.machine.specs.Events.Renew.{renew_on, renew_asks}
-use Rattle.machine.specs.Events.Extend.{extend_on, extend_asks}
-use Rattle.machine.specs.Events.Crash.{crashed_clients, crash_on}
-use Rattle.machine.specs.Events.AskBegin.{ask_begin_on}
-use Rattle.machine.specs.Events.AskCommit.{ask_commit_on}
-use Rattle.machine.specs.Events.Accept.{accept_on}
-use Rattle.machine.specs.Events.Decide.{decide_on}
-use Rattle.machine.specs.Events.Put.{put_on, put_asks}
-use Rattle.machine.specs.Events.Answer.{answer_on}
-use Rattle.machine.specs.Events.Write.{write_on, write_asks}
-use Rattle.machine.specs.Events.Fetch.{fetch_on, fetch_asks}
-use Rattle.machine.specs.Events.Step.{step_on, step_asks}
-use Rattle.machine.specs.Events.Heal.{heal_on, heal_asks}
-use Rattle.machine.specs.Events.Abort.{abort_on}
-use Rattle.machine.specs.Events.Vanish.{vanish_on}
-use Rattle.machine.specs.Events.SweepOpen.{sweep_open_on}
-use Rattle.machine.specs.Events.SweepStep.{sweep_step_on, sweep_step_asks}
-use Rattle.machine.specs.Laws.{LeavesParts, StoresAreAskedOnce, RefusalsLeaveAll, state_seen, touches_clients, touches_nodes, touches_sweep, touches_rows, touches_pairs, touches_master}
 use Rattle.machine.proofs.PlainEvents.{plain_abort, plain_vanish, plain_sweep_open, plain_crash, plain_ask_begin, plain_ask_commit, plain_accept, plain_decide, plain_answer, decide_works}
 use Rattle.machine.proofs.RecordEvents.{asked_take, asked_renew, asked_extend}
 use Rattle.machine.proofs.StoreEvents.{asked_put, asked_write, asked_fetch, asked_heal, asked_step, asked_sweep_step}

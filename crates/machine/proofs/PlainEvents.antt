@@ -1,37 +1,19 @@
 -- The events that ask no store: which refusals leave all, and that no store fails.
-use Rattle.std.proofs.Common.{[], ◌≡◌, ℕ, ◌==◌, Bool, true, false, IsTrue, if◌then◌else◌, List, ◌∷◌, Option, Some, None, Result, Ok, Err, refl, sym, subst}
-use Rattle.std.specs.Prelude.{IfSome}
-use Rattle.stamp_base.specs.declared.stores.Store.{Store}
-use Rattle.history_book.specs.declared.cause.Cause.{Cause}
+use Rattle.machine.proofs.Names.{[], ◌≡◌, ℕ, ◌==◌, Bool, true, false, IsTrue, if◌then◌else◌, List, ◌∷◌, Option, Some}
+use Rattle.machine.proofs.Names.{None, Result, Ok, Err, refl, sym, subst, IfSome, Store, Cause, Node, Session, Janitor}
+use Rattle.machine.proofs.Names.{Item, Aborted, ReadOnly, Handed, begin_refusal, work_refusal, vanish_refusal, Sweeping}
+use Rattle.machine.proofs.Names.{sweep_open, Held, Decided, Reply, Request, Begin, Commit, InstanceEntry, held_of}
+use Rattle.machine.proofs.Names.{in_flight, with_request, session_of, stamps_at, InstanceStep, stays, just_asked}
+use Rattle.machine.proofs.Names.{instance_ask, instance_accept, instance_answer, Client, Faults, is_reading}
+use Rattle.machine.proofs.Names.{client_aborted, client_asked, client_freed, client_vanished, unless_gone, client_begun}
+use Rattle.machine.proofs.Names.{client_handed, client_committed, crashed_clients, all_crashed_items, crash_on}
+use Rattle.machine.proofs.Names.{asked_by, begin_asked, ask_begin_by, ask_begin_on, commit_asked, commit_of}
+use Rattle.machine.proofs.Names.{ask_commit_by, ask_commit_on, accept_by, accept_request, accept_on, decide_both}
+use Rattle.machine.proofs.Names.{decide_by, decide_request, decide_on, answer_by, answer_request, answer_on, abort_by}
+use Rattle.machine.proofs.Names.{abort_on, vanish_by, vanish_on, sweep_open_at, sweep_open_on, leaves_all, KeepsStop}
 use Rattle.history_book.specs.declared.cause.Cause.TheVariants as cause
-use Rattle.history_book.specs.declared.item.Actor.TheVariants.{Node, Session, Janitor}
-use Rattle.history_book.specs.declared.item.Item.{Item}
-use Rattle.history_book.specs.declared.item.Ending.TheVariants.{Aborted, ReadOnly}
-use Rattle.history_book.specs.declared.item.StoreStep.TheVariants.{Handed}
 use Rattle.history_book.specs.declared.item.Item.TheVariants as item
-use Rattle.system_parts.specs.SessionSteps.{begin_refusal, work_refusal, vanish_refusal}
-use Rattle.system_parts.specs.Sweep.{Sweeping, sweep_open}
-use Rattle.system_parts.specs.declared.instance.Held.{Held}
-use Rattle.system_parts.specs.declared.instance.Decided.{Decided}
-use Rattle.system_parts.specs.declared.instance.Reply.{Reply}
 use Rattle.system_parts.specs.declared.instance.Reply.TheVariants as reply
-use Rattle.system_parts.specs.declared.instance.Request.{Request}
-use Rattle.system_parts.specs.declared.instance.Request.TheVariants.{Begin, Commit}
-use Rattle.system_parts.specs.Instance.{InstanceEntry, held_of, in_flight, with_request, session_of, stamps_at}
-use Rattle.system_parts.specs.InstanceSteps.{InstanceStep, stays, just_asked, instance_ask, instance_accept, instance_answer}
-use Rattle.machine.specs.State.{Client}
-use Rattle.machine.specs.Effect.{Faults}
-use Rattle.machine.specs.Clients.{is_reading, client_aborted, client_asked, client_freed, client_vanished, unless_gone, client_begun, client_handed, client_committed}
-use Rattle.machine.specs.Events.Crash.{crashed_clients, all_crashed_items, crash_on}
-use Rattle.machine.specs.Events.AskBegin.{asked_by, begin_asked, ask_begin_by, ask_begin_on}
-use Rattle.machine.specs.Events.AskCommit.{commit_asked, commit_of, ask_commit_by, ask_commit_on}
-use Rattle.machine.specs.Events.Accept.{accept_by, accept_request, accept_on}
-use Rattle.machine.specs.Events.Decide.{decide_both, decide_by, decide_request, decide_on}
-use Rattle.machine.specs.Events.Answer.{answer_by, answer_request, answer_on}
-use Rattle.machine.specs.Events.Abort.{abort_by, abort_on}
-use Rattle.machine.specs.Events.Vanish.{vanish_by, vanish_on}
-use Rattle.machine.specs.Events.SweepOpen.{sweep_open_at, sweep_open_on}
-use Rattle.machine.specs.Laws.{leaves_all, KeepsStop}
 use Rattle.machine.proofs.Refusals.{Plain, plain_done, plain_refused, plain_ending}
 use Rattle.machine.proofs.StandingAnswers.{IsNoRequest, Stands, stands_accept, stands_decide, stands_answer}
 

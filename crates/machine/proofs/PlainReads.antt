@@ -1,24 +1,11 @@
 -- Where no read was kept, or none is to be, all is as the instance and the session have it by themselves.
-use Rattle.std.proofs.Common.{◌≡◌, ℕ, Bool, false, if◌then◌else◌, List, [], Option, None, Some, refl, ap, subst, sym}
-use Rattle.std.specs.Prelude.{not, ◌&&◌}
-use Rattle.std.specs.Option.{option_or}
-use Rattle.stamp_base.specs.SetupNumbers.{SetupNumbers}
-use Rattle.history_book.specs.declared.cause.Cause.{Cause}
-use Rattle.system_parts.specs.SessionSteps.{work_refusal, has_key, key_added, key_refusal}
-use Rattle.system_parts.specs.declared.buckets.Verdict.{Verdict}
-use Rattle.system_parts.specs.declared.buckets.Verdict.TheVariants.{Free, Conflict, Hidden}
-use Rattle.system_parts.specs.declared.instance.Held.{Held}
-use Rattle.system_parts.specs.declared.instance.Progress.{Progress}
-use Rattle.system_parts.specs.declared.instance.Progress.TheVariants.{Accepted}
-use Rattle.system_parts.specs.declared.instance.Request.{Request}
-use Rattle.system_parts.specs.declared.instance.Request.TheVariants.{Begin, Commit}
-use Rattle.system_parts.specs.Buckets.{Bucket, first_refusal, verdict}
-use Rattle.system_parts.specs.Instance.{InstanceEntry, held_of}
-use Rattle.system_parts.specs.InstanceSteps.{decide_by, request_verdict, decide_if_accepted, decide_held, instance_decide}
-use Rattle.machine.specs.State.{Client}
-use Rattle.machine.specs.Clients.{is_reading}
-use Rattle.machine.specs.Events.Fetch.{client_fetched, fetch_refused}
-use Rattle.machine.specs.Events.Decide.{both_verdict, both_if_accepted, both_held, decide_both}
+use Rattle.machine.proofs.Names.{◌≡◌, ℕ, Bool, false, if◌then◌else◌, List, [], Option, None, Some, refl, ap, subst, sym}
+use Rattle.machine.proofs.Names.{not, ◌&&◌, option_or, SetupNumbers, Cause, work_refusal, has_key, key_added}
+use Rattle.machine.proofs.Names.{key_refusal, Verdict, Free, Conflict, Hidden, Held, Progress, Accepted, Request, Begin}
+use Rattle.machine.proofs.Names.{Commit, Bucket, first_refusal, verdict, InstanceEntry, held_of, request_verdict}
+use Rattle.machine.proofs.Names.{decide_if_accepted, decide_held, instance_decide, Client, is_reading, client_fetched}
+use Rattle.machine.proofs.Names.{fetch_refused, both_verdict, both_if_accepted, both_held, decide_both}
+use Rattle.system_parts.specs.InstanceSteps.{decide_by}
 
 -- ---- a decision by an empty read set
 first_alone : (v : Verdict) → first_refusal v Free ≡ v

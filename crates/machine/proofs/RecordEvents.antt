@@ -1,25 +1,14 @@
 -- The events of the master record ask it once.
-use Rattle.std.proofs.Common.{[], ◌≡◌, ℕ, ◌+◌, ◌==◌, Bool, true, false, if◌then◌else◌, List, ◌∷◌, Option, Some, None, Ok, Err, refl}
-use Rattle.stamp_base.specs.SetupNumbers.{SetupNumbers}
-use Rattle.stamp_base.specs.declared.stores.Store.{Store}
-use Rattle.stamp_base.specs.declared.stores.Store.TheVariants.{Master}
-use Rattle.port_io.specs.declared.weather.Fate.TheVariants.{Works}
+use Rattle.machine.proofs.Names.{[], ◌≡◌, ℕ, ◌+◌, ◌==◌, Bool, true, false, if◌then◌else◌, List, ◌∷◌, Option, Some, None}
+use Rattle.machine.proofs.Names.{Ok, Err, refl, SetupNumbers, Store, Master, Works, Node, Item, Grant, TakeRefused}
+use Rattle.machine.proofs.Names.{RenewRefused, ExtendRefused, Leasing, MasterRecord, is_early, is_spent, take_refused}
+use Rattle.machine.proofs.Names.{granted, held_by, renew_refused, renewed_until, extend_refused, unless_refused}
+use Rattle.machine.proofs.Names.{answered, InstanceEntry, Faults, kept_items, rules_of, take_by, take_item, take_on}
+use Rattle.machine.proofs.Names.{take_asks, renew_by, renew_on, renew_asks, extend_by, extend_on, extend_asks}
 use Rattle.history_book.specs.declared.cause.Cause.TheVariants as cause
-use Rattle.history_book.specs.declared.item.Actor.TheVariants.{Node}
-use Rattle.history_book.specs.declared.item.Item.{Item}
-use Rattle.system_parts.specs.declared.record.Grant.{Grant}
-use Rattle.system_parts.specs.declared.record.TakeRefused.{TakeRefused}
 use Rattle.system_parts.specs.declared.record.TakeRefused.TheVariants as take
-use Rattle.system_parts.specs.declared.record.RenewRefused.{RenewRefused}
 use Rattle.system_parts.specs.declared.record.RenewRefused.TheVariants as renew
-use Rattle.system_parts.specs.declared.record.ExtendRefused.{ExtendRefused}
 use Rattle.system_parts.specs.declared.record.ExtendRefused.TheVariants as extend
-use Rattle.system_parts.specs.Record.{Leasing, MasterRecord, is_early, is_spent, take_refused, granted, held_by, renew_refused, renewed_until, extend_refused, unless_refused, answered}
-use Rattle.system_parts.specs.Instance.{InstanceEntry}
-use Rattle.machine.specs.Effect.{Faults, kept_items}
-use Rattle.machine.specs.Events.Take.{rules_of, take_by, take_item, take_on, take_asks}
-use Rattle.machine.specs.Events.Renew.{renew_by, renew_on, renew_asks}
-use Rattle.machine.specs.Events.Extend.{extend_by, extend_on, extend_asks}
 use Rattle.machine.proofs.Refusals.{LeavesAll, refusal_leaves, ending_leaves, fault_leaves, going_leaves}
 use Rattle.machine.proofs.StoreAsked.{AskedOnce, asked, refuses}
 

@@ -1,18 +1,9 @@
 -- For turn_rules too.
 -- A refusal that leaves all: what an effect has to leave of its parts, and what it is of the whole once they are put back.
-use Rattle.std.proofs.Common.{◌≡◌, ℕ, zero, suc, IsTrue, List, [], ◌∷◌, Option, Some, None, refl, sym, ◌∙◌, ap, subst}
-use Rattle.std.specs.Prelude.{slice_get, slice_set}
-use Rattle.std.proofs.lemmas.Option.{same_Some}
-use Rattle.stamp_base.specs.declared.stores.Store.{Store}
-use Rattle.history_book.specs.declared.cause.Cause.{Cause}
-use Rattle.history_book.specs.declared.item.Actor.{Actor}
-use Rattle.history_book.specs.declared.item.Item.{Item}
-use Rattle.history_book.specs.declared.item.Item.TheVariants.{Refused}
-use Rattle.system_parts.specs.Instance.{InstanceEntry}
-use Rattle.machine.specs.State.{Client, State}
-use Rattle.machine.specs.Effect.{Refuses, Faults, Effect, done, refused}
-use Rattle.machine.specs.Machine.{Step, step_by, nothing, with_post, with_client}
-use Rattle.machine.specs.Laws.{leaves_all, TellsAlone}
+use Rattle.machine.proofs.Names.{◌≡◌, ℕ, zero, suc, IsTrue, List, [], ◌∷◌, Option, Some, None, refl, sym, ◌∙◌, ap}
+use Rattle.machine.proofs.Names.{subst, slice_get, slice_set, same_Some, Store, Cause, Actor, Item, Refused}
+use Rattle.machine.proofs.Names.{InstanceEntry, Client, State, Refuses, Faults, Effect, done, refused, Step, step_by}
+use Rattle.machine.proofs.Names.{nothing, with_post, with_client, leaves_all, TellsAlone}
 
 -- ---- of parts
 abbrev pub LeavesAll : {P : Type 0} → P → Effect P → Type 0

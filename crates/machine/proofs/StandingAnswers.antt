@@ -1,20 +1,12 @@
 -- What an instance answers: a refusal that leaves all is NoRequest, and it does leave all.
-use Rattle.std.proofs.Common.{◌≡◌, ℕ, ◌+◌, ◌==◌, Bool, true, false, IsTrue, if◌then◌else◌, List, Option, Some, None, Result, Ok, Err, refl}
-use Rattle.std.specs.Prelude.{nat_lt, nat_le, IfSome}
-use Rattle.history_book.specs.declared.cause.Cause.{Cause}
+use Rattle.machine.proofs.Names.{◌≡◌, ℕ, ◌+◌, ◌==◌, Bool, true, false, IsTrue, if◌then◌else◌, List, Option, Some, None}
+use Rattle.machine.proofs.Names.{Result, Ok, Err, refl, nat_lt, nat_le, IfSome, Cause, Verdict, Free, Conflict, Hidden}
+use Rattle.machine.proofs.Names.{Held, Decided, Progress, Asked, Accepted, Drawn, Request, Begin, Commit, InstanceEntry}
+use Rattle.machine.proofs.Names.{least_unsettled, InstanceStep, IsStop, epoch_refusal, accept_unless, accept_if_asked}
+use Rattle.machine.proofs.Names.{accept_held, out_of_stamps, decide_drawn, verdict_by, answer_begin, answer_if_ready}
+use Rattle.machine.proofs.Names.{answer_held, both_verdict, both_if_accepted, both_held, leaves_all, KeepsStop}
 use Rattle.history_book.specs.declared.cause.Cause.TheVariants as cause
-use Rattle.system_parts.specs.declared.buckets.Verdict.{Verdict}
-use Rattle.system_parts.specs.declared.buckets.Verdict.TheVariants.{Free, Conflict, Hidden}
-use Rattle.system_parts.specs.declared.instance.Held.{Held}
-use Rattle.system_parts.specs.declared.instance.Decided.{Decided}
-use Rattle.system_parts.specs.declared.instance.Progress.{Progress}
-use Rattle.system_parts.specs.declared.instance.Progress.TheVariants.{Asked, Accepted, Drawn, Settled, Handed}
-use Rattle.system_parts.specs.declared.instance.Request.{Request}
-use Rattle.system_parts.specs.declared.instance.Request.TheVariants.{Begin, Commit}
-use Rattle.system_parts.specs.Instance.{InstanceEntry, least_unsettled}
-use Rattle.system_parts.specs.InstanceSteps.{InstanceStep, IsStop, epoch_refusal, accept_unless, accept_if_asked, accept_held, out_of_stamps, decide_drawn, decide_by as verdict_by, answer_begin, answer_if_ready, answer_held}
-use Rattle.machine.specs.Events.Decide.{both_verdict, both_if_accepted, both_held}
-use Rattle.machine.specs.Laws.{leaves_all, KeepsStop}
+use Rattle.system_parts.specs.declared.instance.Progress.TheVariants.{Settled, Handed}
 
 -- ---- what an instance answers: a refusal that leaves all is NoRequest, and it does leave all
 abbrev pub IsNoRequest : Cause → Type 0

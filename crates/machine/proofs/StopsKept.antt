@@ -1,26 +1,11 @@
 -- For isolation_laws too.
 -- What an instance keeps of the master record's refusals is Replaced or Spent, in each state that moves lead to.
-use Rattle.std.proofs.Common.{◌≡◌, ℕ, false, Option, refl, sym, subst}
-use Rattle.std.specs.Prelude.{slice_get, slice_set}
-use Rattle.port_io.specs.declared.weather.Fate.{Fate}
-use Rattle.system_parts.specs.Instance.{InstanceEntry}
-use Rattle.system_parts.specs.SessionSteps.{begin_refusal, work_refusal}
-use Rattle.machine.specs.declared.event.Event.{Event}
+use Rattle.machine.proofs.Names.{◌≡◌, ℕ, false, Option, refl, sym, subst, slice_get, slice_set, Fate, InstanceEntry}
+use Rattle.machine.proofs.Names.{begin_refusal, work_refusal, Event, Client, State, is_reading, Step, with_reading}
+use Rattle.machine.proofs.Names.{at_post, at_both, stepped, take_on, renew_on, extend_on, crash_on, ask_begin_on}
+use Rattle.machine.proofs.Names.{ask_commit_on, accept_on, decide_on, put_on, answer_on, KeepStops, StopsAreKept}
+use Rattle.machine.proofs.Names.{touches_nodes}
 use Rattle.machine.specs.declared.event.Event.TheVariants as event
-use Rattle.machine.specs.State.{Client, State}
-use Rattle.machine.specs.Clients.{is_reading}
-use Rattle.machine.specs.Machine.{Step, with_reading, at_post, at_both, stepped}
-use Rattle.machine.specs.Events.Take.{take_on}
-use Rattle.machine.specs.Events.Renew.{renew_on}
-use Rattle.machine.specs.Events.Extend.{extend_on}
-use Rattle.machine.specs.Events.Crash.{crash_on}
-use Rattle.machine.specs.Events.AskBegin.{ask_begin_on}
-use Rattle.machine.specs.Events.AskCommit.{ask_commit_on}
-use Rattle.machine.specs.Events.Accept.{accept_on}
-use Rattle.machine.specs.Events.Decide.{decide_on}
-use Rattle.machine.specs.Events.Put.{put_on}
-use Rattle.machine.specs.Events.Answer.{answer_on}
-use Rattle.machine.specs.Laws.{KeepStops, StopsAreKept, touches_nodes}
 use Rattle.machine.proofs.LookedUp.{of_post, of_both}
 use Rattle.machine.proofs.PartsKept.{leaves_parts}
 use Rattle.machine.proofs.StopsOfPosts.{AllKeep, Keeps, none_kept, set_keeps}

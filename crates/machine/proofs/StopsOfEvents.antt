@@ -1,43 +1,21 @@
 -- Each event of a node keeps that what its instance has of the master record's refusals is Replaced or Spent.
-use Rattle.std.proofs.Common.{[], ℕ, ◌+◌, List, ◌∷◌, Option, Some, None, Result, Ok, Err}
-use Rattle.stamp_base.specs.SetupNumbers.{SetupNumbers}
-use Rattle.stamp_base.specs.declared.stores.Mark.{Mark}
-use Rattle.port_io.specs.declared.weather.Fate.{Fate}
-use Rattle.port_io.specs.declared.weather.Fate.TheVariants.{Works, FailsUnchanged, FailsApplied}
-use Rattle.history_book.specs.declared.cause.Cause.{Cause}
+use Rattle.machine.proofs.Names.{[], ℕ, ◌+◌, List, ◌∷◌, Option, Some, None, Result, Ok, Err, SetupNumbers, Mark, Fate}
+use Rattle.machine.proofs.Names.{Works, FailsUnchanged, FailsApplied, Cause, Item, Grant, TakeRefused, RenewRefused}
+use Rattle.machine.proofs.Names.{ExtendRefused, MasterRecord, take_refused, renew_refused, renewed_until}
+use Rattle.machine.proofs.Names.{extend_refused, granted, answered, Pairs, mark_of, Held, Decided, Reply, Request}
+use Rattle.machine.proofs.Names.{Begin, Commit, InstanceEntry, held_of, stamps_at, instance_ask, instance_accept}
+use Rattle.machine.proofs.Names.{instance_settle, instance_answer, Client, take_by, rules_of, take_on, renew_by}
+use Rattle.machine.proofs.Names.{renew_on, extend_by, extend_on, crash_on, asked_by, begin_asked, ask_begin_by}
+use Rattle.machine.proofs.Names.{commit_asked, commit_of, ask_commit_by, accept_by, accept_request, accept_on}
+use Rattle.machine.proofs.Names.{decide_both, decide_by, decide_request, decide_on, to_place, put_by, put_commit}
+use Rattle.machine.proofs.Names.{put_on, answer_by, answer_request, answer_on, KeepsStop}
 use Rattle.history_book.specs.declared.cause.Cause.TheVariants as cause
-use Rattle.history_book.specs.declared.item.Item.{Item}
-use Rattle.system_parts.specs.declared.record.Grant.{Grant}
-use Rattle.system_parts.specs.declared.record.TakeRefused.{TakeRefused}
 use Rattle.system_parts.specs.declared.record.TakeRefused.TheVariants as take
-use Rattle.system_parts.specs.declared.record.RenewRefused.{RenewRefused}
 use Rattle.system_parts.specs.declared.record.RenewRefused.TheVariants as renew
-use Rattle.system_parts.specs.declared.record.ExtendRefused.{ExtendRefused}
 use Rattle.system_parts.specs.declared.record.ExtendRefused.TheVariants as extend
-use Rattle.system_parts.specs.Record.{MasterRecord, take_refused, renew_refused, renewed_until, extend_refused, granted, answered}
-use Rattle.system_parts.specs.Pairs.{Pairs, mark_of}
-use Rattle.system_parts.specs.declared.instance.Held.{Held}
-use Rattle.system_parts.specs.declared.instance.Decided.{Decided}
-use Rattle.system_parts.specs.declared.instance.Reply.{Reply}
 use Rattle.system_parts.specs.declared.instance.Reply.TheVariants as reply
-use Rattle.system_parts.specs.declared.instance.Request.{Request}
-use Rattle.system_parts.specs.declared.instance.Request.TheVariants.{Begin, Commit}
 use Rattle.system_parts.specs.declared.instance.Settled as how
-use Rattle.system_parts.specs.Instance.{InstanceEntry, held_of, stamps_at}
-use Rattle.system_parts.specs.InstanceSteps.{instance_ask, instance_accept, instance_settle, instance_answer}
 use Rattle.system_parts.proofs.InstanceMoves.{quiet_ask, quiet_accept, quiet_settle, quiet_answer}
-use Rattle.machine.specs.State.{Client}
-use Rattle.machine.specs.Events.Take.{take_by, rules_of, take_on}
-use Rattle.machine.specs.Events.Renew.{renew_by, renew_on}
-use Rattle.machine.specs.Events.Extend.{extend_by, extend_on}
-use Rattle.machine.specs.Events.Crash.{crash_on}
-use Rattle.machine.specs.Events.AskBegin.{asked_by, begin_asked, ask_begin_by}
-use Rattle.machine.specs.Events.AskCommit.{commit_asked, commit_of, ask_commit_by}
-use Rattle.machine.specs.Events.Accept.{accept_by, accept_request, accept_on}
-use Rattle.machine.specs.Events.Decide.{decide_both, decide_by, decide_request, decide_on}
-use Rattle.machine.specs.Events.Put.{to_place, put_by, put_commit, put_on}
-use Rattle.machine.specs.Events.Answer.{answer_by, answer_request, answer_on}
-use Rattle.machine.specs.Laws.{KeepsStop}
 use Rattle.machine.proofs.StopsOfPosts.{PostKeeps, Keeps, quiet_keeps, stopped_keeps, decided_keeps}
 
 -- ---- the record's events

@@ -1,20 +1,9 @@
 -- What an instance keeps of the master record's refusals is Replaced or Spent: lists of nodes, and the calls of an instance.
-use Rattle.std.proofs.Common.{[], ◌≡◌, ℕ, zero, suc, ◌+◌, ◌==◌, Bool, true, false, if◌then◌else◌, List, ◌∷◌, Option, Some, None, refl, sym, ap, subst}
-use Rattle.std.specs.Prelude.{slice_get, slice_set, replicate, IfSome}
-use Rattle.std.specs.Option.{option_or}
-use Rattle.std.proofs.lemmas.Option.{same_Some, none-some}
-use Rattle.history_book.specs.declared.cause.Cause.{Cause}
-use Rattle.system_parts.specs.declared.buckets.Verdict.{Verdict}
-use Rattle.system_parts.specs.declared.buckets.Verdict.TheVariants.{Free, Conflict, Hidden}
-use Rattle.system_parts.specs.declared.instance.Held.{Held}
-use Rattle.system_parts.specs.declared.instance.Decided.{Decided}
-use Rattle.system_parts.specs.declared.instance.Progress.{Progress}
-use Rattle.system_parts.specs.declared.instance.Progress.TheVariants.{Accepted}
-use Rattle.system_parts.specs.Instance.{InstanceEntry}
-use Rattle.system_parts.specs.InstanceSteps.{InstanceStep, IsStop, out_of_stamps, decide_drawn, decide_by as verdict_by}
-use Rattle.system_parts.specs.InstanceLaws.{ChangesRequestsAlone}
-use Rattle.machine.specs.Events.Decide.{both_verdict, both_if_accepted, both_held}
-use Rattle.machine.specs.Laws.{KeepsStop}
+use Rattle.machine.proofs.Names.{[], ◌≡◌, ℕ, zero, suc, ◌+◌, ◌==◌, Bool, true, false, if◌then◌else◌, List, ◌∷◌, Option}
+use Rattle.machine.proofs.Names.{Some, None, refl, sym, ap, subst, slice_get, slice_set, replicate, IfSome, option_or}
+use Rattle.machine.proofs.Names.{same_Some, none-some, Cause, Verdict, Free, Conflict, Hidden, Held, Decided, Progress}
+use Rattle.machine.proofs.Names.{Accepted, InstanceEntry, InstanceStep, IsStop, out_of_stamps, decide_drawn, verdict_by}
+use Rattle.machine.proofs.Names.{ChangesRequestsAlone, both_verdict, both_if_accepted, both_held, KeepsStop}
 
 abbrev pub AllKeep : List (Option InstanceEntry) → Type 0
 AllKeep nodes = (node : ℕ) (i : InstanceEntry) → slice_get nodes node ≡ Some (Some i) → KeepsStop i

@@ -1,12 +1,6 @@
 -- An event asks one store, or none: its refusals, and what a fault leaves.
-use Rattle.std.proofs.Common.{◌≡◌, Option, Some, None, refl, subst}
-use Rattle.stamp_base.specs.declared.stores.Store.{Store}
-use Rattle.port_io.specs.declared.weather.Fate.{Fate}
-use Rattle.port_io.specs.declared.weather.Fate.TheVariants.{Works, FailsUnchanged, FailsApplied}
-use Rattle.history_book.specs.declared.cause.Cause.{Cause}
-use Rattle.history_book.specs.declared.item.Actor.{Actor}
-use Rattle.machine.specs.Effect.{Stop, Faults, Effect, refused}
-use Rattle.machine.specs.Laws.{IsFaultOf}
+use Rattle.machine.proofs.Names.{◌≡◌, Option, Some, None, refl, subst, Store, Fate, Works, FailsUnchanged, FailsApplied}
+use Rattle.machine.proofs.Names.{Cause, Actor, Stop, Faults, Effect, refused, IsFaultOf}
 use Rattle.machine.proofs.Refusals.{LeavesAll, refusal_leaves, fault_leaves, going_leaves}
 
 -- the fate does not matter where no store is asked, and where one is, the effect fails exactly where its call does

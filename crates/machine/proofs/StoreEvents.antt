@@ -1,35 +1,19 @@
 -- The events that ask the commit table or the cells ask one of them once.
-use Rattle.std.proofs.Common.{[], ◌≡◌, ℕ, Bool, true, false, List, ◌∷◌, Option, Some, None, refl, sym, ap}
-use Rattle.stamp_base.specs.declared.stores.Mark.{Mark}
-use Rattle.stamp_base.specs.declared.stores.Mark.TheVariants.{Committed}
-use Rattle.stamp_base.specs.declared.stores.Store.{Store}
-use Rattle.stamp_base.specs.declared.stores.Store.TheVariants.{Cells, Table}
-use Rattle.stamp_base.specs.SetupNumbers.{SetupNumbers}
-use Rattle.port_io.specs.declared.weather.Fate.TheVariants.{Works}
-use Rattle.history_book.specs.declared.cause.Cause.{Cause}
+use Rattle.machine.proofs.Names.{[], ◌≡◌, ℕ, Bool, true, false, List, ◌∷◌, Option, Some, None, refl, sym, ap, Mark}
+use Rattle.machine.proofs.Names.{Committed, Store, Cells, Table, SetupNumbers, Works, Cause, Node, Session, Janitor}
+use Rattle.machine.proofs.Names.{Row, Pairs, mark_of, put_pair, Ask, Told, step_refusal, handed_commit, settle_ask}
+use Rattle.machine.proofs.Names.{read_ask, Sweeping, sweep_ask, sweep_told, is_undecided, InstanceEntry, held_of}
+use Rattle.machine.proofs.Names.{UnderWay, Nothing, Reads, Settles, Completes, Client, Stop, Faults, done, Met, met}
+use Rattle.machine.proofs.Names.{store_of, told_by, is_reading, to_place, put_by, put_commit, put_on, commit_asks}
+use Rattle.machine.proofs.Names.{put_asks, write_refused, write_open, write_on, open_asks, write_asks, fetch_refused}
+use Rattle.machine.proofs.Names.{fetch_open, fetch_on, epoch_asks, fetch_asks, place_by, StepParts, work_of, next_of}
+use Rattle.machine.proofs.Names.{step_at, placed_among, step_due, step_on, store_asked, asked_next, step_asks_by}
+use Rattle.machine.proofs.Names.{step_asks, offer_of, no_offer_cause, heal_at, heal_on, offer_asks, heal_asks}
+use Rattle.machine.proofs.Names.{SweepParts, undecided_stop, sweep_by, sweep_met, sweep_lists, sweep_at, sweep_step_on}
+use Rattle.machine.proofs.Names.{sweep_step_asks}
 use Rattle.history_book.specs.declared.cause.Cause.TheVariants as cause
-use Rattle.history_book.specs.declared.item.Actor.TheVariants.{Node, Session, Janitor}
-use Rattle.system_parts.specs.Rows.{Row}
-use Rattle.system_parts.specs.Pairs.{Pairs, mark_of, put_pair}
-use Rattle.system_parts.specs.declared.asks.Ask.{Ask}
 use Rattle.system_parts.specs.declared.asks.Ask.TheVariants as ask
-use Rattle.system_parts.specs.declared.asks.Told.{Told}
-use Rattle.system_parts.specs.SessionSteps.{step_refusal, handed_commit}
-use Rattle.system_parts.specs.Resolve.{settle_ask}
-use Rattle.system_parts.specs.KeyRead.{read_ask}
-use Rattle.system_parts.specs.Sweep.{Sweeping, sweep_ask, sweep_told, is_undecided}
-use Rattle.system_parts.specs.Instance.{InstanceEntry, held_of}
-use Rattle.machine.specs.State.{UnderWay, Nothing, Reads, Settles, Completes, Client}
-use Rattle.machine.specs.Effect.{Stop, Faults, done}
-use Rattle.machine.specs.StoreSteps.{Met, met, store_of, told_by}
-use Rattle.machine.specs.Clients.{is_reading}
-use Rattle.machine.specs.Events.Put.{to_place, put_by, put_commit, put_on, commit_asks, put_asks}
-use Rattle.machine.specs.Events.Write.{write_refused, write_open, write_on, open_asks, write_asks}
-use Rattle.machine.specs.Events.Fetch.{fetch_refused, fetch_open, fetch_on, epoch_asks, fetch_asks}
-use Rattle.machine.specs.Events.Place.{place_by}
-use Rattle.machine.specs.Events.Step.{StepParts, work_of, next_of, step_at, placed_among, step_due, step_by, step_on, store_asked, asked_next, step_asks_by, step_asks}
-use Rattle.machine.specs.Events.Heal.{offer_of, no_offer_cause, heal_at, heal_on, offer_asks, heal_asks}
-use Rattle.machine.specs.Events.SweepStep.{SweepParts, undecided_stop, sweep_by, sweep_met, sweep_lists, sweep_at, sweep_step_on, sweep_step_asks}
+use Rattle.machine.specs.Events.Step.{step_by}
 use Rattle.machine.proofs.Refusals.{LeavesAll, ending_leaves, going_leaves}
 use Rattle.machine.proofs.StoreAsked.{AskedOnce, asked, refuses, goes}
 

@@ -1,30 +1,14 @@
 -- Moves that look at the commit table, one at a time: the step as a function of what the table has for the transaction, so
 -- that a lemma on the table may say what that is.
-use Rattle.std.proofs.Common.{◌≡◌, ℕ, List, [], ◌∷◌, ◌++◌, append_assoc, Option, Some, None, refl, sym, ap, ◌∙◌}
-use Rattle.stamp_base.specs.declared.stores.Mark.{Mark}
-use Rattle.stamp_base.specs.declared.stores.Mark.TheVariants.{Committed, Invalid}
-use Rattle.port_io.specs.declared.weather.Fate.{Fate}
-use Rattle.port_io.specs.declared.weather.Fate.TheVariants.{Works}
-use Rattle.port_io.specs.Fates.{fated}
-use Rattle.history_book.specs.declared.item.Actor.{Actor}
-use Rattle.history_book.specs.declared.item.Actor.TheVariants.{Session, Janitor}
-use Rattle.history_book.specs.declared.item.Item.{Item}
-use Rattle.system_parts.specs.Rows.{Row}
-use Rattle.system_parts.specs.Pairs.{Pairs, mark_of, put_pair}
-use Rattle.system_parts.specs.declared.asks.Ask.{Ask}
+use Rattle.machine.proofs.Names.{◌≡◌, ℕ, List, [], ◌∷◌, ◌++◌, append_assoc, Option, Some, None, refl, sym, ap, ◌∙◌}
+use Rattle.machine.proofs.Names.{Mark, Committed, Invalid, Fate, Works, fated, Actor, Session, Janitor, Item, Row}
+use Rattle.machine.proofs.Names.{Pairs, mark_of, put_pair, Ask, settle_ask, read_ask, Sweeping, sweep_ask}
+use Rattle.machine.proofs.Names.{InstanceEntry, held_of, UnderWay, Reads, Settles, Client, State, Effect, done, Met}
+use Rattle.machine.proofs.Names.{met, told_entry, told_mark, step_item, Step, Move, after_move, items_after}
+use Rattle.machine.proofs.Names.{state_after, on_table, on_stores, on_swept, to_place, put_by, StepParts, read_step}
+use Rattle.machine.proofs.Names.{settle_step, work_of, sweep_met, sweep_at, sweep_step_on}
 use Rattle.system_parts.specs.declared.asks.Ask.TheVariants as ask
-use Rattle.system_parts.specs.Resolve.{settle_ask}
-use Rattle.system_parts.specs.KeyRead.{read_ask}
-use Rattle.system_parts.specs.Sweep.{Sweeping, sweep_ask}
-use Rattle.system_parts.specs.Instance.{InstanceEntry, held_of}
 use Rattle.machine.specs.declared.event.Event.TheVariants.{SweepStep}
-use Rattle.machine.specs.State.{UnderWay, Reads, Settles, Client, State}
-use Rattle.machine.specs.Effect.{Effect, done}
-use Rattle.machine.specs.StoreSteps.{Met, met, told_entry, told_mark, step_item}
-use Rattle.machine.specs.Machine.{Step, Move, after_move, items_after, state_after, on_table, on_stores, on_swept}
-use Rattle.machine.specs.Events.Put.{to_place, put_by}
-use Rattle.machine.specs.Events.Step.{StepParts, read_step, settle_step, work_of}
-use Rattle.machine.specs.Events.SweepStep.{sweep_met, sweep_at, sweep_step_on}
 
 -- ---- a step that works, by what the table has
 abbrev met_with : Actor → Ask → Option Mark → List Row → Pairs → Met

@@ -1,31 +1,19 @@
 -- A request is told NoStamp and NotYet once: the flag of the request that it holds is set where it is told, and silences it
 -- from then on.
-use Rattle.std.proofs.Common.{◌≡◌, ℕ, zero, suc, ◌+◌, ◌==◌, Bool, true, false, if◌then◌else◌, List, [], ◌∷◌, Option, Some, None, Result, Ok, Err, refl, sym, ◌∙◌, ap, subst}
-use Rattle.std.specs.Prelude.{slice_get, slice_set, slice_index_or, IfSome}
-use Rattle.std.proofs.lemmas.Option.{same_Some}
-use Rattle.history_book.specs.declared.cause.Cause.{Cause}
+use Rattle.machine.proofs.Names.{◌≡◌, ℕ, zero, suc, ◌+◌, ◌==◌, Bool, true, false, if◌then◌else◌, List, [], ◌∷◌, Option}
+use Rattle.machine.proofs.Names.{Some, None, Result, Ok, Err, refl, sym, ◌∙◌, ap, subst, slice_get, slice_set}
+use Rattle.machine.proofs.Names.{slice_index_or, IfSome, same_Some, Cause, Session, Item, Refused, Verdict, Free}
+use Rattle.machine.proofs.Names.{Conflict, Hidden, Held, Decided, Reply, Progress, Accepted, Drawn, Request, Begin}
+use Rattle.machine.proofs.Names.{Commit, InstanceEntry, held_of, no_stamp_of_held, was_told_no_stamp, not_yet_of_held}
+use Rattle.machine.proofs.Names.{was_told_not_yet, stamps_at, least_unsettled, IsStop, out_of_stamps, decide_drawn}
+use Rattle.machine.proofs.Names.{verdict_by, answer_begin, answer_if_ready, answer_held, instance_answer, Client, State}
+use Rattle.machine.proofs.Names.{Refuses, Effect, Step, step_by, with_post, with_client, at_both, on_request}
+use Rattle.machine.proofs.Names.{both_verdict, both_if_accepted, both_held, decide_both, decide_by, decide_request}
+use Rattle.machine.proofs.Names.{decide_on, answer_by, answer_request, answer_on, KeepsStop, RequestsAreToldOnce}
 use Rattle.history_book.specs.declared.cause.Cause.TheVariants as cause
-use Rattle.history_book.specs.declared.item.Actor.TheVariants.{Session}
-use Rattle.history_book.specs.declared.item.Item.{Item}
-use Rattle.history_book.specs.declared.item.Item.TheVariants.{Refused}
-use Rattle.system_parts.specs.declared.buckets.Verdict.{Verdict}
-use Rattle.system_parts.specs.declared.buckets.Verdict.TheVariants.{Free, Conflict, Hidden}
-use Rattle.system_parts.specs.declared.instance.Held.{Held}
-use Rattle.system_parts.specs.declared.instance.Decided.{Decided}
-use Rattle.system_parts.specs.declared.instance.Reply.{Reply}
 use Rattle.system_parts.specs.declared.instance.Reply.TheVariants as reply
-use Rattle.system_parts.specs.declared.instance.Progress.{Progress}
-use Rattle.system_parts.specs.declared.instance.Progress.TheVariants.{Accepted, Drawn, Settled}
-use Rattle.system_parts.specs.declared.instance.Request.{Request}
-use Rattle.system_parts.specs.declared.instance.Request.TheVariants.{Begin, Commit}
-use Rattle.system_parts.specs.Instance.{InstanceEntry, held_of, no_stamp_of_held, was_told_no_stamp, not_yet_of_held, was_told_not_yet, stamps_at, least_unsettled}
-use Rattle.system_parts.specs.InstanceSteps.{IsStop, out_of_stamps, decide_drawn, decide_by as verdict_by, answer_begin, answer_if_ready, answer_held, instance_answer}
-use Rattle.machine.specs.State.{Client, State}
-use Rattle.machine.specs.Effect.{Refuses, Effect}
-use Rattle.machine.specs.Machine.{Step, step_by, with_post, with_client, at_both, on_request}
-use Rattle.machine.specs.Events.Decide.{both_verdict, both_if_accepted, both_held, decide_both, decide_by, decide_request, decide_on}
-use Rattle.machine.specs.Events.Answer.{answer_by, answer_request, answer_on}
-use Rattle.machine.specs.Laws.{InstanceAt, KeepsStop, RequestsAreToldOnce}
+use Rattle.system_parts.specs.declared.instance.Progress.TheVariants.{Settled}
+use Rattle.machine.specs.Laws.{InstanceAt}
 
 -- ---- what is found where it was put
 found_here : (xs : List (Option Held)) (session : ℕ) (held : Held) (now : Option Held) → slice_index_or xs session None ≡ Some held → slice_index_or (slice_set xs session now) session None ≡ now

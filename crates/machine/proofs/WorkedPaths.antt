@@ -1,11 +1,7 @@
 -- The worked histories, computed.
-use Rattle.std.proofs.Common.{◌≡◌, refl}
-use Rattle.stamp_base.specs.SetupNumbers.{default_numbers}
-use Rattle.system_parts.specs.Rows.{put_row, fetched, front_of, without_bare}
-use Rattle.system_parts.specs.Recalled.{recalled_over}
-use Rattle.system_parts.specs.Buckets.{kept_commit, added, without, oldest, record_pairs, verdict}
-use Rattle.system_parts.specs.Instance.{least_unsettled}
-use Rattle.machine.specs.Machine.{items_after, history_after}
+use Rattle.machine.proofs.Names.{◌≡◌, refl, default_numbers, put_row, fetched, front_of, without_bare, recalled_over}
+use Rattle.machine.proofs.Names.{kept_commit, added, without, oldest, record_pairs, verdict, least_unsettled}
+use Rattle.machine.proofs.Names.{items_after, history_after}
 use Rattle.machine.specs.WorkedMoves as worked
 use Rattle.machine.specs.WorkedRefusals as alone
 

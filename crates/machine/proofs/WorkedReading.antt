@@ -1,11 +1,6 @@
 -- The worked histories of transactions whose reads count, computed.
-use Rattle.std.proofs.Common.{◌≡◌, refl}
-use Rattle.stamp_base.specs.SetupNumbers.{default_numbers}
-use Rattle.system_parts.specs.Rows.{put_row, fetched, front_of}
-use Rattle.system_parts.specs.Recalled.{recalled_over}
-use Rattle.system_parts.specs.Buckets.{kept_commit, added, record_pairs, verdict}
-use Rattle.system_parts.specs.Instance.{least_unsettled}
-use Rattle.machine.specs.Machine.{items_after, history_after}
+use Rattle.machine.proofs.Names.{◌≡◌, refl, default_numbers, put_row, fetched, front_of, recalled_over, kept_commit}
+use Rattle.machine.proofs.Names.{added, record_pairs, verdict, least_unsettled, items_after, history_after}
 use Rattle.machine.specs.WorkedReads.{strict_reads, skew_moves, skew_items, read_conflict, both_drawn, left_moves, left_items, fetches_below, nones_below, full_moves, full_items}
 
 pub skew_row : history_after strict_reads skew_moves ≡ skew_items read_conflict

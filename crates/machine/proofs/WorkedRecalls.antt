@@ -1,18 +1,10 @@
 -- The worked histories of sessions that remember, cut at the moves that look at the commit table.
-use Rattle.std.proofs.Common.{◌≡◌, refl, [], ◌∷◌, ◌++◌, Some, None}
-use Rattle.stamp_base.specs.SetupNumbers.{default_numbers}
-use Rattle.stamp_base.specs.declared.stores.Mark.TheVariants.{Committed}
-use Rattle.port_io.specs.declared.weather.Fate.TheVariants.{Works}
-use Rattle.system_parts.specs.Rows.{put_row, fetched, front_of, looked, with_shadow, without_bare, keys_of_version}
-use Rattle.system_parts.proofs.PairLaws.{mark_of-empty}
-use Rattle.system_parts.specs.Recalled.{recalled_over}
-use Rattle.system_parts.specs.Buckets.{kept_commit, added, record_pairs, verdict}
-use Rattle.system_parts.specs.Instance.{least_unsettled}
-use Rattle.machine.specs.State.{opening}
+use Rattle.machine.proofs.Names.{◌≡◌, refl, [], ◌∷◌, ◌++◌, Some, None, default_numbers, Committed, Works, put_row}
+use Rattle.machine.proofs.Names.{fetched, front_of, looked, with_shadow, without_bare, keys_of_version, mark_of-empty}
+use Rattle.machine.proofs.Names.{recalled_over, kept_commit, added, record_pairs, verdict, least_unsettled, opening}
+use Rattle.machine.proofs.Names.{crashed_clients, all_crashed_items, state_after, items_after, history_after, working}
+use Rattle.machine.proofs.Names.{drawn_events, taken_over, reader_begins}
 use Rattle.machine.specs.declared.event.Event.TheVariants as event
-use Rattle.machine.specs.Events.Crash.{crashed_clients, all_crashed_items}
-use Rattle.machine.specs.Machine.{state_after, items_after, history_after}
-use Rattle.machine.specs.WorkedMoves.{working, drawn_events, taken_over, reader_begins}
 use Rattle.machine.specs.WorkedRecalls.{two_decisions, both_placed, first_read, two_reads, two_items, asks_table, marked_moves, marked_items}
 use Rattle.machine.proofs.TableMoves.{Cut, cut_all}
 use Rattle.machine.proofs.WorkedTables.{cut_put, cut_step, has_entry}

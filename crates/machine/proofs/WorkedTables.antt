@@ -1,26 +1,15 @@
 -- The worked histories whose moves look at the commit table, cut at these moves.
-use Rattle.std.proofs.Common.{◌≡◌, ℕ, refl, List, [], ◌∷◌, ◌++◌, Option, Some, None, ap, ◌∙◌}
+use Rattle.machine.proofs.Names.{◌≡◌, ℕ, refl, List, [], ◌∷◌, ◌++◌, Option, Some, None, ap, ◌∙◌, default_numbers, Mark}
+use Rattle.machine.proofs.Names.{Committed, Invalid, Fate, Works, FailsUnchanged, FailsApplied, Pairs, mark_of}
+use Rattle.machine.proofs.Names.{put_pair, put_row, fetched, front_of, looked, with_shadow, without_bare}
+use Rattle.machine.proofs.Names.{keys_of_version, entry_or, mark_of-empty, mark_of-put_pair, committed_goes, Ask}
+use Rattle.machine.proofs.Names.{recalled_over, Sweeping, Marking, sweep_open, kept_commit, added, record_pairs}
+use Rattle.machine.proofs.Names.{verdict, least_unsettled, State, opening, Event, crashed_clients, all_crashed_items}
+use Rattle.machine.proofs.Names.{state_after, items_after, history_after, working, v, begins, draws, drawn_events}
+use Rattle.machine.proofs.Names.{taken_over, reader_begins}
 use Rattle.std.specs.FinMap as map
-use Rattle.stamp_base.specs.SetupNumbers.{default_numbers}
-use Rattle.stamp_base.specs.declared.stores.Mark.{Mark}
-use Rattle.stamp_base.specs.declared.stores.Mark.TheVariants.{Committed, Invalid}
-use Rattle.port_io.specs.declared.weather.Fate.{Fate}
-use Rattle.port_io.specs.declared.weather.Fate.TheVariants.{Works, FailsUnchanged, FailsApplied}
-use Rattle.system_parts.specs.Pairs.{Pairs, mark_of, put_pair}
-use Rattle.system_parts.specs.Rows.{put_row, fetched, front_of, looked, with_shadow, without_bare, keys_of_version}
-use Rattle.system_parts.proofs.PairLaws.{entry_or, mark_of-empty, mark_of-put_pair, committed_goes}
-use Rattle.system_parts.specs.declared.asks.Ask.{Ask}
 use Rattle.system_parts.specs.declared.asks.Ask.TheVariants.{Get, Mark as MarkAsk}
-use Rattle.system_parts.specs.Recalled.{recalled_over}
-use Rattle.system_parts.specs.Sweep.{Sweeping, Marking, sweep_open}
-use Rattle.system_parts.specs.Buckets.{kept_commit, added, record_pairs, verdict}
-use Rattle.system_parts.specs.Instance.{least_unsettled}
-use Rattle.machine.specs.State.{State, opening}
-use Rattle.machine.specs.declared.event.Event.{Event}
 use Rattle.machine.specs.declared.event.Event.TheVariants as event
-use Rattle.machine.specs.Events.Crash.{crashed_clients, all_crashed_items}
-use Rattle.machine.specs.Machine.{state_after, items_after, history_after}
-use Rattle.machine.specs.WorkedMoves.{working, v, begins, draws, drawn_events, taken_over, reader_begins}
 use Rattle.machine.specs.WorkedMoves as worked
 use Rattle.machine.proofs.TableMoves.{put_step, session_step, janitor_step, janitor_gets, Cut, cut_step_of, cut_all}
 

@@ -1,41 +1,22 @@
 -- Which items ask: where a session's own client does not, what stands since its last ask grows longer.
-use Rattle.std.proofs.Common.{◌≡◌, ℕ, ◌+◌, Bool, true, false, if◌then◌else◌, List, [], ◌∷◌, ◌++◌, Option, None, Some, inl, inr, refl, sym, ◌∙◌, ap, subst}
-use Rattle.std.specs.Prelude.{All}
-use Rattle.std.proofs.lemmas.Bool.{cases_eq, ne_eqb}
-use Rattle.std.proofs.lemmas.List.Elements.{All-nil, All-cons, All-append, All-weaker}
-use Rattle.history_book.specs.Members.{◌∈◌}
+use Rattle.request_completion.proofs.Names.{◌≡◌, ℕ, ◌+◌, Bool, true, false, if◌then◌else◌, List, [], ◌∷◌, ◌++◌, Option}
+use Rattle.request_completion.proofs.Names.{None, Some, inl, inr, refl, sym, ◌∙◌, ap, subst, All, cases_eq, ne_eqb}
+use Rattle.request_completion.proofs.Names.{All-nil, All-cons, All-append, All-weaker, ◌∈◌, Session, Handed, Item}
+use Rattle.request_completion.proofs.Names.{in_front, in_back, granted, SettleTurn, Goes, Decides, settle_ask}
+use Rattle.request_completion.proofs.Names.{settle_turn, Held, Request, Begin, Commit, Settled, Client, State, told_by}
+use Rattle.request_completion.proofs.Names.{loss_heard, loss_items, crashed_items, all_crashed_items, draw_item}
+use Rattle.request_completion.proofs.Names.{settle_items, rules_of, take_item, ask_by, asks_for, its_ask, since_ask}
+use Rattle.request_completion.proofs.Names.{ClientAt, one_client, not_true, Silent, AllSilent, fault_if, answered_item}
+use Rattle.request_completion.proofs.Names.{own_told, Outcome, OfGranted, OfCrashed, OfAskedBegin, OfAskedCommit}
+use Rattle.request_completion.proofs.Names.{OfAccepted, OfEnded, OfDrew, OfAnsweredBegin, OfAnsweredCommit, OfHanded}
+use Rattle.request_completion.proofs.Names.{OfOwnPlaced, OfOwnNotPlaced, OfOutcome, told_by_outcome, fault_if_silent}
+use Rattle.request_completion.proofs.Names.{silent_items}
 use Rattle.history_book.specs.declared.cause.Cause.TheVariants as cause
-use Rattle.history_book.specs.declared.item.Actor.TheVariants.{Session}
-use Rattle.history_book.specs.declared.item.StoreStep.TheVariants.{Handed}
-use Rattle.history_book.specs.declared.item.Item.{Item}
 use Rattle.history_book.specs.declared.item.Item.TheVariants as item
-use Rattle.history_book.proofs.MemberLemmas.{in_front, in_back}
-use Rattle.system_parts.specs.Record.{granted}
 use Rattle.system_parts.specs.declared.resolve.Outcome.TheVariants as outcome
 use Rattle.system_parts.specs.declared.session.State as state
 use Rattle.system_parts.specs.declared.session.State.TheVariants as phase
-use Rattle.system_parts.specs.Resolve.{SettleTurn, Goes, Decides, settle_ask, settle_turn}
-use Rattle.system_parts.specs.declared.instance.Held.{Held}
-use Rattle.system_parts.specs.declared.instance.Request.{Request}
-use Rattle.system_parts.specs.declared.instance.Request.TheVariants.{Begin, Commit}
-use Rattle.system_parts.specs.declared.instance.Settled.{Settled}
 use Rattle.system_parts.specs.declared.instance.Settled.TheVariants as how
-use Rattle.machine.specs.State.{Client, State}
-use Rattle.machine.specs.StoreSteps.{told_by}
-use Rattle.machine.specs.Events.Crash.{loss_heard, loss_items, crashed_items, all_crashed_items}
-use Rattle.machine.specs.Events.Decide.{draw_item}
-use Rattle.machine.specs.Events.Step.{settle_items}
-use Rattle.machine.specs.Events.Take.{rules_of, take_item}
-use Rattle.cause_rules.specs.Asks.{ask_by, asks_for, its_ask, since_ask}
-use Rattle.isolation_laws.specs.Words.{ClientAt}
-use Rattle.machine.proofs.Lookups.{one_client}
-use Rattle.isolation_laws.proofs.Pushed.{not_true}
-use Rattle.machine.specs.Plain.{Silent, AllSilent}
-use Rattle.machine.specs.Outcome.OutcomesOfRecord.{fault_if}
-use Rattle.machine.specs.Outcome.OutcomesOfStamps.{answered_item}
-use Rattle.machine.specs.Outcome.OutcomesOfPlacings.{own_told}
-use Rattle.machine.specs.Outcome.Outcomes.{Outcome, OfGranted, OfCrashed, OfAskedBegin, OfAskedCommit, OfAccepted, OfEnded, OfDrew, OfAnsweredBegin, OfAnsweredCommit, OfHanded, OfOwnPlaced, OfOwnNotPlaced, OfOutcome, told_by_outcome}
-use Rattle.cause_laws.proofs.SilentOutcomes.{fault_if_silent, silent_items}
 use Rattle.cause_laws.proofs.SinceWords.{last_told-same, since-more}
 
 abbrev pub NotAsked : ℕ → Item → Type 0

@@ -1,20 +1,11 @@
 -- Who asks was free, or had its transaction open, and the ask is told alone.
-use Rattle.std.proofs.Common.{◌≡◌, ℕ, true, false, List, [], ◌∷◌, Some, inl, inr, refl, sym, ◌∙◌, ap, subst}
-use Rattle.std.specs.Prelude.{slice_set}
-use Rattle.std.proofs.lemmas.Bool.{eq-eqb}
-use Rattle.std.proofs.lemmas.List.Elements.{All-head, All-tail}
-use Rattle.history_book.specs.Members.{◌∈◌}
-use Rattle.history_book.specs.declared.item.Item.{Item}
+use Rattle.request_completion.proofs.Names.{◌≡◌, ℕ, true, false, List, [], ◌∷◌, Some, inl, inr, refl, sym, ◌∙◌, ap}
+use Rattle.request_completion.proofs.Names.{subst, slice_set, eq-eqb, All-head, All-tail, ◌∈◌, Item, asked_state}
+use Rattle.request_completion.proofs.Names.{Client, State, client_asked, ClientAt, each_outcome, client_set, one_client}
+use Rattle.request_completion.proofs.Names.{AskedBegin, asked_begin_state, asked_begin_items, AskedCommit}
+use Rattle.request_completion.proofs.Names.{asked_commit_state, Outcome, OfAskedBegin, OfAskedCommit, left_by}
+use Rattle.request_completion.proofs.Names.{told_by_outcome, TakesAsks, AsksAreTurns}
 use Rattle.history_book.specs.declared.item.Item.TheVariants as item
-use Rattle.system_parts.specs.SessionSteps.{asked_state}
-use Rattle.machine.specs.State.{Client, State}
-use Rattle.machine.specs.Clients.{client_asked}
-use Rattle.isolation_laws.specs.Words.{ClientAt}
-use Rattle.isolation_laws.proofs.AlwaysHolds.{each_outcome}
-use Rattle.machine.proofs.Lookups.{client_set, one_client}
-use Rattle.machine.specs.Outcome.OutcomesOfRequests.{AskedBegin, asked_begin_state, asked_begin_items, AskedCommit, asked_commit_state}
-use Rattle.machine.specs.Outcome.Outcomes.{Outcome, OfAskedBegin, OfAskedCommit, left_by, told_by_outcome}
-use Rattle.request_completion.specs.SessionTransitions.{TakesAsks, AsksAreTurns}
 use Rattle.request_completion.proofs.OwingItems.{only_is}
 use Rattle.request_completion.proofs.OwingOutcomes.{among}
 use Rattle.request_completion.proofs.AskItems.{NotAsked, NoneAsked, plain_asks}

@@ -1,31 +1,20 @@
 -- Every outcome keeps that a node holds the request of each session that waits for the end of its commit.
-use Rattle.std.proofs.Common.{◌≡◌, ℕ, ◌<◌, Bool, true, false, List, [], ◌∷◌, length, Option, None, Some, inl, inr, refl, sym, ◌∙◌, ap, subst}
-use Rattle.std.specs.Prelude.{slice_set}
-use Rattle.std.proofs.lemmas.Bool.{cases_eq, cases_lt}
-use Rattle.std.proofs.lemmas.List.{get_or_past}
-use Rattle.std.proofs.lemmas.Option.{same_Some, none-some}
-use Rattle.history_book.specs.declared.item.Item.{Item}
-use Rattle.system_parts.specs.declared.session.State.{State as SessionState}
+use Rattle.request_completion.proofs.Names.{◌≡◌, ℕ, ◌<◌, Bool, true, false, List, [], ◌∷◌, length, Option, None, Some}
+use Rattle.request_completion.proofs.Names.{inl, inr, refl, sym, ◌∙◌, ap, subst, slice_set, cases_eq, cases_lt}
+use Rattle.request_completion.proofs.Names.{get_or_past, same_Some, none-some, Item, SessionState, SessionEntry}
+use Rattle.request_completion.proofs.Names.{aborted_by, Held, Request, Begin, Commit, Settled, InstanceEntry, held_of}
+use Rattle.request_completion.proofs.Names.{with_request, without_request, instance_stopped, held_of-with_request_same}
+use Rattle.request_completion.proofs.Names.{held_of-with_request_other, Client, State, client_begun, client_freed}
+use Rattle.request_completion.proofs.Names.{client_aborted, client_handed, client_opened, unless_gone, unless_gone_by}
+use Rattle.request_completion.proofs.Names.{after_refusal, after_loss, crashed_client, InstanceAt, ClientAt, set_found}
+use Rattle.request_completion.proofs.Names.{set_other, client_set, one_instance, StillBy, RestsBy, Stops, TellsOne}
+use Rattle.request_completion.proofs.Names.{Granted, granted_nodes, Renewed, renewed_nodes, Extended, extended_nodes}
+use Rattle.request_completion.proofs.Names.{Crashed, crashed_state, AtDrawn, settled_nodes, answered_client, Outcome}
+use Rattle.request_completion.proofs.Names.{OfStill, OfGranted, OfRenewed, OfExtended, OfCrashed, OfAskedBegin}
+use Rattle.request_completion.proofs.Names.{OfAskedCommit, OfAccepted, OfEnded, OfDrew, OfPlaced, OfNotPlaced}
+use Rattle.request_completion.proofs.Names.{OfAnsweredBegin, OfAnsweredCommit, OfHanded, left_by, IsHeld}
 use Rattle.system_parts.specs.declared.session.State.TheVariants as phase
-use Rattle.system_parts.specs.SessionSteps.{SessionEntry, aborted_by}
-use Rattle.system_parts.specs.declared.instance.Held.{Held}
-use Rattle.system_parts.specs.declared.instance.Request.{Request}
-use Rattle.system_parts.specs.declared.instance.Request.TheVariants.{Begin, Commit}
-use Rattle.system_parts.specs.declared.instance.Settled.{Settled}
 use Rattle.system_parts.specs.declared.instance.Settled.TheVariants as how
-use Rattle.system_parts.specs.Instance.{InstanceEntry, held_of, with_request}
-use Rattle.system_parts.specs.InstanceSteps.{without_request, instance_stopped}
-use Rattle.system_parts.proofs.InstanceRequests.{held_of-with_request_same, held_of-with_request_other}
-use Rattle.machine.specs.State.{Client, State}
-use Rattle.machine.specs.Clients.{client_begun, client_freed, client_aborted, client_handed, client_opened, unless_gone, unless_gone_by, after_refusal}
-use Rattle.machine.specs.Events.Crash.{after_loss, crashed_client}
-use Rattle.isolation_laws.specs.Words.{InstanceAt, ClientAt}
-use Rattle.machine.proofs.Lookups.{set_found, set_other, client_set, one_instance}
-use Rattle.machine.specs.Outcome.OutcomesOfRecord.{StillBy, Rests as RestsBy, Stops, Tells as TellsOne, Granted, granted_nodes, Renewed, renewed_nodes, Extended, extended_nodes}
-use Rattle.machine.specs.Outcome.OutcomesOfRequests.{Crashed, crashed_state}
-use Rattle.machine.specs.Outcome.OutcomesOfStamps.{AtDrawn, settled_nodes, answered_client}
-use Rattle.machine.specs.Outcome.Outcomes.{Outcome, OfStill, OfGranted, OfRenewed, OfExtended, OfCrashed, OfAskedBegin, OfAskedCommit, OfAccepted, OfEnded, OfDrew, OfPlaced, OfNotPlaced, OfAnsweredBegin, OfAnsweredCommit, OfHanded, left_by}
-use Rattle.request_completion.specs.Ends.{IsHeld}
 use Rattle.request_completion.proofs.CrashedClients.{crashed_is}
 
 -- ---- one node is set

@@ -1,29 +1,15 @@
 -- Every event keeps that a node holds the request of each session that waits for the end of its commit.
-use Rattle.std.proofs.Common.{◌≡◌, ℕ, ◌<◌, false, List, [], ◌∷◌, length, Some, ◌⊎◌, inl, inr, refl, sym, ◌∙◌, ap, subst, arith}
-use Rattle.std.proofs.lemmas.Option.{slice_get_within}
-use Rattle.port_io.specs.declared.weather.Fate.{Fate}
-use Rattle.history_book.specs.Members.{◌∈◌}
-use Rattle.history_book.specs.declared.item.Item.{Item}
+use Rattle.request_completion.proofs.Names.{◌≡◌, ℕ, ◌<◌, false, List, [], ◌∷◌, length, Some, ◌⊎◌, inl, inr, refl, sym}
+use Rattle.request_completion.proofs.Names.{◌∙◌, ap, subst, arith, slice_get_within, Fate, ◌∈◌, Item, in_last}
+use Rattle.request_completion.proofs.Names.{SessionEntry, Held, Commit, with_request, just_asked}
+use Rattle.request_completion.proofs.Names.{held_of-with_request_same, Event, Client, State, stepped, ClientAt}
+use Rattle.request_completion.proofs.Names.{each_outcome, set_found, AskedCommit, asked_commit_state, Outcome}
+use Rattle.request_completion.proofs.Names.{OfAskedBegin, OfAskedCommit, left_by, told_by_outcome, ExplainedInvariant}
+use Rattle.request_completion.proofs.Names.{IsHeld, AreAwaited, SessionTransition, Rests, AsksBegin, AsksCommit, Begins}
+use Rattle.request_completion.proofs.Names.{LosesBegin, Writes, Frees, Undoes, Hands, Commits, Refuses, LeavesOpen}
+use Rattle.request_completion.proofs.Names.{Vanishes, IsGone}
 use Rattle.history_book.specs.declared.item.Item.TheVariants as item
-use Rattle.history_book.proofs.MemberLemmas.{in_last}
 use Rattle.system_parts.specs.declared.session.State.TheVariants as phase
-use Rattle.system_parts.specs.SessionSteps.{SessionEntry}
-use Rattle.system_parts.specs.declared.instance.Held.{Held}
-use Rattle.system_parts.specs.declared.instance.Request.TheVariants.{Commit}
-use Rattle.system_parts.specs.Instance.{with_request}
-use Rattle.system_parts.specs.InstanceSteps.{just_asked}
-use Rattle.system_parts.proofs.InstanceRequests.{held_of-with_request_same}
-use Rattle.machine.specs.declared.event.Event.{Event}
-use Rattle.machine.specs.State.{Client, State}
-use Rattle.machine.specs.Machine.{stepped}
-use Rattle.isolation_laws.specs.Words.{ClientAt}
-use Rattle.isolation_laws.proofs.AlwaysHolds.{each_outcome}
-use Rattle.machine.proofs.Lookups.{set_found}
-use Rattle.machine.specs.Outcome.OutcomesOfRequests.{AskedCommit, asked_commit_state}
-use Rattle.machine.specs.Outcome.Outcomes.{Outcome, OfAskedBegin, OfAskedCommit, left_by, told_by_outcome}
-use Rattle.cause_laws.specs.ShownInvariant.{ExplainedInvariant}
-use Rattle.request_completion.specs.Ends.{IsHeld, AreAwaited}
-use Rattle.request_completion.specs.SessionTransitions.{SessionTransition, Rests, AsksBegin, AsksCommit, Begins, LosesBegin, Writes, Frees, Undoes, Hands, Commits, Refuses, LeavesOpen, Vanishes, IsGone}
 use Rattle.request_completion.proofs.OwingItems.{only_is}
 use Rattle.request_completion.proofs.OwingOutcomes.{among}
 use Rattle.request_completion.proofs.AskItems.{plain_asks}

@@ -1,30 +1,13 @@
 -- Whoever is told of a begin asked for one last.
-use Rattle.std.proofs.Common.{◌≡◌, ℕ, List, [], ◌∷◌, None, Some, inl, inr, subst, take}
-use Rattle.std.specs.Prelude.{slice_get}
-use Rattle.std.proofs.lemmas.Option.{none-some}
-use Rattle.port_io.specs.declared.weather.Fate.{Fate}
-use Rattle.history_book.specs.Members.{◌∈◌}
-use Rattle.history_book.specs.declared.cause.Cause.{Cause}
+use Rattle.request_completion.proofs.Names.{◌≡◌, ℕ, List, [], ◌∷◌, None, Some, inl, inr, subst, take, slice_get}
+use Rattle.request_completion.proofs.Names.{none-some, Fate, ◌∈◌, Cause, Session, Item, Request, Begin, Commit, Event}
+use Rattle.request_completion.proofs.Names.{State, stepped, its_ask, Due, DueLoss, cause_of_loss, dues, each_outcome}
+use Rattle.request_completion.proofs.Names.{place_of, not_true, quiet_in, told_by_outcome, ask_for, ExplainedInvariant}
+use Rattle.request_completion.proofs.Names.{IsAsked, OfBegin, BeginsAreAsked}
 use Rattle.history_book.specs.declared.cause.Cause.TheVariants as cause
-use Rattle.history_book.specs.declared.item.Actor.TheVariants.{Session}
-use Rattle.history_book.specs.declared.item.Item.{Item}
 use Rattle.history_book.specs.declared.item.Item.TheVariants as item
-use Rattle.system_parts.specs.declared.instance.Request.{Request}
-use Rattle.system_parts.specs.declared.instance.Request.TheVariants.{Begin, Commit}
-use Rattle.machine.specs.declared.event.Event.{Event}
-use Rattle.machine.specs.State.{State}
-use Rattle.machine.specs.Machine.{stepped}
-use Rattle.cause_rules.specs.Asks.{its_ask}
-use Rattle.machine.specs.Due.{Due, DueLoss, cause_of_loss}
-use Rattle.isolation_laws.proofs.AlwaysHolds.{dues, each_outcome}
-use Rattle.isolation_laws.proofs.OnceEach.{place_of}
-use Rattle.isolation_laws.proofs.Pushed.{not_true, quiet_in}
-use Rattle.machine.specs.Outcome.Outcomes.{told_by_outcome}
 use Rattle.isolation_laws.proofs.Numbers.Placings.{placed_item}
 use Rattle.isolation_laws.proofs.Holding.IsolatedItems.{Stamping, StampsNone, StampsPlaced, StampsBegin, stamping, begin_old}
-use Rattle.cause_laws.specs.Requests.{ask_for}
-use Rattle.cause_laws.specs.ShownInvariant.{ExplainedInvariant}
-use Rattle.request_completion.specs.SessionTransitions.{IsAsked, OfBegin, BeginsAreAsked}
 use Rattle.request_completion.proofs.OwingItems.{only_is}
 use Rattle.request_completion.proofs.OwingOutcomes.{among}
 use Rattle.request_completion.proofs.SessionTurns.{asked_of}

@@ -1,31 +1,18 @@
 -- Every outcome keeps that a transaction whose commit was asked for is open nowhere, and writes no further key.
-use Rattle.std.proofs.Common.{◌≡◌, ℕ, List, [], ◌∷◌, ◌++◌, Some, inl, inr, refl, sym, ◌∙◌, ap, subst}
-use Rattle.std.proofs.lemmas.List.{append-nil}
-use Rattle.history_book.specs.Members.{◌∈◌}
-use Rattle.history_book.specs.declared.item.Item.{Item}
+use Rattle.request_completion.proofs.Names.{◌≡◌, ℕ, List, [], ◌∷◌, ◌++◌, Some, inl, inr, refl, sym, ◌∙◌, ap, subst}
+use Rattle.request_completion.proofs.Names.{append-nil, ◌∈◌, Item, in_front, asked_state, Client, State, client_asked}
+use Rattle.request_completion.proofs.Names.{written_keys, IsolationInvariant, IsOpen, ClientAt, epoch_or_none, OpenAt}
+use Rattle.request_completion.proofs.Names.{Begun, client_set, begun_once, AskedCommit, asked_commit_state, Outcome}
+use Rattle.request_completion.proofs.Names.{OfAskedBegin, OfAskedCommit, OfAnsweredBegin, OfWrote, left_by}
+use Rattle.request_completion.proofs.Names.{told_by_outcome, in_append, written_keys-push, written_keys-other}
+use Rattle.request_completion.proofs.Names.{open_answered_begin, fewer_is_open, AreClosed}
 use Rattle.history_book.specs.declared.item.Item.TheVariants as item
-use Rattle.history_book.proofs.MemberLemmas.{in_front}
 use Rattle.system_parts.specs.declared.session.State.TheVariants as phase
-use Rattle.system_parts.specs.SessionSteps.{asked_state}
-use Rattle.machine.specs.State.{Client, State}
-use Rattle.machine.specs.Clients.{client_asked}
-use Rattle.cause_rules.specs.Written.{written_keys}
-use Rattle.isolation_laws.specs.IsolationInvariant.{IsolationInvariant}
-use Rattle.isolation_laws.specs.Pending.{IsOpen}
-use Rattle.isolation_laws.specs.Words.{ClientAt, epoch_or_none, OpenAt, Begun}
 use Rattle.isolation_laws.proofs.Holding.LeftAlone as left
-use Rattle.machine.proofs.Lookups.{client_set}
 use Rattle.isolation_laws.proofs.Numbers.NumbersKept.{open_begun}
-use Rattle.isolation_laws.proofs.OnceEach.{begun_once}
-use Rattle.machine.specs.Outcome.OutcomesOfRequests.{AskedCommit, asked_commit_state}
-use Rattle.machine.specs.Outcome.Outcomes.{Outcome, OfAskedBegin, OfAskedCommit, OfAnsweredBegin, OfWrote, left_by, told_by_outcome}
-use Rattle.isolation_laws.proofs.Pushed.{in_append, written_keys-push}
 use Rattle.isolation_laws.proofs.Requests.ClientMoves.{at_work_after}
-use Rattle.isolation_laws.proofs.Requests.ClientsAfter.{written_keys-other}
-use Rattle.isolation_laws.proofs.Requests.OpenAfter.{open_answered_begin, fewer_is_open}
 use Rattle.isolation_laws.proofs.Requests.RequestsOfBegins.{start_unbegun}
 use Rattle.isolation_laws.proofs.Requests.RequestsOfWrites.{wrote_open}
-use Rattle.request_completion.specs.Ends.{AreClosed}
 use Rattle.request_completion.proofs.OwingItems.{only_is}
 use Rattle.request_completion.proofs.OwingOutcomes.{among}
 use Rattle.request_completion.proofs.AskItems.{Asking, Nobody, ForBegin, ForCommit, asking, plain_asks}

@@ -1,25 +1,11 @@
 -- What its own step makes of a client whose completion is under way.
-use Rattle.std.proofs.Common.{◌≡◌, ℕ, List, [], ◌∷◌, Option, inl, inr, refl, sym, ◌∙◌, ap, subst}
-use Rattle.std.specs.Prelude.{slice_set}
-use Rattle.port_io.specs.declared.weather.Fate.{Fate}
-use Rattle.port_io.specs.declared.weather.Fate.TheVariants.{Works, FailsUnchanged, FailsApplied}
-use Rattle.history_book.specs.Members.{◌∈◌}
-use Rattle.history_book.proofs.MemberLemmas.{in_back}
-use Rattle.history_book.specs.declared.item.Actor.TheVariants.{Session}
-use Rattle.history_book.specs.declared.item.Item.{Item}
+use Rattle.request_completion.proofs.Names.{◌≡◌, ℕ, List, [], ◌∷◌, Option, inl, inr, refl, sym, ◌∙◌, ap, subst}
+use Rattle.request_completion.proofs.Names.{slice_set, Fate, Works, FailsUnchanged, FailsApplied, ◌∈◌, in_back, Session}
+use Rattle.request_completion.proofs.Names.{Item, Row, Pairs, Ask, Completes, Client, mark_kept, store_of, told_by}
+use Rattle.request_completion.proofs.Names.{Effect, Step, stepped, at_client, step_by, with_client, StepParts, step_at}
+use Rattle.request_completion.proofs.Names.{step_on, ClientAt, client_set, GoesOn, StepsMoveCompletions}
 use Rattle.history_book.specs.declared.item.Item.TheVariants as item
-use Rattle.system_parts.specs.Rows.{Row}
-use Rattle.system_parts.specs.Pairs.{Pairs}
-use Rattle.system_parts.specs.declared.asks.Ask.{Ask}
 use Rattle.machine.specs.declared.event.Event.TheVariants as event
-use Rattle.machine.specs.State.{Completes, Client}
-use Rattle.machine.specs.StoreSteps.{mark_kept, store_of, told_by}
-use Rattle.machine.specs.Effect.{Effect}
-use Rattle.machine.specs.Machine.{Step, stepped, at_client, step_by, with_client}
-use Rattle.machine.specs.Events.Step.{StepParts, step_at, step_on}
-use Rattle.isolation_laws.specs.Words.{ClientAt}
-use Rattle.machine.proofs.Lookups.{client_set}
-use Rattle.request_completion.specs.Completions.{GoesOn, StepsMoveCompletions}
 use Rattle.request_completion.proofs.IdleSteps.{completing_effect}
 
 -- by the fate of its call

@@ -1,32 +1,16 @@
 -- One event: a step that a session has still to make is made, fails, or is left; or the session vanishes.
-use Rattle.std.proofs.Common.{◌≡◌, ℕ, Bool, List, [], ◌∷◌, ◌++◌, Option, Some, ◌⊎◌, inl, inr, refl, sym, ◌∙◌, ap, subst}
-use Rattle.std.specs.Prelude.{slice_set}
-use Rattle.std.proofs.lemmas.Bool.{cases_eq}
-use Rattle.port_io.specs.declared.weather.Fate.{Fate}
-use Rattle.history_book.specs.Members.{◌∈◌}
-use Rattle.history_book.specs.declared.item.Actor.TheVariants.{Session}
-use Rattle.history_book.specs.declared.item.Item.{Item}
+use Rattle.request_completion.proofs.Names.{◌≡◌, ℕ, Bool, List, [], ◌∷◌, ◌++◌, Option, Some, ◌⊎◌, inl, inr, refl, sym}
+use Rattle.request_completion.proofs.Names.{◌∙◌, ap, subst, slice_set, cases_eq, Fate, ◌∈◌, Session, Item, in_front}
+use Rattle.request_completion.proofs.Names.{in_back, Ask, Told, SessionState, SessionEntry, vanish_refusal, Event}
+use Rattle.request_completion.proofs.Names.{Completes, Client, State, client_vanished, Step, stepped, at_client}
+use Rattle.request_completion.proofs.Names.{step_by, with_client, after_asks, vanish_by, vanish_on, step_item, store_of}
+use Rattle.request_completion.proofs.Names.{ClientAt, client_set, ExplainedInvariant, GoesOn, AreGoneSince, IsToAsk}
+use Rattle.request_completion.proofs.Names.{HasVanished, Comes, Made, Failed, Vanished, Left, SessionTransition, Rests}
+use Rattle.request_completion.proofs.Names.{AsksBegin, AsksCommit, Begins, LosesBegin, Writes, Frees, Undoes, Hands}
+use Rattle.request_completion.proofs.Names.{Commits, Refuses, LeavesOpen, Vanishes, IsGone}
 use Rattle.history_book.specs.declared.item.Item.TheVariants as item
-use Rattle.history_book.proofs.MemberLemmas.{in_front, in_back}
-use Rattle.system_parts.specs.declared.asks.Ask.{Ask}
-use Rattle.system_parts.specs.declared.asks.Told.{Told}
-use Rattle.system_parts.specs.declared.session.State.{State as SessionState}
 use Rattle.system_parts.specs.declared.session.State.TheVariants as phase
-use Rattle.system_parts.specs.SessionSteps.{SessionEntry, vanish_refusal}
-use Rattle.machine.specs.declared.event.Event.{Event}
 use Rattle.machine.specs.declared.event.Event.TheVariants as event
-use Rattle.machine.specs.State.{Completes, Client, State}
-use Rattle.machine.specs.Clients.{client_vanished}
-use Rattle.machine.specs.Machine.{Step, stepped, at_client, step_by, with_client}
-use Rattle.machine.specs.Events.Step.{after_asks}
-use Rattle.machine.specs.Events.Vanish.{vanish_by, vanish_on}
-use Rattle.machine.specs.StoreSteps.{step_item, store_of}
-use Rattle.isolation_laws.specs.Words.{ClientAt}
-use Rattle.machine.proofs.Lookups.{client_set}
-use Rattle.cause_laws.specs.ShownInvariant.{ExplainedInvariant}
-use Rattle.request_completion.specs.Completions.{GoesOn}
-use Rattle.request_completion.specs.Ends.{AreGoneSince, IsToAsk, HasVanished, Comes, Made, Failed, Vanished, Left}
-use Rattle.request_completion.specs.SessionTransitions.{SessionTransition, Rests, AsksBegin, AsksCommit, Begins, LosesBegin, Writes, Frees, Undoes, Hands, Commits, Refuses, LeavesOpen, Vanishes, IsGone}
 use Rattle.request_completion.proofs.EventFacts.{still_there}
 use Rattle.request_completion.proofs.LeftByOthers.{others_leave_completions}
 use Rattle.request_completion.proofs.CompletionMoves.{steps_move_completions}

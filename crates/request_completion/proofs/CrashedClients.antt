@@ -1,17 +1,10 @@
 -- What a crash makes of the clients and tells them, one by one.
-use Rattle.std.proofs.Common.{◌≡◌, ℕ, zero, suc, List, [], ◌∷◌, Option, None, Some, inl, inr, refl, sym, ◌∙◌, ap, subst}
-use Rattle.std.specs.Prelude.{slice_index_or}
-use Rattle.std.proofs.lemmas.Option.{same_Some, none-some}
-use Rattle.history_book.specs.Members.{◌∈◌}
-use Rattle.history_book.specs.declared.item.Item.{Item}
-use Rattle.history_book.proofs.MemberLemmas.{in_front, in_back}
+use Rattle.request_completion.proofs.Names.{◌≡◌, ℕ, zero, suc, List, [], ◌∷◌, Option, None, Some, inl, inr, refl, sym}
+use Rattle.request_completion.proofs.Names.{◌∙◌, ap, subst, slice_index_or, same_Some, none-some, ◌∈◌, Item, in_front}
+use Rattle.request_completion.proofs.Names.{in_back, Held, Client, loss_heard, loss_items, crashed_client}
+use Rattle.request_completion.proofs.Names.{crashed_items, crashed_clients, all_crashed_items, ClientAt, in_append}
 use Rattle.system_parts.specs.declared.session.State as state
 use Rattle.system_parts.specs.declared.session.State.TheVariants as phase
-use Rattle.system_parts.specs.declared.instance.Held.{Held}
-use Rattle.machine.specs.State.{Client}
-use Rattle.machine.specs.Events.Crash.{loss_heard, loss_items, crashed_client, crashed_items, crashed_clients, all_crashed_items}
-use Rattle.isolation_laws.specs.Words.{ClientAt}
-use Rattle.isolation_laws.proofs.Pushed.{in_append}
 
 -- the client of a session, by the request that was held of it
 pub crashed_is : (requests : List (Option Held)) (clients : List Client) (s : ℕ) (c d : Client) → ClientAt clients s c → ClientAt (crashed_clients requests clients) s d → d ≡ crashed_client (slice_index_or requests s None) c

@@ -1,24 +1,13 @@
 -- A request that had drawn nothing is ended by a refusal that leaves cells, and neither by a crash nor by an open outcome.
-use Rattle.std.proofs.Common.{◌≡◌, ℕ, true, IsTrue, List, [], ◌∷◌, ◌++◌, Some, ◌⊎◌, inl, inr, refl, sym, ◌∙◌, ap, subst}
-use Rattle.std.proofs.lemmas.Option.{none-some}
-use Rattle.history_book.specs.declared.cause.Cause.{Cause}
+use Rattle.request_completion.proofs.Names.{◌≡◌, ℕ, true, IsTrue, List, [], ◌∷◌, ◌++◌, Some, ◌⊎◌, inl, inr, refl, sym}
+use Rattle.request_completion.proofs.Names.{◌∙◌, ap, subst, none-some, Cause, Session, Item, Held, Progress}
+use Rattle.request_completion.proofs.Names.{InstanceEntry, held_of, State, ends_request, Due, AreDue, DueSettled}
+use Rattle.request_completion.proofs.Names.{IsolationInvariant, InstanceAt, one_instance, one_held, held_by, Ended}
+use Rattle.request_completion.proofs.Names.{leaves_cells}
 use Rattle.history_book.specs.declared.cause.Cause.TheVariants as cause
-use Rattle.history_book.specs.declared.item.Actor.TheVariants.{Session}
-use Rattle.history_book.specs.declared.item.Item.{Item}
 use Rattle.history_book.specs.declared.item.Item.TheVariants as item
-use Rattle.system_parts.specs.declared.instance.Held.{Held}
-use Rattle.system_parts.specs.declared.instance.Progress.{Progress}
 use Rattle.system_parts.specs.declared.instance.Progress.TheVariants as progress
 use Rattle.system_parts.specs.declared.instance.Settled.TheVariants as how
-use Rattle.system_parts.specs.Instance.{InstanceEntry, held_of}
-use Rattle.machine.specs.State.{State}
-use Rattle.cause_rules.specs.OpenAsks.{ends_request}
-use Rattle.machine.specs.Due.{Due, AreDue, DueSettled}
-use Rattle.isolation_laws.specs.IsolationInvariant.{IsolationInvariant}
-use Rattle.isolation_laws.specs.Words.{InstanceAt}
-use Rattle.machine.proofs.Lookups.{one_instance, one_held, held_by}
-use Rattle.machine.specs.Outcome.OutcomesOfRequests.{Ended}
-use Rattle.request_completion.specs.Closings.{leaves_cells}
 
 -- ---- nothing stands before it
 none_behind : (kept : List Item) (x : Item) → [] ≡ kept ++ x ∷ [] → ⊥

@@ -1,37 +1,19 @@
 -- Which items tell a session how its commit ends, and of which outcomes.
-use Rattle.std.proofs.Common.{◌≡◌, ℕ, ◌+◌, Bool, true, false, List, [], ◌∷◌, ◌++◌, inl, inr, refl, sym, subst}
-use Rattle.std.proofs.lemmas.List.Elements.{All-head, All-tail}
-use Rattle.stamp_base.specs.declared.stores.Store.TheVariants.{Table}
-use Rattle.history_book.specs.Members.{◌∈◌}
-use Rattle.history_book.specs.declared.cause.Cause.{Cause}
+use Rattle.request_completion.proofs.Names.{◌≡◌, ℕ, ◌+◌, Bool, true, false, List, [], ◌∷◌, ◌++◌, inl, inr, refl, sym}
+use Rattle.request_completion.proofs.Names.{subst, All-head, All-tail, Table, ◌∈◌, Cause, Session, Handed, PutFound}
+use Rattle.request_completion.proofs.Names.{Item, granted, Request, Begin, Commit, Settled, session_of, Client, State}
+use Rattle.request_completion.proofs.Names.{loss_heard, loss_items, draw_item, rules_of, take_item, ends_request}
+use Rattle.request_completion.proofs.Names.{not_true, in_append, Silent, AllSilent, none_silent, one_silent, fault_if}
+use Rattle.request_completion.proofs.Names.{answered_item, own_told, Outcome, OfGranted, OfCrashed, OfAskedBegin}
+use Rattle.request_completion.proofs.Names.{OfAskedCommit, OfAccepted, OfEnded, OfDrew, OfAnsweredBegin}
+use Rattle.request_completion.proofs.Names.{OfAnsweredCommit, OfHanded, OfOwnPlaced, OfOwnNotPlaced, OfOutcome}
+use Rattle.request_completion.proofs.Names.{told_by_outcome, fault_if_silent, silent_items, leaves_cells, Owes}
+use Rattle.request_completion.proofs.Names.{ends_commit, EndsCommit, NoneEnds}
 use Rattle.history_book.specs.declared.cause.Cause.TheVariants as cause
-use Rattle.history_book.specs.declared.item.Actor.TheVariants.{Session}
-use Rattle.history_book.specs.declared.item.StoreStep.TheVariants.{Handed, PutFound}
-use Rattle.history_book.specs.declared.item.Item.{Item}
 use Rattle.history_book.specs.declared.item.Item.TheVariants as item
-use Rattle.system_parts.specs.Record.{granted}
 use Rattle.system_parts.specs.declared.session.State as state
 use Rattle.system_parts.specs.declared.session.State.TheVariants as phase
-use Rattle.system_parts.specs.declared.instance.Request.{Request}
-use Rattle.system_parts.specs.declared.instance.Request.TheVariants.{Begin, Commit}
-use Rattle.system_parts.specs.declared.instance.Settled.{Settled}
 use Rattle.system_parts.specs.declared.instance.Settled.TheVariants as how
-use Rattle.system_parts.specs.Instance.{session_of}
-use Rattle.machine.specs.State.{Client, State}
-use Rattle.machine.specs.Events.Crash.{loss_heard, loss_items}
-use Rattle.machine.specs.Events.Decide.{draw_item}
-use Rattle.machine.specs.Events.Take.{rules_of, take_item}
-use Rattle.cause_rules.specs.OpenAsks.{ends_request}
-use Rattle.isolation_laws.proofs.Pushed.{not_true, in_append}
-use Rattle.machine.specs.Plain.{Silent, AllSilent}
-use Rattle.machine.proofs.Outcome.PlainItems.{none_silent, one_silent}
-use Rattle.machine.specs.Outcome.OutcomesOfRecord.{fault_if}
-use Rattle.machine.specs.Outcome.OutcomesOfStamps.{answered_item}
-use Rattle.machine.specs.Outcome.OutcomesOfPlacings.{own_told}
-use Rattle.machine.specs.Outcome.Outcomes.{Outcome, OfGranted, OfCrashed, OfAskedBegin, OfAskedCommit, OfAccepted, OfEnded, OfDrew, OfAnsweredBegin, OfAnsweredCommit, OfHanded, OfOwnPlaced, OfOwnNotPlaced, OfOutcome, told_by_outcome}
-use Rattle.cause_laws.proofs.SilentOutcomes.{fault_if_silent, silent_items}
-use Rattle.request_completion.specs.Closings.{leaves_cells, Owes}
-use Rattle.request_completion.specs.SessionTransitions.{ends_commit, EndsCommit, NoneEnds}
 use Rattle.request_completion.proofs.OwingItems.{only_is, refusal_not, leaves_ends}
 use Rattle.request_completion.proofs.OwingOutcomes.{among}
 

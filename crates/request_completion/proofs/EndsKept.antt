@@ -1,24 +1,13 @@
 -- What the history shows of sessions whose asks and transactions come to their end: at first, and after every event.
-use Rattle.std.proofs.Common.{◌≡◌, ℕ, zero, suc, List, [], ◌∷◌, ◌++◌, append_assoc, None, Some, sym, ◌∙◌, ap, subst}
-use Rattle.std.specs.Prelude.{slice_get, replicate}
-use Rattle.std.proofs.lemmas.List.{append-nil}
-use Rattle.std.proofs.lemmas.Option.{same_Some, none-some}
-use Rattle.stamp_base.specs.SetupNumbers.{SetupNumbers, AreInRange}
-use Rattle.port_io.specs.declared.weather.Fate.{Fate}
-use Rattle.history_book.specs.Members.{◌∈◌}
-use Rattle.history_book.specs.declared.item.Item.{Item}
+use Rattle.request_completion.proofs.Names.{◌≡◌, ℕ, zero, suc, List, [], ◌∷◌, ◌++◌, append_assoc, None, Some, sym, ◌∙◌}
+use Rattle.request_completion.proofs.Names.{ap, subst, slice_get, replicate, append-nil, same_Some, none-some}
+use Rattle.request_completion.proofs.Names.{SetupNumbers, AreInRange, Fate, ◌∈◌, Item, SessionState, InstanceEntry}
+use Rattle.request_completion.proofs.Names.{Event, Client, State, client_new, opening, Step, stepped, Move, state_after}
+use Rattle.request_completion.proofs.Names.{items_after, history_after, AreSteady, Steady, InstanceAt, ClientAt}
+use Rattle.request_completion.proofs.Names.{each_outcome, steady_now, steady_stays, ExplainedInvariant, AreClosed, Ends}
 use Rattle.history_book.specs.declared.item.Item.TheVariants as item
-use Rattle.system_parts.specs.declared.session.State.{State as SessionState}
 use Rattle.system_parts.specs.declared.session.State.TheVariants as phase
-use Rattle.system_parts.specs.Instance.{InstanceEntry}
-use Rattle.machine.specs.declared.event.Event.{Event}
-use Rattle.machine.specs.State.{Client, State, client_new, opening}
-use Rattle.machine.specs.Machine.{Step, stepped, Move, state_after, items_after, history_after, AreSteady, Steady}
-use Rattle.isolation_laws.specs.Words.{InstanceAt, ClientAt}
-use Rattle.isolation_laws.proofs.AlwaysHolds.{each_outcome, steady_now, steady_stays}
-use Rattle.cause_laws.specs.ShownInvariant.{ExplainedInvariant}
 use Rattle.cause_laws.proofs.AlwaysExplained.{tells_stay, tells_at_first}
-use Rattle.request_completion.specs.Ends.{AreClosed, Ends}
 use Rattle.request_completion.specs.Laws.{EndsAtFirst, EventsKeepEnds, ToldWaitsStand, OpenOutcomesWereTold, CommitsAreRemoved, RefusalsAreErased}
 use Rattle.request_completion.proofs.AwaitedNow.{awaited_kept}
 use Rattle.request_completion.proofs.ClosedKept.{closed_on}

@@ -1,32 +1,17 @@
 -- Every event keeps that behind each refusal that ended a commit its cells are erased, unless that failed or is still to come.
-use Rattle.std.proofs.Common.{◌≡◌, ℕ, true, List, [], ◌∷◌, ◌++◌, Option, None, Some, ◌⊎◌, inl, inr, refl, sym, ◌∙◌, ap, subst}
-use Rattle.port_io.specs.declared.weather.Fate.{Fate}
-use Rattle.history_book.specs.Members.{◌∈◌}
-use Rattle.history_book.specs.declared.cause.Cause.{Cause}
-use Rattle.history_book.specs.declared.item.Actor.TheVariants.{Session}
+use Rattle.request_completion.proofs.Names.{◌≡◌, ℕ, true, List, [], ◌∷◌, ◌++◌, Option, None, Some, ◌⊎◌, inl, inr, refl}
+use Rattle.request_completion.proofs.Names.{sym, ◌∙◌, ap, subst, Fate, ◌∈◌, Cause, Session, Item, in_front}
+use Rattle.request_completion.proofs.Names.{SessionState, aborted_by, undo_asks, Event, Client, State, emptied, undo_of}
+use Rattle.request_completion.proofs.Names.{client_aborted, stepped, its_ask, written_keys, is_placing, HasAsked}
+use Rattle.request_completion.proofs.Names.{ClientAt, each_outcome, ExplainedInvariant, leaves_cells, AreGoneSince}
+use Rattle.request_completion.proofs.Names.{AreClosed, IsToAsk, Comes, Vanished, Left, AreErased, EndsCommit, IsAsked}
+use Rattle.request_completion.proofs.Names.{IsCommitting, SessionTransition, Rests, AsksBegin, AsksCommit, Begins}
+use Rattle.request_completion.proofs.Names.{LosesBegin, Writes, Frees, Undoes, Hands, Commits, Refuses, LeavesOpen}
+use Rattle.request_completion.proofs.Names.{Vanishes, IsGone}
 use Rattle.history_book.specs.declared.item.StoreStep.TheVariants as step
-use Rattle.history_book.specs.declared.item.Item.{Item}
 use Rattle.history_book.specs.declared.item.Item.TheVariants as item
-use Rattle.history_book.proofs.MemberLemmas.{in_front}
 use Rattle.system_parts.specs.declared.asks.Ask.TheVariants as ask
-use Rattle.system_parts.specs.declared.session.State.{State as SessionState}
 use Rattle.system_parts.specs.declared.session.State.TheVariants as phase
-use Rattle.system_parts.specs.SessionSteps.{aborted_by}
-use Rattle.system_parts.specs.Completion.{undo_asks}
-use Rattle.machine.specs.declared.event.Event.{Event}
-use Rattle.machine.specs.State.{Client, State}
-use Rattle.machine.specs.Clients.{emptied, undo_of, client_aborted}
-use Rattle.machine.specs.Machine.{stepped}
-use Rattle.cause_rules.specs.Asks.{its_ask}
-use Rattle.cause_rules.specs.Written.{written_keys}
-use Rattle.isolation_laws.specs.Pending.{is_placing}
-use Rattle.isolation_laws.specs.Requests.{HasAsked}
-use Rattle.isolation_laws.specs.Words.{ClientAt}
-use Rattle.isolation_laws.proofs.AlwaysHolds.{each_outcome}
-use Rattle.cause_laws.specs.ShownInvariant.{ExplainedInvariant}
-use Rattle.request_completion.specs.Closings.{leaves_cells}
-use Rattle.request_completion.specs.Ends.{AreGoneSince, AreClosed, IsToAsk, Comes, Vanished, Left, AreErased}
-use Rattle.request_completion.specs.SessionTransitions.{EndsCommit, IsAsked, IsCommitting, SessionTransition, Rests, AsksBegin, AsksCommit, Begins, LosesBegin, Writes, Frees, Undoes, Hands, Commits, Refuses, LeavesOpen, Vanishes, IsGone}
 use Rattle.request_completion.proofs.OwingItems.{only_is}
 use Rattle.request_completion.proofs.OwingOutcomes.{among}
 use Rattle.request_completion.proofs.EndingItems.{leaves_end}

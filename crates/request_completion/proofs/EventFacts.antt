@@ -1,16 +1,8 @@
 -- One event: each session is there before and after, and who asks.
-use Rattle.std.proofs.Common.{◌≡◌, ℕ, ◌<◌, List, length, sym, arith}
-use Rattle.std.proofs.lemmas.Option.{slice_get_within, slice_get-get_or}
-use Rattle.port_io.specs.declared.weather.Fate.{Fate}
-use Rattle.history_book.specs.declared.item.Item.{Item}
+use Rattle.request_completion.proofs.Names.{◌≡◌, ℕ, ◌<◌, List, length, sym, arith, slice_get_within, slice_get-get_or}
+use Rattle.request_completion.proofs.Names.{Fate, Item, Event, Client, State, stepped, clients_stay, ClientAt}
+use Rattle.request_completion.proofs.Names.{ReachedInvariant, each_outcome}
 use Rattle.system_parts.specs.declared.session.State.TheVariants as phase
-use Rattle.machine.specs.declared.event.Event.{Event}
-use Rattle.machine.specs.State.{Client, State}
-use Rattle.machine.specs.Machine.{stepped}
-use Rattle.machine.proofs.PartsKept.{clients_stay}
-use Rattle.isolation_laws.specs.Words.{ClientAt}
-use Rattle.isolation_laws.specs.Sound.{ReachedInvariant}
-use Rattle.isolation_laws.proofs.AlwaysHolds.{each_outcome}
 use Rattle.request_completion.proofs.AskItems.{NoneAsked, Asking, asking, unasked}
 
 there_by : (old new : List Client) (s : ℕ) (c : Client) → length new ≡ length old → ClientAt old s c → (d : Client) × ClientAt new s d

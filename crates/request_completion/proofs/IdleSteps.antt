@@ -1,37 +1,19 @@
 -- A step of a session whose completion is under way asks a store, and is not refused as idle.
-use Rattle.std.proofs.Common.{◌≡◌, ℕ, Bool, true, false, List, [], ◌∷◌, Option, None, Some, inl, inr, refl, sym, ◌∙◌, ap, subst}
-use Rattle.std.proofs.lemmas.List.{append-nil}
-use Rattle.stamp_base.specs.declared.stores.Mark.{Mark}
-use Rattle.port_io.specs.declared.weather.Fate.{Fate}
-use Rattle.port_io.specs.declared.weather.Fate.TheVariants.{Works, FailsUnchanged, FailsApplied}
-use Rattle.history_book.specs.Members.{◌∈◌}
-use Rattle.history_book.specs.declared.cause.Cause.{Cause}
+use Rattle.request_completion.proofs.Names.{◌≡◌, ℕ, Bool, true, false, List, [], ◌∷◌, Option, None, Some, inl, inr}
+use Rattle.request_completion.proofs.Names.{refl, sym, ◌∙◌, ap, subst, append-nil, Mark, Fate, Works, FailsUnchanged}
+use Rattle.request_completion.proofs.Names.{FailsApplied, ◌∈◌, Cause, Actor, Session, Item, Row, Pairs, Ask, Told}
+use Rattle.request_completion.proofs.Names.{SessionState, step_refusal, handed_by, handed_commit, UnderWay, Completes}
+use Rattle.request_completion.proofs.Names.{Client, State, Met, met, entry_of, mark_item, step_item, mark_kept}
+use Rattle.request_completion.proofs.Names.{items_met, store_of, told_by, Effect, Step, stepped, at_client, step_by}
+use Rattle.request_completion.proofs.Names.{with_client, is_reading, StepParts, complete_by, work_by, work_of, step_at}
+use Rattle.request_completion.proofs.Names.{step_due, step_refused, step_on, ClientAt, ReachedInvariant, in_back}
+use Rattle.request_completion.proofs.Names.{in_append, IdleStepsCompleteNothing, TellsFirst, CompletionStepsTell}
 use Rattle.history_book.specs.declared.cause.Cause.TheVariants as cause
-use Rattle.history_book.specs.declared.item.Actor.{Actor}
-use Rattle.history_book.specs.declared.item.Actor.TheVariants.{Session}
-use Rattle.history_book.specs.declared.item.Item.{Item}
 use Rattle.history_book.specs.declared.item.Item.TheVariants as item
-use Rattle.system_parts.specs.Rows.{Row}
-use Rattle.system_parts.specs.Pairs.{Pairs}
-use Rattle.system_parts.specs.declared.asks.Ask.{Ask}
 use Rattle.system_parts.specs.declared.asks.Ask.TheVariants as ask
-use Rattle.system_parts.specs.declared.asks.Told.{Told}
 use Rattle.system_parts.specs.declared.asks.Told.TheVariants as told
-use Rattle.system_parts.specs.declared.session.State.{State as SessionState}
 use Rattle.system_parts.specs.declared.session.State.TheVariants as phase
-use Rattle.system_parts.specs.SessionSteps.{step_refusal, handed_by, handed_commit}
 use Rattle.machine.specs.declared.event.Event.TheVariants as event
-use Rattle.machine.specs.State.{UnderWay, Completes, Client, State}
-use Rattle.machine.specs.StoreSteps.{Met, met, entry_of, mark_item, step_item, mark_kept, items_met, store_of, told_by}
-use Rattle.machine.specs.Effect.{Effect}
-use Rattle.machine.specs.Machine.{Step, stepped, at_client, step_by, with_client}
-use Rattle.machine.specs.Clients.{is_reading}
-use Rattle.machine.specs.Events.Step.{StepParts, complete_by, work_by, work_of, step_at, step_due, step_by as step_refused, step_on}
-use Rattle.isolation_laws.specs.Words.{ClientAt}
-use Rattle.isolation_laws.specs.Sound.{ReachedInvariant}
-use Rattle.history_book.proofs.MemberLemmas.{in_back}
-use Rattle.isolation_laws.proofs.Pushed.{in_append}
-use Rattle.request_completion.specs.Completions.{IdleStepsCompleteNothing, TellsFirst, CompletionStepsTell}
 use Rattle.request_completion.proofs.OwingItems.{only_is}
 
 -- ---- a step on a store tells no refusal

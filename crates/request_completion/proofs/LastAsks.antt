@@ -1,14 +1,10 @@
 -- The last ask of a session, where it was for a commit, stands in the history.
-use Rattle.std.proofs.Common.{◌≡◌, ℕ, Bool, if◌then◌else◌, List, [], ◌∷◌, ◌++◌, Option, None, Some, ◌⊎◌, inl, inr, refl, sym, ◌∙◌, ap, subst}
-use Rattle.std.specs.List.{fold}
-use Rattle.std.specs.Option.{option_or}
-use Rattle.std.proofs.lemmas.Bool.{cases_eq, eq-eqb, ne_eqb}
-use Rattle.std.proofs.lemmas.Option.{none-some, same_Some}
-use Rattle.std.proofs.lemmas.List.Elements.{All-nil, All-cons, All-head, All-tail}
-use Rattle.history_book.specs.Members.{◌∈◌}
-use Rattle.history_book.specs.declared.item.Item.{Item}
+use Rattle.request_completion.proofs.Names.{◌≡◌, ℕ, Bool, if◌then◌else◌, List, [], ◌∷◌, ◌++◌, Option, None, Some, ◌⊎◌}
+use Rattle.request_completion.proofs.Names.{inl, inr, refl, sym, ◌∙◌, ap, subst, fold, option_or, cases_eq, eq-eqb}
+use Rattle.request_completion.proofs.Names.{ne_eqb, none-some, same_Some, All-nil, All-cons, All-head, All-tail, ◌∈◌}
+use Rattle.request_completion.proofs.Names.{Item, ask_by, its_ask}
 use Rattle.history_book.specs.declared.item.Item.TheVariants as item
-use Rattle.cause_rules.specs.Asks.{Ask, ask_by, its_ask}
+use Rattle.cause_rules.specs.Asks.{Ask}
 use Rattle.cause_rules.specs.Since.{told_then}
 use Rattle.request_completion.proofs.AskItems.{NotAsked, NoneAsked}
 

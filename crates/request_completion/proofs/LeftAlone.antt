@@ -1,34 +1,14 @@
 -- A client whose completion is under way is moved by its own steps alone, or vanishes.
-use Rattle.std.proofs.Common.{◌≡◌, ℕ, Bool, List, Option, None, Some, inl, inr, refl, sym, ◌∙◌, ap, subst}
-use Rattle.std.specs.Prelude.{slice_get}
-use Rattle.std.specs.Option.{option_or}
-use Rattle.stamp_base.specs.SetupNumbers.{SetupNumbers}
-use Rattle.port_io.specs.declared.weather.Fate.{Fate}
-use Rattle.history_book.specs.declared.item.Item.{Item}
-use Rattle.system_parts.specs.Rows.{Row}
-use Rattle.system_parts.specs.Pairs.{Pairs}
-use Rattle.system_parts.specs.declared.session.State.{State as SessionState}
+use Rattle.request_completion.proofs.Names.{◌≡◌, ℕ, Bool, List, Option, None, Some, inl, inr, refl, sym, ◌∙◌, ap, subst}
+use Rattle.request_completion.proofs.Names.{slice_get, option_or, SetupNumbers, Fate, Item, Row, Pairs, SessionState}
+use Rattle.request_completion.proofs.Names.{begin_refusal, work_refusal, key_refusal, Held, Request, Begin, Commit}
+use Rattle.request_completion.proofs.Names.{InstanceEntry, held_of, stamps_of_held, Client, State, is_reading}
+use Rattle.request_completion.proofs.Names.{ask_begin_by, ask_begin_on, ask_commit_by, ask_commit_on, accept_request}
+use Rattle.request_completion.proofs.Names.{accept_on, decide_request, decide_on, answer_request, answer_on, write_open}
+use Rattle.request_completion.proofs.Names.{write_on, reads_refusal, fetch_open, fetch_on, offer_by, offer_of, heal_at}
+use Rattle.request_completion.proofs.Names.{heal_on, abort_by, abort_on, InstanceAt, ClientAt, WaitsFor}
+use Rattle.request_completion.proofs.Names.{ReachedInvariant, one_client, held_by}
 use Rattle.system_parts.specs.declared.session.State.TheVariants as phase
-use Rattle.system_parts.specs.SessionSteps.{begin_refusal, work_refusal, key_refusal}
-use Rattle.system_parts.specs.declared.instance.Held.{Held}
-use Rattle.system_parts.specs.declared.instance.Request.{Request}
-use Rattle.system_parts.specs.declared.instance.Request.TheVariants.{Begin, Commit}
-use Rattle.system_parts.specs.Instance.{InstanceEntry, held_of, stamps_of_held}
-use Rattle.machine.specs.State.{Client, State}
-use Rattle.machine.specs.Clients.{is_reading}
-use Rattle.machine.specs.Events.AskBegin.{ask_begin_by, ask_begin_on}
-use Rattle.machine.specs.Events.AskCommit.{ask_commit_by, ask_commit_on}
-use Rattle.machine.specs.Events.Accept.{accept_request, accept_on}
-use Rattle.machine.specs.Events.Decide.{decide_request, decide_on}
-use Rattle.machine.specs.Events.Answer.{answer_request, answer_on}
-use Rattle.machine.specs.Events.Write.{write_open, write_on}
-use Rattle.machine.specs.Events.Fetch.{reads_refusal, fetch_open, fetch_on}
-use Rattle.machine.specs.Events.Heal.{offer_by, offer_of, heal_at, heal_on}
-use Rattle.machine.specs.Events.Abort.{abort_by, abort_on}
-use Rattle.isolation_laws.specs.Words.{InstanceAt, ClientAt}
-use Rattle.isolation_laws.specs.Requests.{WaitsFor}
-use Rattle.isolation_laws.specs.Sound.{ReachedInvariant}
-use Rattle.machine.proofs.Lookups.{one_client, held_by}
 
 -- ---- a client that completes, of whom no node holds a request
 pub record Completing (nodes : List (Option InstanceEntry)) (clients : List Client) (s : ℕ) (c : Client) : Type 0 where

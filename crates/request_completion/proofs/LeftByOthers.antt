@@ -1,31 +1,12 @@
 -- None but its own steps moves a client whose completion is under way, unless it vanishes.
-use Rattle.std.proofs.Common.{◌≡◌, ℕ, List, Option, None, Some, inl, inr, refl, sym, ◌∙◌, ap, subst}
-use Rattle.std.specs.Prelude.{slice_get, slice_set}
-use Rattle.port_io.specs.declared.weather.Fate.{Fate}
-use Rattle.system_parts.specs.Rows.{Row}
-use Rattle.system_parts.specs.Instance.{InstanceEntry}
-use Rattle.machine.specs.declared.event.Event.{Event}
+use Rattle.request_completion.proofs.Names.{◌≡◌, ℕ, List, Option, None, Some, inl, inr, refl, sym, ◌∙◌, ap, subst}
+use Rattle.request_completion.proofs.Names.{slice_get, slice_set, Fate, Row, InstanceEntry, Event, Client, State}
+use Rattle.request_completion.proofs.Names.{Effect, stepped, step_by, with_post, with_client, with_reading, at_post}
+use Rattle.request_completion.proofs.Names.{at_client, at_both, crash_on, ask_begin_on, ask_commit_on, accept_on}
+use Rattle.request_completion.proofs.Names.{decide_on, answer_on, write_on, fetch_on, StepParts, step_on, heal_on}
+use Rattle.request_completion.proofs.Names.{abort_on, vanish_on, leaves_parts, ClientAt, client_set, one_client}
+use Rattle.request_completion.proofs.Names.{crashed_at, OthersLeaveCompletions}
 use Rattle.machine.specs.declared.event.Event.TheVariants as event
-use Rattle.machine.specs.State.{Client, State}
-use Rattle.machine.specs.Effect.{Effect}
-use Rattle.machine.specs.Machine.{stepped, step_by, with_post, with_client, with_reading, at_post, at_client, at_both}
-use Rattle.machine.specs.Events.Crash.{crash_on}
-use Rattle.machine.specs.Events.AskBegin.{ask_begin_on}
-use Rattle.machine.specs.Events.AskCommit.{ask_commit_on}
-use Rattle.machine.specs.Events.Accept.{accept_on}
-use Rattle.machine.specs.Events.Decide.{decide_on}
-use Rattle.machine.specs.Events.Answer.{answer_on}
-use Rattle.machine.specs.Events.Write.{write_on}
-use Rattle.machine.specs.Events.Fetch.{fetch_on}
-use Rattle.machine.specs.Events.Step.{StepParts, step_on}
-use Rattle.machine.specs.Events.Heal.{heal_on}
-use Rattle.machine.specs.Events.Abort.{abort_on}
-use Rattle.machine.specs.Events.Vanish.{vanish_on}
-use Rattle.machine.proofs.PartsKept.{leaves_parts}
-use Rattle.isolation_laws.specs.Words.{ClientAt}
-use Rattle.machine.proofs.Lookups.{client_set, one_client}
-use Rattle.isolation_laws.proofs.Requests.OpenAfter.{crashed_at}
-use Rattle.request_completion.specs.Completions.{OthersLeaveCompletions}
 use Rattle.request_completion.proofs.LeftAlone.{Completing, completing_of, same_there, write_keeps, fetch_keeps, heal_keeps, abort_keeps, begin_keeps, commit_keeps, accept_keeps, decide_keeps, answer_keeps}
 
 -- ---- events that set one client, where it is there

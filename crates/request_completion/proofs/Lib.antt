@@ -1,3 +1,4 @@
+mod Names
 mod LostAsks
 mod SilentAnswers
 mod OverAsks

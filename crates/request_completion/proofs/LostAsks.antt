@@ -1,25 +1,13 @@
 -- A node that is refused for want of an instance has none, so that no ask is open there.
-use Rattle.std.proofs.Common.{◌≡◌, ℕ, Bool, true, if◌then◌else◌, List, [], ◌∷◌, Option, None, Some, inl, inr, refl, sym, ◌∙◌, ap, take}
-use Rattle.std.specs.Prelude.{slice_get}
-use Rattle.std.specs.Option.{option_or}
-use Rattle.std.proofs.lemmas.Bool.{eq-eqb}
-use Rattle.std.proofs.lemmas.Option.{none-some}
-use Rattle.stamp_base.specs.SetupNumbers.{SetupNumbers}
+use Rattle.request_completion.proofs.Names.{◌≡◌, ℕ, Bool, true, if◌then◌else◌, List, [], ◌∷◌, Option, None, Some, inl}
+use Rattle.request_completion.proofs.Names.{inr, refl, sym, ◌∙◌, ap, take, slice_get, option_or, eq-eqb, none-some}
+use Rattle.request_completion.proofs.Names.{SetupNumbers, Actor, Clock, Node, Session, Janitor, Item, Request, Begin}
+use Rattle.request_completion.proofs.Names.{Commit, State, stepped, Due, DueNow, cause_of_loss, dues, place_of}
+use Rattle.request_completion.proofs.Names.{LostAsksAreOver}
 use Rattle.history_book.specs.declared.cause.Cause.TheVariants as cause
-use Rattle.history_book.specs.declared.item.Actor.{Actor}
-use Rattle.history_book.specs.declared.item.Actor.TheVariants.{Clock, Node, Session, Janitor}
-use Rattle.history_book.specs.declared.item.Item.{Item}
 use Rattle.history_book.specs.declared.item.Item.TheVariants as item
-use Rattle.system_parts.specs.declared.instance.Request.{Request}
-use Rattle.system_parts.specs.declared.instance.Request.TheVariants.{Begin, Commit}
-use Rattle.machine.specs.State.{State}
-use Rattle.machine.specs.Machine.{stepped}
 use Rattle.cause_rules.specs.Explained.{ShownCause}
 use Rattle.cause_rules.specs.Posts.{Taken, last_take, since_take, HasNone}
-use Rattle.machine.specs.Due.{Due, DueNow, cause_of_loss}
-use Rattle.isolation_laws.proofs.AlwaysHolds.{dues}
-use Rattle.isolation_laws.proofs.OnceEach.{place_of}
-use Rattle.request_completion.specs.Silences.{LostAsksAreOver}
 
 -- ---- no cause is shown by everything: a node that has taken the record has an instance
 abbrev took : ℕ → List Item

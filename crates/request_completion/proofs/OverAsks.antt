@@ -1,11 +1,8 @@
 -- How many asks are open after items among which none asks.
-use Rattle.std.proofs.Common.{◌≡◌, ℕ, suc, Bool, true, false, if◌then◌else◌, List, [], ◌∷◌, inl, inr, refl, sym, ◌∙◌, ap}
-use Rattle.std.specs.List.{fold}
-use Rattle.std.proofs.lemmas.List.Elements.{All-head, All-tail}
+use Rattle.request_completion.proofs.Names.{◌≡◌, ℕ, suc, Bool, true, false, if◌then◌else◌, List, [], ◌∷◌, inl, inr}
+use Rattle.request_completion.proofs.Names.{refl, sym, ◌∙◌, ap, fold, All-head, All-tail, ◌∈◌, Item, closes, open_then}
+use Rattle.request_completion.proofs.Names.{open_asks_of}
 use Rattle.std.proofs.lemmas.List.Sums.{fold-append}
-use Rattle.history_book.specs.Members.{◌∈◌}
-use Rattle.history_book.specs.declared.item.Item.{Item}
-use Rattle.cause_rules.specs.OpenAsks.{closes, open_then, open_asks_of}
 use Rattle.request_completion.specs.Overs.{NoAsk, NoneAsks, OverStaysOver, ClosedAsksAreOver}
 
 -- ---- one item

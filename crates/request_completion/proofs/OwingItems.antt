@@ -1,31 +1,15 @@
 -- Which items leave something to be done: none that is silent, and none that tells of a loss.
-use Rattle.std.proofs.Common.{◌≡◌, ℕ, Bool, true, false, if◌then◌else◌, List, [], ◌∷◌, Option, None, Some, inl, inr, refl, sym, ◌∙◌, subst}
-use Rattle.std.proofs.lemmas.List.Elements.{All-head, All-tail}
-use Rattle.stamp_base.specs.declared.stores.Store.TheVariants.{Table}
-use Rattle.history_book.specs.Members.{◌∈◌}
-use Rattle.history_book.specs.declared.cause.Cause.{Cause}
+use Rattle.request_completion.proofs.Names.{◌≡◌, ℕ, Bool, true, false, if◌then◌else◌, List, [], ◌∷◌, Option, None, Some}
+use Rattle.request_completion.proofs.Names.{inl, inr, refl, sym, ◌∙◌, subst, All-head, All-tail, Table, ◌∈◌, Cause}
+use Rattle.request_completion.proofs.Names.{Session, PutFound, Item, Held, Request, Begin, Commit, Settled, Client}
+use Rattle.request_completion.proofs.Names.{loss_heard, loss_items, crashed_items, all_crashed_items, draw_item}
+use Rattle.request_completion.proofs.Names.{ends_request, not_true, in_append, Silent, AllSilent, none_silent}
+use Rattle.request_completion.proofs.Names.{answered_item, own_told, leaves_cells, Owes}
 use Rattle.history_book.specs.declared.cause.Cause.TheVariants as cause
-use Rattle.history_book.specs.declared.item.Actor.TheVariants.{Session}
-use Rattle.history_book.specs.declared.item.StoreStep.TheVariants.{PutFound}
-use Rattle.history_book.specs.declared.item.Item.{Item}
 use Rattle.history_book.specs.declared.item.Item.TheVariants as item
 use Rattle.system_parts.specs.declared.session.State as state
 use Rattle.system_parts.specs.declared.session.State.TheVariants as phase
-use Rattle.system_parts.specs.declared.instance.Held.{Held}
-use Rattle.system_parts.specs.declared.instance.Request.{Request}
-use Rattle.system_parts.specs.declared.instance.Request.TheVariants.{Begin, Commit}
-use Rattle.system_parts.specs.declared.instance.Settled.{Settled}
 use Rattle.system_parts.specs.declared.instance.Settled.TheVariants as how
-use Rattle.machine.specs.State.{Client}
-use Rattle.machine.specs.Events.Crash.{loss_heard, loss_items, crashed_items, all_crashed_items}
-use Rattle.machine.specs.Events.Decide.{draw_item}
-use Rattle.cause_rules.specs.OpenAsks.{ends_request}
-use Rattle.isolation_laws.proofs.Pushed.{not_true, in_append}
-use Rattle.machine.specs.Plain.{Silent, AllSilent}
-use Rattle.machine.proofs.Outcome.PlainItems.{none_silent}
-use Rattle.machine.specs.Outcome.OutcomesOfStamps.{answered_item}
-use Rattle.machine.specs.Outcome.OutcomesOfPlacings.{own_told}
-use Rattle.request_completion.specs.Closings.{leaves_cells, Owes}
 
 -- ---- silent items
 pub leaves_ends : (why : Cause) → leaves_cells why ≡ true → ends_request why ≡ true

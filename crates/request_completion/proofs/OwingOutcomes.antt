@@ -1,43 +1,18 @@
 -- What leaves something to be done comes of a request that a node holds, or the session finds it by itself.
-use Rattle.std.proofs.Common.{◌≡◌, ℕ, ◌+◌, Bool, true, false, if◌then◌else◌, is_some, List, [], ◌∷◌, Option, None, Some, ◌⊎◌, inl, inr, refl, sym, ◌∙◌, ap, subst}
-use Rattle.std.proofs.lemmas.List.Elements.{All-cons}
-use Rattle.port_io.specs.declared.weather.Fate.{Fate}
-use Rattle.history_book.specs.Members.{◌∈◌}
-use Rattle.history_book.specs.declared.item.Actor.TheVariants.{Session}
-use Rattle.history_book.specs.declared.item.Ending.TheVariants.{Dead as DeadEnd}
-use Rattle.history_book.specs.declared.item.StoreStep.TheVariants.{Handed}
-use Rattle.history_book.specs.declared.item.Item.{Item}
+use Rattle.request_completion.proofs.Names.{◌≡◌, ℕ, ◌+◌, Bool, true, false, if◌then◌else◌, is_some, List, [], ◌∷◌}
+use Rattle.request_completion.proofs.Names.{Option, None, Some, ◌⊎◌, inl, inr, refl, sym, ◌∙◌, ap, subst, All-cons}
+use Rattle.request_completion.proofs.Names.{Fate, ◌∈◌, Session, DeadEnd, Handed, Item, granted, SettleTurn, Goes}
+use Rattle.request_completion.proofs.Names.{Decides, settle_ask, settle_turn, Held, Request, Commit, InstanceEntry}
+use Rattle.request_completion.proofs.Names.{held_of, Event, State, told_by, stepped, all_crashed_items, draw_item}
+use Rattle.request_completion.proofs.Names.{settle_items, rules_of, take_item, InstanceAt, ClientAt, each_outcome}
+use Rattle.request_completion.proofs.Names.{held_by, Silent, none_silent, fault_if, AnsweredCommit, answered_item}
+use Rattle.request_completion.proofs.Names.{Ended, AtPlacing, own_told, OutcomeStepped, Outcome, OfGranted, OfCrashed}
+use Rattle.request_completion.proofs.Names.{OfAskedBegin, OfAskedCommit, OfAccepted, OfEnded, OfDrew, OfAnsweredBegin}
+use Rattle.request_completion.proofs.Names.{OfAnsweredCommit, OfHanded, OfOwnPlaced, OfOwnNotPlaced, OfOutcome}
+use Rattle.request_completion.proofs.Names.{told_by_outcome, ask_for, ExplainedInvariant, fault_if_silent, silent_items}
+use Rattle.request_completion.proofs.Names.{Owes, NoneOwes, HasOpenAsk, IsAlone, OwingNeedsAnAsk, CommitsAreAsked}
 use Rattle.history_book.specs.declared.item.Item.TheVariants as item
-use Rattle.system_parts.specs.Record.{granted}
 use Rattle.system_parts.specs.declared.resolve.Outcome.TheVariants as outcome
-use Rattle.system_parts.specs.Resolve.{SettleTurn, Goes, Decides, settle_ask, settle_turn}
-use Rattle.system_parts.specs.declared.instance.Held.{Held}
-use Rattle.system_parts.specs.declared.instance.Request.{Request}
-use Rattle.system_parts.specs.declared.instance.Request.TheVariants.{Commit}
-use Rattle.system_parts.specs.Instance.{InstanceEntry, held_of}
-use Rattle.machine.specs.declared.event.Event.{Event}
-use Rattle.machine.specs.State.{State}
-use Rattle.machine.specs.StoreSteps.{told_by}
-use Rattle.machine.specs.Machine.{stepped}
-use Rattle.machine.specs.Events.Crash.{all_crashed_items}
-use Rattle.machine.specs.Events.Decide.{draw_item}
-use Rattle.machine.specs.Events.Step.{settle_items}
-use Rattle.machine.specs.Events.Take.{rules_of, take_item}
-use Rattle.isolation_laws.specs.Words.{InstanceAt, ClientAt}
-use Rattle.isolation_laws.proofs.AlwaysHolds.{each_outcome}
-use Rattle.machine.proofs.Lookups.{held_by}
-use Rattle.machine.specs.Plain.{Silent}
-use Rattle.machine.proofs.Outcome.PlainItems.{none_silent}
-use Rattle.machine.specs.Outcome.OutcomesOfRecord.{fault_if}
-use Rattle.machine.specs.Outcome.OutcomesOfStamps.{AnsweredCommit, answered_item}
-use Rattle.machine.specs.Outcome.OutcomesOfRequests.{Ended}
-use Rattle.machine.specs.Outcome.OutcomesOfPlacings.{AtPlacing, own_told}
-use Rattle.machine.specs.Outcome.OutcomesOfWork.{OutcomeStepped}
-use Rattle.machine.specs.Outcome.Outcomes.{Outcome, OfGranted, OfCrashed, OfAskedBegin, OfAskedCommit, OfAccepted, OfEnded, OfDrew, OfAnsweredBegin, OfAnsweredCommit, OfHanded, OfOwnPlaced, OfOwnNotPlaced, OfOutcome, told_by_outcome}
-use Rattle.cause_laws.specs.Requests.{ask_for}
-use Rattle.cause_laws.specs.ShownInvariant.{ExplainedInvariant}
-use Rattle.cause_laws.proofs.SilentOutcomes.{fault_if_silent, silent_items}
-use Rattle.request_completion.specs.Closings.{Owes, NoneOwes, HasOpenAsk, IsAlone, OwingNeedsAnAsk, CommitsAreAsked}
 use Rattle.request_completion.proofs.OwingItems.{silent_in, first_not, only_not, only_is, draw_not, all_lost_not, answered_owes, answered_start, own_owes}
 
 -- a node holds a request of the session; of a commit that is told, that with its start

@@ -1,27 +1,15 @@
 -- Every event keeps that the record of each commit that was told is removed, unless that failed or is still to come.
-use Rattle.std.proofs.Common.{◌≡◌, ℕ, false, List, [], ◌∷◌, ◌++◌, Option, Some, ◌⊎◌, inl, inr, refl, sym, ◌∙◌, ap, subst}
-use Rattle.port_io.specs.declared.weather.Fate.{Fate}
-use Rattle.history_book.specs.Members.{◌∈◌}
-use Rattle.history_book.specs.declared.item.Actor.TheVariants.{Session}
+use Rattle.request_completion.proofs.Names.{◌≡◌, ℕ, false, List, [], ◌∷◌, ◌++◌, Option, Some, ◌⊎◌, inl, inr, refl, sym}
+use Rattle.request_completion.proofs.Names.{◌∙◌, ap, subst, Fate, ◌∈◌, Session, Item, in_last, finish_asks, Event}
+use Rattle.request_completion.proofs.Names.{Client, State, client_committed, finish_of, stepped, WaitsFor, ClientAt}
+use Rattle.request_completion.proofs.Names.{held_by, in_append, ExplainedInvariant, Owes, AreGoneSince, IsToAsk, Comes}
+use Rattle.request_completion.proofs.Names.{Vanished, Left, AreRemoved, EndsCommit, EndsWith, MayCommit}
+use Rattle.request_completion.proofs.Names.{SessionTransition, Rests, AsksBegin, AsksCommit, Begins, LosesBegin, Writes}
+use Rattle.request_completion.proofs.Names.{Frees, Undoes, Hands, Commits, Refuses, LeavesOpen, Vanishes, IsGone}
 use Rattle.history_book.specs.declared.item.StoreStep.TheVariants as step
-use Rattle.history_book.specs.declared.item.Item.{Item}
 use Rattle.history_book.specs.declared.item.Item.TheVariants as item
-use Rattle.history_book.proofs.MemberLemmas.{in_last}
 use Rattle.system_parts.specs.declared.asks.Ask.TheVariants as ask
 use Rattle.system_parts.specs.declared.session.State.TheVariants as phase
-use Rattle.system_parts.specs.Completion.{finish_asks}
-use Rattle.machine.specs.declared.event.Event.{Event}
-use Rattle.machine.specs.State.{Client, State}
-use Rattle.machine.specs.Clients.{client_committed, finish_of}
-use Rattle.machine.specs.Machine.{stepped}
-use Rattle.isolation_laws.specs.Requests.{WaitsFor}
-use Rattle.isolation_laws.specs.Words.{ClientAt}
-use Rattle.machine.proofs.Lookups.{held_by}
-use Rattle.isolation_laws.proofs.Pushed.{in_append}
-use Rattle.cause_laws.specs.ShownInvariant.{ExplainedInvariant}
-use Rattle.request_completion.specs.Closings.{Owes}
-use Rattle.request_completion.specs.Ends.{AreGoneSince, IsToAsk, Comes, Vanished, Left, AreRemoved}
-use Rattle.request_completion.specs.SessionTransitions.{EndsCommit, EndsWith, MayCommit, SessionTransition, Rests, AsksBegin, AsksCommit, Begins, LosesBegin, Writes, Frees, Undoes, Hands, Commits, Refuses, LeavesOpen, Vanishes, IsGone}
 use Rattle.request_completion.proofs.OwingItems.{only_is}
 use Rattle.request_completion.proofs.OwingOutcomes.{among, owing_by}
 use Rattle.request_completion.proofs.EventFacts.{still_there}

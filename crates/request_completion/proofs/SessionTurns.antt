@@ -1,39 +1,20 @@
 -- What each outcome makes of a session, and what it tells it.
-use Rattle.std.proofs.Common.{◌≡◌, ℕ, Bool, true, false, List, [], ◌∷◌, ◌++◌, Some, ◌⊎◌, inl, inr, refl, sym, ◌∙◌, ap, subst}
-use Rattle.std.specs.Prelude.{slice_set}
-use Rattle.history_book.specs.Members.{◌∈◌}
+use Rattle.request_completion.proofs.Names.{◌≡◌, ℕ, Bool, true, false, List, [], ◌∷◌, ◌++◌, Some, ◌⊎◌, inl, inr, refl}
+use Rattle.request_completion.proofs.Names.{sym, ◌∙◌, ap, subst, slice_set, ◌∈◌, Session, DeadEnd, Item, in_last, Ask}
+use Rattle.request_completion.proofs.Names.{SessionState, SessionEntry, aborted_by, Settling, SettleTurn, Goes, Decides}
+use Rattle.request_completion.proofs.Names.{Held, Request, Begin, Commit, Settled, InstanceEntry, held_of, Client}
+use Rattle.request_completion.proofs.Names.{State, client_aborted, unless_gone, unless_gone_by, client_settled}
+use Rattle.request_completion.proofs.Names.{settle_items, after_asks, InstanceAt, ClientAt, IsolationInvariant}
+use Rattle.request_completion.proofs.Names.{WaitsFor, client_set, one_client, held_by, Silent, AllSilent, one_silent}
+use Rattle.request_completion.proofs.Names.{two_silent, answered_client, answered_item, ask_for, ExplainedInvariant}
+use Rattle.request_completion.proofs.Names.{Owes, NoneOwes, NoneEnds, EndsWith, IsAsked, IsCommitting, IsUndone}
+use Rattle.request_completion.proofs.Names.{SessionTransition, Rests, Undoes, Frees, Commits, Refuses, LeavesOpen}
+use Rattle.request_completion.proofs.Names.{IsGone}
 use Rattle.history_book.specs.declared.cause.Cause.TheVariants as cause
-use Rattle.history_book.specs.declared.item.Actor.TheVariants.{Session}
-use Rattle.history_book.specs.declared.item.Ending.TheVariants.{Dead as DeadEnd}
-use Rattle.history_book.specs.declared.item.Item.{Item}
 use Rattle.history_book.specs.declared.item.Item.TheVariants as item
-use Rattle.history_book.proofs.MemberLemmas.{in_last}
-use Rattle.system_parts.specs.declared.asks.Ask.{Ask}
 use Rattle.system_parts.specs.declared.resolve.Outcome.TheVariants as outcome
-use Rattle.system_parts.specs.declared.session.State.{State as SessionState}
 use Rattle.system_parts.specs.declared.session.State.TheVariants as phase
-use Rattle.system_parts.specs.SessionSteps.{SessionEntry, aborted_by}
-use Rattle.system_parts.specs.Resolve.{Settling, SettleTurn, Goes, Decides}
-use Rattle.system_parts.specs.declared.instance.Held.{Held}
-use Rattle.system_parts.specs.declared.instance.Request.{Request}
-use Rattle.system_parts.specs.declared.instance.Request.TheVariants.{Begin, Commit}
-use Rattle.system_parts.specs.declared.instance.Settled.{Settled}
 use Rattle.system_parts.specs.declared.instance.Settled.TheVariants as how
-use Rattle.system_parts.specs.Instance.{InstanceEntry, held_of}
-use Rattle.machine.specs.State.{Client, State}
-use Rattle.machine.specs.Clients.{client_aborted, unless_gone, unless_gone_by}
-use Rattle.machine.specs.Events.Step.{client_settled, settle_items, after_asks}
-use Rattle.isolation_laws.specs.Words.{InstanceAt, ClientAt}
-use Rattle.isolation_laws.specs.IsolationInvariant.{IsolationInvariant}
-use Rattle.isolation_laws.specs.Requests.{WaitsFor}
-use Rattle.machine.proofs.Lookups.{client_set, one_client, held_by}
-use Rattle.machine.specs.Plain.{Silent, AllSilent}
-use Rattle.machine.proofs.Outcome.PlainItems.{one_silent, two_silent}
-use Rattle.machine.specs.Outcome.OutcomesOfStamps.{answered_client, answered_item}
-use Rattle.cause_laws.specs.Requests.{ask_for}
-use Rattle.cause_laws.specs.ShownInvariant.{ExplainedInvariant}
-use Rattle.request_completion.specs.Closings.{Owes, NoneOwes}
-use Rattle.request_completion.specs.SessionTransitions.{NoneEnds, EndsWith, IsAsked, IsCommitting, IsUndone, SessionTransition, Rests, Undoes, Frees, Commits, Refuses, LeavesOpen, IsGone}
 use Rattle.request_completion.proofs.EndingItems.{silent_ends, last_is, owes_ends}
 
 -- ---- an answer that is heard, or not

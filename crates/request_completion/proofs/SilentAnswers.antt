@@ -1,20 +1,13 @@
 -- An answer appends something, unless it repeats to a request that it has to wait.
-use Rattle.std.proofs.Common.{◌≡◌, ℕ, Bool, true, false, [], Option, None, Some, refl, sym, ◌∙◌, ap}
-use Rattle.std.specs.Prelude.{slice_get, Result, Ok, Err}
-use Rattle.history_book.specs.declared.cause.Cause.{Cause}
+use Rattle.request_completion.proofs.Names.{◌≡◌, ℕ, Bool, true, false, [], Option, None, Some, refl, sym, ◌∙◌, ap}
+use Rattle.request_completion.proofs.Names.{slice_get, Result, Cause, Actor, Session, Reply, InstanceEntry, stamps_at}
+use Rattle.request_completion.proofs.Names.{was_told_not_yet, instance_answer, Client, refused_once, Step, stepped}
+use Rattle.request_completion.proofs.Names.{at_both, step_by, with_client, with_post, answer_by, answer_request}
+use Rattle.request_completion.proofs.Names.{answer_on, WasTold, SilentAnswersRepeat}
+use Rattle.std.specs.Prelude.{Ok, Err}
 use Rattle.history_book.specs.declared.cause.Cause.TheVariants as cause
-use Rattle.history_book.specs.declared.item.Actor.{Actor}
-use Rattle.history_book.specs.declared.item.Actor.TheVariants.{Session}
-use Rattle.system_parts.specs.declared.instance.Reply.{Reply}
 use Rattle.system_parts.specs.declared.instance.Reply.TheVariants as reply
-use Rattle.system_parts.specs.Instance.{InstanceEntry, stamps_at, was_told_not_yet}
-use Rattle.system_parts.specs.InstanceSteps.{instance_answer}
 use Rattle.machine.specs.declared.event.Event.TheVariants as event
-use Rattle.machine.specs.State.{Client}
-use Rattle.machine.specs.Effect.{refused_once}
-use Rattle.machine.specs.Machine.{Step, stepped, at_both, step_by, with_client, with_post}
-use Rattle.machine.specs.Events.Answer.{answer_by, answer_request, answer_on}
-use Rattle.request_completion.specs.Silences.{WasTold, SilentAnswersRepeat}
 
 -- what is told once was told
 told_once : (told : Bool) (left : InstanceEntry) (c : Client) (actor : Actor) (why : Cause) → (refused_once {P = Option InstanceEntry × Client} told (Some left, c) actor why).items ≡ [] → told ≡ true

@@ -1,29 +1,15 @@
 -- Every event keeps what the history shows since a session's last ask.
-use Rattle.std.proofs.Common.{◌≡◌, ℕ, true, false, List, [], ◌∷◌, ◌++◌, Some, ◌⊎◌, inl, inr, refl, sym, ◌∙◌, ap, subst}
-use Rattle.port_io.specs.declared.weather.Fate.{Fate}
-use Rattle.history_book.specs.Members.{◌∈◌}
+use Rattle.request_completion.proofs.Names.{◌≡◌, ℕ, true, false, List, [], ◌∷◌, ◌++◌, Some, ◌⊎◌, inl, inr, refl, sym}
+use Rattle.request_completion.proofs.Names.{◌∙◌, ap, subst, Fate, ◌∈◌, Session, Item, in_last, SessionState}
+use Rattle.request_completion.proofs.Names.{SessionEntry, Held, Request, Begin, Commit, InstanceEntry, held_of, Event}
+use Rattle.request_completion.proofs.Names.{Client, State, stepped, since_ask, InstanceAt, ClientAt, WaitsFor, held_by}
+use Rattle.request_completion.proofs.Names.{ExplainedInvariant, IsCommitting, IsUndone, SessionTransition, Rests}
+use Rattle.request_completion.proofs.Names.{AsksBegin, AsksCommit, Begins, LosesBegin, Writes, Frees, Undoes, Hands}
+use Rattle.request_completion.proofs.Names.{Commits, Refuses, LeavesOpen, Vanishes, IsGone, WasToldToWait, AreToldWaits}
+use Rattle.request_completion.proofs.Names.{AreGoneSince, WasToldOpen, AreToldOpen}
 use Rattle.history_book.specs.declared.cause.Cause.TheVariants as cause
-use Rattle.history_book.specs.declared.item.Actor.TheVariants.{Session}
-use Rattle.history_book.specs.declared.item.Item.{Item}
 use Rattle.history_book.specs.declared.item.Item.TheVariants as item
-use Rattle.history_book.proofs.MemberLemmas.{in_last}
-use Rattle.system_parts.specs.declared.session.State.{State as SessionState}
 use Rattle.system_parts.specs.declared.session.State.TheVariants as phase
-use Rattle.system_parts.specs.SessionSteps.{SessionEntry}
-use Rattle.system_parts.specs.declared.instance.Held.{Held}
-use Rattle.system_parts.specs.declared.instance.Request.{Request}
-use Rattle.system_parts.specs.declared.instance.Request.TheVariants.{Begin, Commit}
-use Rattle.system_parts.specs.Instance.{InstanceEntry, held_of}
-use Rattle.machine.specs.declared.event.Event.{Event}
-use Rattle.machine.specs.State.{Client, State}
-use Rattle.machine.specs.Machine.{stepped}
-use Rattle.cause_rules.specs.Asks.{since_ask}
-use Rattle.isolation_laws.specs.Words.{InstanceAt, ClientAt}
-use Rattle.isolation_laws.specs.Requests.{WaitsFor}
-use Rattle.machine.proofs.Lookups.{held_by}
-use Rattle.cause_laws.specs.ShownInvariant.{ExplainedInvariant}
-use Rattle.request_completion.specs.SessionTransitions.{IsCommitting, IsUndone, SessionTransition, Rests, AsksBegin, AsksCommit, Begins, LosesBegin, Writes, Frees, Undoes, Hands, Commits, Refuses, LeavesOpen, Vanishes, IsGone}
-use Rattle.request_completion.specs.Ends.{WasToldToWait, AreToldWaits, AreGoneSince, WasToldOpen, AreToldOpen}
 use Rattle.request_completion.proofs.AskItems.{NoneAsked, ask_stays, since_was, since_now, one_unasked}
 use Rattle.request_completion.proofs.EventFacts.{was_there, none_asks}
 use Rattle.request_completion.proofs.SessionTurns.{aborted_undone}

@@ -1,8 +1,6 @@
 -- Where an item of a longer history stands: in the history before, or among the items that came.
-use Rattle.std.proofs.Common.{◌≡◌, List, [], ◌∷◌, ◌++◌, inl, refl, sym, ◌∙◌, ap, subst}
-use Rattle.history_book.specs.Members.{◌∈◌}
-use Rattle.history_book.specs.declared.item.Item.{Item}
-use Rattle.history_book.proofs.MemberLemmas.{in_back}
+use Rattle.request_completion.proofs.Names.{◌≡◌, List, [], ◌∷◌, ◌++◌, inl, refl, sym, ◌∙◌, ap, subst, ◌∈◌, Item}
+use Rattle.request_completion.proofs.Names.{in_back}
 
 pub data Stood (h items before behind : List Item) (x : Item) : Type 0 where
   Before : (rest : List Item) → h ≡ before ++ x ∷ rest → behind ≡ rest ++ items → Stood h items before behind x

@@ -1,25 +1,13 @@
 -- The transition of each session where an instance crashes.
-use Rattle.std.proofs.Common.{◌≡◌, ℕ, List, ◌∷◌, Option, None, Some, inl, inr, refl, sym, ◌∙◌, ap, subst}
-use Rattle.std.proofs.lemmas.Option.{none-some}
-use Rattle.history_book.specs.Members.{◌∈◌}
+use Rattle.request_completion.proofs.Names.{◌≡◌, ℕ, List, ◌∷◌, Option, None, Some, inl, inr, refl, sym, ◌∙◌, ap, subst}
+use Rattle.request_completion.proofs.Names.{none-some, ◌∈◌, Session, Item, Held, Request, Begin, Commit, held_of}
+use Rattle.request_completion.proofs.Names.{session_of, Client, State, client_freed, client_opened, after_loss}
+use Rattle.request_completion.proofs.Names.{crashed_client, loss_items, all_crashed_items, ClientAt, held_by, one_held}
+use Rattle.request_completion.proofs.Names.{Crashed, crashed_state, OfCrashed, ExplainedInvariant, EndsCommit, NoCommit}
+use Rattle.request_completion.proofs.Names.{SessionTransition, Rests, LosesBegin, LeavesOpen}
 use Rattle.history_book.specs.declared.cause.Cause.TheVariants as cause
-use Rattle.history_book.specs.declared.item.Actor.TheVariants.{Session}
-use Rattle.history_book.specs.declared.item.Item.{Item}
 use Rattle.history_book.specs.declared.item.Item.TheVariants as item
 use Rattle.system_parts.specs.declared.session.State.TheVariants as phase
-use Rattle.system_parts.specs.declared.instance.Held.{Held}
-use Rattle.system_parts.specs.declared.instance.Request.{Request}
-use Rattle.system_parts.specs.declared.instance.Request.TheVariants.{Begin, Commit}
-use Rattle.system_parts.specs.Instance.{held_of, session_of}
-use Rattle.machine.specs.State.{Client, State}
-use Rattle.machine.specs.Clients.{client_freed, client_opened}
-use Rattle.machine.specs.Events.Crash.{after_loss, crashed_client, loss_items, all_crashed_items}
-use Rattle.isolation_laws.specs.Words.{ClientAt}
-use Rattle.machine.proofs.Lookups.{held_by, one_held}
-use Rattle.machine.specs.Outcome.OutcomesOfRequests.{Crashed, crashed_state}
-use Rattle.machine.specs.Outcome.Outcomes.{OfCrashed}
-use Rattle.cause_laws.specs.ShownInvariant.{ExplainedInvariant}
-use Rattle.request_completion.specs.SessionTransitions.{EndsCommit, NoCommit, SessionTransition, Rests, LosesBegin, LeavesOpen}
 use Rattle.request_completion.proofs.OwingItems.{only_is}
 use Rattle.request_completion.proofs.OwingOutcomes.{among, owing_none}
 use Rattle.request_completion.proofs.EndingItems.{heard_is, loss_told}

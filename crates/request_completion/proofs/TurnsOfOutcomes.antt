@@ -1,20 +1,15 @@
 -- The transition of each session, by the outcome of an event.
-use Rattle.std.proofs.Common.{ℕ, List, [], ◌∷◌, inl, refl, sym, ap, subst}
-use Rattle.history_book.specs.declared.item.Item.{Item}
+use Rattle.request_completion.proofs.Names.{ℕ, List, [], ◌∷◌, inl, refl, sym, ap, subst, Item, asked_state, Client}
+use Rattle.request_completion.proofs.Names.{State, client_wrote, AreDue, ClientAt, comes_by, none_silent, one_silent}
+use Rattle.request_completion.proofs.Names.{answered_item, fetched_turn, fetched_client, read_turn, read_client}
+use Rattle.request_completion.proofs.Names.{Outcome, OfCrashed, OfAskedBegin, OfAskedCommit, OfEnded, OfAnsweredBegin}
+use Rattle.request_completion.proofs.Names.{OfAnsweredCommit, OfHanded, OfOwnPlaced, OfOwnNotPlaced, OfEndedReadOnly}
+use Rattle.request_completion.proofs.Names.{OfWrote, OfWriteFailed, OfAborted, OfVanished, OfHealed, OfFetched}
+use Rattle.request_completion.proofs.Names.{OfReadDropped, OfReadStepped, OfOutcome, OfOutcomeFailed, OfCompleted}
+use Rattle.request_completion.proofs.Names.{left_by, told_by_outcome, ExplainedInvariant, SessionTransition, Rests}
+use Rattle.request_completion.proofs.Names.{AsksBegin, AsksCommit, Writes, Frees, Undoes, Vanishes, SessionsTakeTurns}
 use Rattle.history_book.specs.declared.item.Item.TheVariants as item
-use Rattle.system_parts.specs.SessionSteps.{asked_state}
-use Rattle.machine.specs.State.{Client, State}
-use Rattle.machine.specs.Events.Write.{client_wrote}
-use Rattle.machine.specs.Due.{AreDue}
-use Rattle.isolation_laws.specs.Words.{ClientAt}
-use Rattle.isolation_laws.proofs.AlwaysHolds.{comes_by}
-use Rattle.machine.proofs.Outcome.PlainItems.{none_silent, one_silent}
-use Rattle.machine.specs.Outcome.OutcomesOfStamps.{answered_item}
-use Rattle.machine.specs.Outcome.OutcomesOfWork.{fetched_turn, fetched_client, read_turn, read_client}
-use Rattle.machine.specs.Outcome.Outcomes.{Outcome, OfCrashed, OfAskedBegin, OfAskedCommit, OfEnded, OfAnsweredBegin, OfAnsweredCommit, OfHanded, OfOwnPlaced, OfOwnNotPlaced, OfEndedReadOnly, OfWrote, OfWriteFailed, OfAborted, OfVanished, OfHealed, OfFetched, OfReadDropped, OfReadStepped, OfOutcome, OfOutcomeFailed, OfCompleted, left_by, told_by_outcome}
 use Rattle.isolation_laws.proofs.Requests.ClientsOpen.{read_keeps_entry}
-use Rattle.cause_laws.specs.ShownInvariant.{ExplainedInvariant}
-use Rattle.request_completion.specs.SessionTransitions.{SessionTransition, Rests, AsksBegin, AsksCommit, Writes, Frees, Undoes, Vanishes, SessionsTakeTurns}
 use Rattle.request_completion.proofs.EndedCauses.{ended_leaves}
 use Rattle.request_completion.proofs.EndingItems.{last_none, answered_told, ends_none}
 use Rattle.request_completion.proofs.SessionTurns.{aborted_undone, one_turn, still_turn}

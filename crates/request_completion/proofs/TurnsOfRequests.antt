@@ -1,21 +1,12 @@
 -- The transition of a session whose request ends at a node.
-use Rattle.std.proofs.Common.{◌≡◌, ℕ, true, List, [], ◌∷◌, refl, subst}
-use Rattle.history_book.specs.declared.cause.Cause.{Cause}
+use Rattle.request_completion.proofs.Names.{◌≡◌, ℕ, true, List, [], ◌∷◌, refl, subst, Cause, Session, Item, Request}
+use Rattle.request_completion.proofs.Names.{Begin, Commit, State, client_begun, client_handed, client_freed}
+use Rattle.request_completion.proofs.Names.{client_aborted, unless_gone, after_refusal, none_silent, Ended}
+use Rattle.request_completion.proofs.Names.{AnsweredBegin, AnsweredCommit, HandedOver, answered_client, OfAnsweredBegin}
+use Rattle.request_completion.proofs.Names.{OfHanded, ExplainedInvariant, leaves_cells, NoneEnds, NoCommit}
+use Rattle.request_completion.proofs.Names.{SessionTransition, Begins, LosesBegin, Hands, Refuses}
 use Rattle.history_book.specs.declared.cause.Cause.TheVariants as cause
-use Rattle.history_book.specs.declared.item.Actor.TheVariants.{Session}
-use Rattle.history_book.specs.declared.item.Item.{Item}
 use Rattle.history_book.specs.declared.item.Item.TheVariants as item
-use Rattle.system_parts.specs.declared.instance.Request.{Request}
-use Rattle.system_parts.specs.declared.instance.Request.TheVariants.{Begin, Commit}
-use Rattle.machine.specs.State.{State}
-use Rattle.machine.specs.Clients.{client_begun, client_handed, client_freed, client_aborted, unless_gone, after_refusal}
-use Rattle.machine.proofs.Outcome.PlainItems.{none_silent}
-use Rattle.machine.specs.Outcome.OutcomesOfRequests.{Ended}
-use Rattle.machine.specs.Outcome.OutcomesOfStamps.{AnsweredBegin, AnsweredCommit, HandedOver, answered_client}
-use Rattle.machine.specs.Outcome.Outcomes.{OfAnsweredBegin, OfHanded}
-use Rattle.cause_laws.specs.ShownInvariant.{ExplainedInvariant}
-use Rattle.request_completion.specs.Closings.{leaves_cells}
-use Rattle.request_completion.specs.SessionTransitions.{NoneEnds, NoCommit, SessionTransition, Begins, LosesBegin, Hands, Refuses}
 use Rattle.request_completion.proofs.OwingItems.{only_is}
 use Rattle.request_completion.proofs.OwingOutcomes.{among}
 use Rattle.request_completion.proofs.EndingItems.{silent_ends, last_none, ends_none}

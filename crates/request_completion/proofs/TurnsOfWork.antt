@@ -1,25 +1,14 @@
 -- The transition of a session that places its commit, resolves it, or completes its transaction.
-use Rattle.std.proofs.Common.{◌≡◌, ℕ, List, [], ◌∷◌, ◌++◌, append_assoc, Option, None, Some, inl, inr, refl, sym, ◌∙◌, ap, subst}
-use Rattle.std.proofs.lemmas.List.Elements.{All-append}
-use Rattle.history_book.specs.declared.item.Ending.TheVariants.{Dead as DeadEnd}
-use Rattle.history_book.specs.declared.item.Item.{Item}
+use Rattle.request_completion.proofs.Names.{◌≡◌, ℕ, List, [], ◌∷◌, ◌++◌, append_assoc, Option, None, Some, inl, inr}
+use Rattle.request_completion.proofs.Names.{refl, sym, ◌∙◌, ap, subst, All-append, DeadEnd, Item, SettleTurn, Goes}
+use Rattle.request_completion.proofs.Names.{Decides, settle_ask, settle_turn, Settled, Client, State, told_by}
+use Rattle.request_completion.proofs.Names.{client_settled, settle_items, Silent, AllSilent, one_silent, two_silent}
+use Rattle.request_completion.proofs.Names.{answered_client, answered_item, AtPlacing, own_told, OutcomeStepped}
+use Rattle.request_completion.proofs.Names.{CompletedOne, OfCompleted, has_by, ExplainedInvariant, NoneEnds}
+use Rattle.request_completion.proofs.Names.{IsCommitting, SessionTransition, Frees}
 use Rattle.history_book.specs.declared.item.Item.TheVariants as item
 use Rattle.system_parts.specs.declared.resolve.Outcome.TheVariants as outcome
 use Rattle.system_parts.specs.declared.session.State.TheVariants as phase
-use Rattle.system_parts.specs.Resolve.{SettleTurn, Goes, Decides, settle_ask, settle_turn}
-use Rattle.system_parts.specs.declared.instance.Settled.{Settled}
-use Rattle.machine.specs.State.{Client, State}
-use Rattle.machine.specs.StoreSteps.{told_by}
-use Rattle.machine.specs.Events.Step.{client_settled, settle_items}
-use Rattle.machine.specs.Plain.{Silent, AllSilent}
-use Rattle.machine.proofs.Outcome.PlainItems.{one_silent, two_silent}
-use Rattle.machine.specs.Outcome.OutcomesOfStamps.{answered_client, answered_item}
-use Rattle.machine.specs.Outcome.OutcomesOfPlacings.{AtPlacing, own_told}
-use Rattle.machine.specs.Outcome.OutcomesOfWork.{OutcomeStepped, CompletedOne}
-use Rattle.machine.specs.Outcome.Outcomes.{OfCompleted}
-use Rattle.isolation_laws.proofs.Requests.ClientsAfter.{has_by}
-use Rattle.cause_laws.specs.ShownInvariant.{ExplainedInvariant}
-use Rattle.request_completion.specs.SessionTransitions.{NoneEnds, IsCommitting, SessionTransition, Frees}
 use Rattle.request_completion.proofs.EndingItems.{silent_ends, last_none, answered_told, own_front, own_is, own_silent, ends_none}
 use Rattle.request_completion.proofs.SessionTurns.{answered_turn, settled_turn, asks_turn}
 

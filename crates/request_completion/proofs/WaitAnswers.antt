@@ -1,23 +1,14 @@
 -- An answer that marks a request as told to wait tells its session so.
-use Rattle.std.proofs.Common.{◌≡◌, ℕ, Bool, true, false, if◌then◌else◌, List, [], ◌∷◌, Option, None, Some, Ok, Err, ◌⊎◌, inl, inr, refl, sym, ◌∙◌, ap, subst}
-use Rattle.std.specs.Prelude.{Result}
-use Rattle.std.proofs.lemmas.Bool.{cases_Bool}
-use Rattle.history_book.specs.declared.cause.Cause.{Cause}
+use Rattle.request_completion.proofs.Names.{◌≡◌, ℕ, Bool, true, false, if◌then◌else◌, List, [], ◌∷◌, Option, None, Some}
+use Rattle.request_completion.proofs.Names.{Ok, Err, ◌⊎◌, inl, inr, refl, sym, ◌∙◌, ap, subst, Result, cases_Bool}
+use Rattle.request_completion.proofs.Names.{Cause, Session, Item, Held, Progress, Drawn, Reply, Request, Begin, Commit}
+use Rattle.request_completion.proofs.Names.{InstanceEntry, held_of, was_told_not_yet, stamps_at, least_unsettled}
+use Rattle.request_completion.proofs.Names.{InstanceStep, answer_begin, answer_if_ready, answer_held, instance_answer}
+use Rattle.request_completion.proofs.Names.{Client, answer_by, answer_request, answer_on}
 use Rattle.history_book.specs.declared.cause.Cause.TheVariants as cause
-use Rattle.history_book.specs.declared.item.Actor.TheVariants.{Session}
-use Rattle.history_book.specs.declared.item.Item.{Item}
 use Rattle.history_book.specs.declared.item.Item.TheVariants as item
-use Rattle.system_parts.specs.declared.instance.Held.{Held}
-use Rattle.system_parts.specs.declared.instance.Progress.{Progress}
-use Rattle.system_parts.specs.declared.instance.Progress.TheVariants.{Drawn, Settled, Handed}
-use Rattle.system_parts.specs.declared.instance.Reply.{Reply}
+use Rattle.system_parts.specs.declared.instance.Progress.TheVariants.{Settled, Handed}
 use Rattle.system_parts.specs.declared.instance.Reply.TheVariants as reply
-use Rattle.system_parts.specs.declared.instance.Request.{Request}
-use Rattle.system_parts.specs.declared.instance.Request.TheVariants.{Begin, Commit}
-use Rattle.system_parts.specs.Instance.{InstanceEntry, held_of, was_told_not_yet, stamps_at, least_unsettled}
-use Rattle.system_parts.specs.InstanceSteps.{InstanceStep, answer_begin, answer_if_ready, answer_held, instance_answer}
-use Rattle.machine.specs.State.{Client}
-use Rattle.machine.specs.Events.Answer.{answer_by, answer_request, answer_on}
 use Rattle.request_completion.proofs.WaitFlags.{NoneNew, set_told, none_same, none_without}
 
 -- ---- what an instance answers

@@ -1,18 +1,17 @@
 -- Which calls of an instance tell a session that it has to wait: answers alone.
-use Rattle.std.proofs.Common.{Ok, ◌≡◌, ℕ, ◌+◌, ◌==◌, Bool, true, false, if◌then◌else◌, List, Option, None, Some, ◌⊎◌, inl, inr, refl, sym, ◌∙◌, ap, subst}
-use Rattle.history_book.specs.declared.cause.Cause.{Cause}
+use Rattle.request_completion.proofs.Names.{Ok, ◌≡◌, ℕ, ◌+◌, ◌==◌, Bool, true, false, if◌then◌else◌, List, Option, None}
+use Rattle.request_completion.proofs.Names.{Some, ◌⊎◌, inl, inr, refl, sym, ◌∙◌, ap, subst, Cause, Held, Progress}
+use Rattle.request_completion.proofs.Names.{Asked, Accepted, Request, How, InstanceEntry, held_of, with_request}
+use Rattle.request_completion.proofs.Names.{was_told_not_yet, not_yet_of_held, session_of, unsettled_by, in_flight}
+use Rattle.request_completion.proofs.Names.{stays, without_request, just_asked, accept_refusal, accept_unless}
+use Rattle.request_completion.proofs.Names.{accept_if_asked, accept_held, instance_ask, instance_accept, out_of_stamps}
+use Rattle.request_completion.proofs.Names.{drawn_as, decide_drawn, decide_by, settle_if_drawn, settle_held}
+use Rattle.request_completion.proofs.Names.{instance_settle, both_verdict, both_if_accepted, both_held, decide_both}
+use Rattle.request_completion.proofs.Names.{held_set}
 use Rattle.history_book.specs.declared.cause.Cause.TheVariants as cause
 use Rattle.system_parts.specs.declared.buckets.Verdict.{Verdict}
 use Rattle.system_parts.specs.declared.buckets.Verdict.TheVariants.{Free, Conflict, Hidden}
-use Rattle.system_parts.specs.declared.instance.Held.{Held}
-use Rattle.system_parts.specs.declared.instance.Progress.{Progress}
-use Rattle.system_parts.specs.declared.instance.Progress.TheVariants.{Asked, Accepted, Settled}
-use Rattle.system_parts.specs.declared.instance.Request.{Request}
-use Rattle.system_parts.specs.declared.instance.Settled.{Settled as How}
-use Rattle.system_parts.specs.Instance.{InstanceEntry, held_of, with_request, was_told_not_yet, not_yet_of_held, session_of, unsettled_by, in_flight}
-use Rattle.system_parts.specs.InstanceSteps.{stays, without_request, just_asked, accept_refusal, accept_unless, accept_if_asked, accept_held, instance_ask, instance_accept, out_of_stamps, drawn_as, decide_drawn, decide_by, settle_if_drawn, settle_held, instance_settle}
-use Rattle.machine.specs.Events.Decide.{both_verdict, both_if_accepted, both_held, decide_both}
-use Rattle.machine.proofs.Lookups.{held_set}
+use Rattle.system_parts.specs.declared.instance.Progress.TheVariants.{Settled}
 
 -- no session was told so that was not told before
 abbrev pub NoneNew : InstanceEntry → InstanceEntry → Type 0

@@ -1,22 +1,12 @@
 -- Every event: whoever an instance marks as told to wait was so before, or is told now.
-use Rattle.std.proofs.Common.{◌≡◌, ℕ, true, List, [], ◌∷◌, Option, None, Some, ◌⊎◌, inl, inr, refl, sym, ◌∙◌, ap, subst}
-use Rattle.std.specs.Prelude.{slice_get, slice_set}
-use Rattle.port_io.specs.declared.weather.Fate.{Fate}
+use Rattle.request_completion.proofs.Names.{◌≡◌, ℕ, true, List, [], ◌∷◌, Option, None, Some, ◌⊎◌, inl, inr, refl, sym}
+use Rattle.request_completion.proofs.Names.{◌∙◌, ap, subst, slice_get, slice_set, Fate, Session, Item, begin_refusal}
+use Rattle.request_completion.proofs.Names.{work_refusal, InstanceEntry, was_told_not_yet, Event, State, is_reading}
+use Rattle.request_completion.proofs.Names.{Step, stepped, with_reading, leaves_parts, InstanceAt, instance_set}
 use Rattle.history_book.specs.declared.cause.Cause.TheVariants as cause
-use Rattle.history_book.specs.declared.item.Actor.TheVariants.{Session}
-use Rattle.history_book.specs.declared.item.Item.{Item}
 use Rattle.history_book.specs.declared.item.Item.TheVariants as item
-use Rattle.system_parts.specs.SessionSteps.{begin_refusal, work_refusal}
-use Rattle.system_parts.specs.Instance.{InstanceEntry, was_told_not_yet}
-use Rattle.machine.specs.declared.event.Event.{Event}
 use Rattle.machine.specs.declared.event.Event.TheVariants as event
-use Rattle.machine.specs.State.{State}
-use Rattle.machine.specs.Clients.{is_reading}
-use Rattle.machine.specs.Machine.{Step, stepped, with_reading}
 use Rattle.machine.proofs.LookedUp.{of_post, of_both}
-use Rattle.machine.proofs.PartsKept.{leaves_parts}
-use Rattle.isolation_laws.specs.Words.{InstanceAt}
-use Rattle.machine.proofs.Lookups.{instance_set}
 use Rattle.request_completion.proofs.WaitAnswers.{told_in, IsTold, answer_told}
 use Rattle.request_completion.proofs.WaitPosts.{Marked, take_marks, renew_marks, extend_marks, crash_marks, begin_marks, commit_marks, accept_marks, decide_marks, put_marks}
 

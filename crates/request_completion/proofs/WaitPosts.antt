@@ -1,13 +1,14 @@
 -- Every event: whoever is marked as told to wait was so before, or is told now.
-use Rattle.std.proofs.Common.{◌≡◌, ℕ, ◌+◌, true, List, [], ◌∷◌, Option, None, Some, Ok, Err, sym, ◌∙◌, ap}
-use Rattle.std.specs.Prelude.{Result}
-use Rattle.stamp_base.specs.SetupNumbers.{SetupNumbers}
-use Rattle.stamp_base.specs.declared.stores.Mark.{Mark}
-use Rattle.port_io.specs.declared.weather.Fate.{Fate}
-use Rattle.port_io.specs.declared.weather.Fate.TheVariants.{Works, FailsUnchanged, FailsApplied}
-use Rattle.history_book.specs.declared.cause.Cause.{Cause}
+use Rattle.request_completion.proofs.Names.{◌≡◌, ℕ, ◌+◌, true, List, [], ◌∷◌, Option, None, Some, Ok, Err, sym, ◌∙◌, ap}
+use Rattle.request_completion.proofs.Names.{Result, SetupNumbers, Mark, Fate, Works, FailsUnchanged, FailsApplied}
+use Rattle.request_completion.proofs.Names.{Cause, Item, MasterRecord, take_refused, renew_refused, renewed_until}
+use Rattle.request_completion.proofs.Names.{extend_refused, granted, answered, Pairs, mark_of, Held, Request, Begin}
+use Rattle.request_completion.proofs.Names.{Commit, InstanceEntry, held_of, not_yet_of_held, instance_ask}
+use Rattle.request_completion.proofs.Names.{instance_accept, held_of-instance_new, Client, take_by, rules_of, take_on}
+use Rattle.request_completion.proofs.Names.{crash_on, asked_by, begin_asked, ask_begin_by, commit_asked, commit_of}
+use Rattle.request_completion.proofs.Names.{ask_commit_by, accept_by, accept_request, accept_on, decide_both}
+use Rattle.request_completion.proofs.Names.{decide_request, decide_on}
 use Rattle.history_book.specs.declared.cause.Cause.TheVariants as cause
-use Rattle.history_book.specs.declared.item.Item.{Item}
 use Rattle.system_parts.specs.declared.record.Grant.{Grant}
 use Rattle.system_parts.specs.declared.record.TakeRefused.{TakeRefused}
 use Rattle.system_parts.specs.declared.record.TakeRefused.TheVariants as take
@@ -15,25 +16,11 @@ use Rattle.system_parts.specs.declared.record.RenewRefused.{RenewRefused}
 use Rattle.system_parts.specs.declared.record.RenewRefused.TheVariants as renew
 use Rattle.system_parts.specs.declared.record.ExtendRefused.{ExtendRefused}
 use Rattle.system_parts.specs.declared.record.ExtendRefused.TheVariants as extend
-use Rattle.system_parts.specs.Record.{MasterRecord, take_refused, renew_refused, renewed_until, extend_refused, granted, answered}
-use Rattle.system_parts.specs.Pairs.{Pairs, mark_of}
 use Rattle.system_parts.specs.declared.instance.Decided.{Decided}
-use Rattle.system_parts.specs.declared.instance.Held.{Held}
-use Rattle.system_parts.specs.declared.instance.Request.{Request}
-use Rattle.system_parts.specs.declared.instance.Request.TheVariants.{Begin, Commit}
 use Rattle.system_parts.specs.declared.instance.Settled.TheVariants as how
-use Rattle.system_parts.specs.Instance.{InstanceEntry, held_of, not_yet_of_held}
-use Rattle.system_parts.specs.InstanceSteps.{instance_ask, instance_accept}
-use Rattle.system_parts.proofs.InstanceRequests.{held_of-instance_new}
-use Rattle.machine.specs.State.{Client}
-use Rattle.machine.specs.Events.Take.{take_by, rules_of, take_on}
 use Rattle.machine.specs.Events.Renew.{renew_by, renew_on}
 use Rattle.machine.specs.Events.Extend.{extend_by, extend_on}
-use Rattle.machine.specs.Events.Crash.{crash_on}
-use Rattle.machine.specs.Events.AskBegin.{asked_by, begin_asked, ask_begin_by}
-use Rattle.machine.specs.Events.AskCommit.{commit_asked, commit_of, ask_commit_by}
-use Rattle.machine.specs.Events.Accept.{accept_by, accept_request, accept_on}
-use Rattle.machine.specs.Events.Decide.{decide_both, decide_by, decide_request, decide_on}
+use Rattle.machine.specs.Events.Decide.{decide_by}
 use Rattle.machine.specs.Events.Put.{to_place, put_by, put_commit, put_on}
 use Rattle.request_completion.proofs.WaitFlags.{NoneNew, ask_none, accept_none, settle_none, decide_none}
 use Rattle.request_completion.proofs.WaitAnswers.{told_in}

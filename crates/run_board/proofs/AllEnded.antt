@@ -1,29 +1,13 @@
 -- Where every actor has ended no seat has a line left, since each actor has one seat.
-use Rattle.std.proofs.Common.{◌≡◌, ℕ, zero, suc, ◌<◌, ◌==◌, Bool, true, false, cond, List, [], ◌∷◌, ◌++◌, append_assoc, Option, Some, None, length, drop, inl, inr, refl, sym, ◌∙◌, ap, subst, arith}
-use Rattle.std.specs.Prelude.{map, fold, slice_get, slice_index_or}
-use Rattle.std.specs.Option.{option_map}
-use Rattle.std.proofs.lemmas.Bool.{true≢false}
-use Rattle.std.proofs.lemmas.Bool.Decides.{eqb_tells}
+use Rattle.run_board.proofs.Names.{◌≡◌, ℕ, zero, suc, ◌<◌, ◌==◌, Bool, true, false, cond, List, [], ◌∷◌, ◌++◌}
+use Rattle.run_board.proofs.Names.{append_assoc, Option, Some, None, length, drop, inl, inr, refl, sym, ◌∙◌, ap, subst}
+use Rattle.run_board.proofs.Names.{arith, map, fold, slice_get, slice_index_or, option_map, true≢false, eqb_tells}
+use Rattle.run_board.proofs.Names.{none-some, SetupNumbers, Actor, Clock, Node, Session, Janitor, Event, Line}
+use Rattle.run_board.proofs.Names.{ScriptData, same_actor, step_of, actor_same, same_itself, Seat, Turn, first_seat}
+use Rattle.run_board.proofs.Names.{seats_of, first_seats, lines_of, lines_left, Carried, seat_of, event_of, moved}
+use Rattle.run_board.proofs.Names.{with_event, seat_passed, all_passed, turned_by, turned, at_first, carried, find_map}
+use Rattle.run_board.proofs.Names.{passed_actor, moved_actor, Ran, reached_by, place_in, HasEnded, EndedRunsAreWhole}
 use Rattle.std.proofs.lemmas.List.{append-nil}
-use Rattle.std.proofs.lemmas.Option.{none-some}
-use Rattle.stamp_base.specs.SetupNumbers.{SetupNumbers}
-use Rattle.history_book.specs.declared.item.Actor.{Actor}
-use Rattle.history_book.specs.declared.item.Actor.TheVariants.{Clock, Node, Session, Janitor}
-use Rattle.machine.specs.declared.event.Event.{Event}
-use Rattle.script_data.specs.declared.line.Line.{Line}
-use Rattle.script_data.specs.Data.{ScriptData}
-use Rattle.command_semantics.specs.Answers.{same_actor}
-use Rattle.command_semantics.specs.Runs.{step_of}
-use Rattle.command_semantics.proofs.ScriptWalks.{actor_same, same_itself}
-use Rattle.turn_rules.specs.declared.seat.Seat.{Seat}
-use Rattle.turn_rules.specs.declared.turn.Turn.{Turn}
-use Rattle.turn_rules.specs.Seats.{first_seat, seats_of, first_seats, lines_of, lines_left}
-use Rattle.turn_rules.specs.Carried.{Carried, seat_of, event_of, moved, with_event, seat_passed, all_passed, turned_by, turned, at_first, carried}
-use Rattle.turn_rules.proofs.SeatLists.{find_map}
-use Rattle.turn_rules.proofs.SeatsOn.{passed_actor, moved_actor}
-use Rattle.run_board.specs.Run.{Ran, reached_by}
-use Rattle.run_board.specs.Steps.{place_in, HasEnded}
-use Rattle.run_board.specs.Further.{EndedRunsAreWhole}
 
 -- ---- each actor has one seat
 unfoldable AreDistinct : List Seat → Type 0

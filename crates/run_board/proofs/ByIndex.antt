@@ -1,16 +1,10 @@
 -- For this crate's own proofs.
 -- The seat at an index, where it is the only one of its actor.
-use Rattle.std.proofs.Common.{◌≡◌, ℕ, zero, suc, ◌+◌, ◌<◌, Bool, true, false, cond, List, [], ◌∷◌, Option, Some, None, drop, length, refl, sym, ◌∙◌, ap, arith}
-use Rattle.std.specs.Prelude.{find, map, slice_get, slice_set}
-use Rattle.std.proofs.lemmas.Option.{same_Some, none-some}
-use Rattle.history_book.specs.declared.item.Actor.{Actor}
-use Rattle.command_semantics.specs.declared.point.Interruption.{Interruption}
-use Rattle.command_semantics.specs.Answers.{same_actor}
-use Rattle.command_semantics.proofs.ScriptWalks.{actor_same}
-use Rattle.turn_rules.specs.declared.turn.Turn.{Turn}
+use Rattle.run_board.proofs.Names.{◌≡◌, ℕ, zero, suc, ◌+◌, ◌<◌, Bool, true, false, cond, List, [], ◌∷◌, Option, Some}
+use Rattle.run_board.proofs.Names.{None, drop, length, refl, sym, ◌∙◌, ap, arith, find, map, slice_get, slice_set}
+use Rattle.run_board.proofs.Names.{same_Some, none-some, Actor, Interruption, same_actor, actor_same, Turn, Seated}
+use Rattle.run_board.proofs.Names.{after_turn, is_seat_of, seated_of, sits_at, SitOnce}
 use Rattle.turn_rules.specs.declared.turn.Turn.TheVariants as turn
-use Rattle.run_board.specs.declared.seated.Seated.{Seated}
-use Rattle.run_board.specs.Seating.{after_turn, is_seat_of, seated_of, sits_at, SitOnce}
 
 -- ---- one element alone may pass a test
 abbrev pub IsAlone : {X : Type 0} → (X → Bool) → List X → ℕ → Type 0

@@ -1,18 +1,9 @@
 -- A turn's call, from what a script run keeps before it to what it keeps after it.
-use Rattle.std.proofs.Common.{◌≡◌, ℕ, true, false, List, [], ◌∷◌, ◌++◌, All, inl, inr, length, sym, ◌∙◌, ap, subst}
-use Rattle.history_book.specs.declared.item.Item.{Item}
-use Rattle.machine.specs.declared.event.Event.{Event}
-use Rattle.machine.specs.Machine.{IsSteadyAt, reading_of}
-use Rattle.machine.specs.State.{State}
+use Rattle.run_board.proofs.Names.{◌≡◌, ℕ, true, false, List, [], ◌∷◌, ◌++◌, All, inl, inr, length, sym, ◌∙◌, ap, subst}
+use Rattle.run_board.proofs.Names.{Item, Event, IsSteadyAt, reading_of, State, Reaches, Turn, names_after, held_after}
+use Rattle.run_board.proofs.Names.{with_event, carried, Seated, step_in, is_told, IsLeftOut, TurnsBy, Makes, Ran}
+use Rattle.run_board.proofs.Names.{reached_by, with_turn, IsSeated, SitsAt, CanPass}
 use Rattle.command_semantics.specs.Runs.{Played}
-use Rattle.planned_cluster.specs.Standing.{Reaches}
-use Rattle.turn_rules.specs.declared.turn.Turn.{Turn}
-use Rattle.session_script.specs.PostedNames.{names_after}
-use Rattle.turn_rules.specs.Carried.{held_after, with_event, carried}
-use Rattle.run_board.specs.declared.seated.Seated.{Seated}
-use Rattle.run_board.specs.Making.{step_in, is_told, IsLeftOut, TurnsBy, Makes}
-use Rattle.run_board.specs.Run.{Ran, reached_by, with_turn, IsSeated, SitsAt}
-use Rattle.run_board.specs.Seating.{CanPass}
 use Rattle.run_board.proofs.Kept.{Kept, Call, IsMade, CanTurn, Calls, HasGone, StillStands, HasPlayed, since, moved_by}
 use Rattle.run_board.proofs.Opening.{all_can_pass}
 use Rattle.run_board.proofs.Quiet.{untold, appended_none}

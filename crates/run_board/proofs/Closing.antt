@@ -1,23 +1,10 @@
 -- Where every cursor is at its end the turns are whole, and the history answers the script and keeps to its plan.
-use Rattle.std.proofs.Common.{◌≡◌, List, sym, subst}
-use Rattle.history_book.specs.declared.item.Item.{Item}
-use Rattle.script_data.specs.Data.{ScriptData}
-use Rattle.command_semantics.specs.Answers.{AnswersOnThreads}
-use Rattle.command_semantics.specs.Planned.{Planned}
-use Rattle.thread_steps.specs.declared.cursor.Cursor.{Cursor}
-use Rattle.planned_cluster.proofs.Playable.{playable_at_first}
-use Rattle.turn_rules.specs.declared.turn.Turn.{Turn}
-use Rattle.turn_rules.specs.Carried.{carried_items, AreWhole}
-use Rattle.turn_rules.specs.Lawful.{AreLawful}
-use Rattle.turn_rules.specs.Laws.{TurnsAnswer, TurnsArePlanned}
+use Rattle.run_board.proofs.Names.{◌≡◌, List, sym, subst, Item, ScriptData, AnswersOnThreads, Planned, Cursor}
+use Rattle.run_board.proofs.Names.{playable_at_first, Turn, carried_items, AreWhole, AreLawful, TurnsAnswer}
+use Rattle.run_board.proofs.Names.{TurnsArePlanned, KeepsService, AreAtTheirEnds, Ran, place_of, EndedRunsAreWhole}
+use Rattle.run_board.proofs.Names.{Played, IsKept, IsResult}
 use Rattle.script_service.specs.Service.{TurnsKeepService}
-use Rattle.service_rules.specs.Service.{KeepsService}
-use Rattle.thread_scripts.specs.Actors.{AreAtTheirEnds}
 use Rattle.thread_scripts.proofs.AllEnded.{all_ended}
-use Rattle.run_board.specs.Run.{Ran}
-use Rattle.run_board.specs.Steps.{place_of}
-use Rattle.run_board.specs.Further.{EndedRunsAreWhole}
-use Rattle.run_board.specs.Playing.{Played, IsKept, IsResult}
 
 whole_at_end : (r : Ran) (cursors : List Cursor) → EndedRunsAreWhole → IsKept r cursors → AreAtTheirEnds r.script cursors → AreWhole r.script r.turns
 whole_at_end r cursors law k ends = law r (all_ended r.script (place_of r) cursors k.behind k.covered ends)

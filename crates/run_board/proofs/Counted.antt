@@ -1,30 +1,15 @@
 -- A cursor comes up wherever its actor makes a turn of its own.
-use Rattle.std.proofs.Common.{◌≡◌, ℕ, ◌≤◌, Bool, true, false, cond, List, [], ◌∷◌, ◌++◌, All, Option, Some, None, inl, inr, refl, sym, ap, ◌∙◌, subst, arith}
-use Rattle.std.specs.Prelude.{IsSomeAnd}
-use Rattle.std.proofs.lemmas.Bool.{cases_Bool}
-use Rattle.std.proofs.lemmas.Option.{none-some}
-use Rattle.std.proofs.lemmas.List.Elements.{All-head, All-tail}
-use Rattle.stamp_base.specs.declared.stage.Stage.{Stage}
-use Rattle.history_book.specs.declared.item.Actor.{Actor}
-use Rattle.history_book.specs.declared.item.Actor.TheVariants.{Clock}
+use Rattle.run_board.proofs.Names.{◌≡◌, ℕ, ◌≤◌, Bool, true, false, cond, List, [], ◌∷◌, ◌++◌, All, Option, Some, None}
+use Rattle.run_board.proofs.Names.{inl, inr, refl, sym, ap, ◌∙◌, subst, arith, IsSomeAnd, cases_Bool, none-some}
+use Rattle.run_board.proofs.Names.{All-head, All-tail, Stage, Actor, Clock, AtEach-push, AtEach-weaker, Event, Cursor}
+use Rattle.run_board.proofs.Names.{is_same, caught_up, Turn, event_of, stage_of, StageStep, Advance, Ran, reached_by}
+use Rattle.run_board.proofs.Names.{with_turn, TurnsBy, place_of, TellsTurn, ServesOnce, Advances, Serves, cursor_of}
+use Rattle.run_board.proofs.Names.{IsUpTo, IsCountedAt, AreCounted}
 use Rattle.history_book.specs.Members.{AtEach}
-use Rattle.history_book.proofs.MemberLemmas.{AtEach-push, AtEach-weaker}
-use Rattle.machine.specs.declared.event.Event.{Event}
-use Rattle.thread_steps.specs.declared.cursor.Cursor.{Cursor}
-use Rattle.thread_steps.specs.Done.{is_same, caught_up}
 use Rattle.thread_steps.proofs.CaughtUp.{actor_is}
-use Rattle.turn_rules.specs.declared.turn.Turn.{Turn}
 use Rattle.turn_rules.specs.declared.turn.Turn.TheVariants as turn
-use Rattle.turn_rules.specs.Carried.{event_of}
-use Rattle.turn_rules.specs.Lawful.{stage_of}
-use Rattle.thread_steps.specs.declared.stages.StageStep.{StageStep}
 use Rattle.thread_steps.specs.declared.stages.StageStep.TheVariants as step
-use Rattle.run_board.specs.declared.answers.Advance.{Advance}
 use Rattle.run_board.specs.declared.answers.Advance.TheVariants as advance
-use Rattle.run_board.specs.Run.{Ran, reached_by, with_turn}
-use Rattle.run_board.specs.Making.{TurnsBy}
-use Rattle.run_board.specs.Steps.{place_of, TellsTurn, ServesOnce, Advances, Serves}
-use Rattle.run_board.specs.Playing.{cursor_of, IsUpTo, IsCountedAt, AreCounted}
 
 -- ---- the cursors
 up_by : (n : ℕ) (other : Actor) (place : ℕ) (c : Cursor) (cs rest : List Cursor) (here : Bool) → (here ≡ true → c.done ≤ place)

@@ -1,41 +1,19 @@
 -- Where nothing is ahead of an actor it has no line left, since each line with nothing left to do was passed.
-use Rattle.std.proofs.Common.{◌≡◌, ℕ, zero, suc, ◌≤◌, arith, length, leb, Bool, true, false, cond, List, [], ◌∷◌, Option, Some, None, refl, sym, ◌∙◌, ap, subst}
-use Rattle.std.specs.Prelude.{◌↔◌, IsTrue, drop, filter, fold, slice_get}
-use Rattle.std.specs.Option.{option_map}
-use Rattle.std.proofs.lemmas.Bool.{le-leb, leb-true, true≢false}
-use Rattle.std.proofs.lemmas.Option.{same_Some, none-some, slice_get_past}
-use Rattle.stamp_base.specs.SetupNumbers.{SetupNumbers}
-use Rattle.history_book.specs.declared.item.Actor.{Actor}
-use Rattle.history_book.specs.declared.item.Actor.TheVariants.{Session}
-use Rattle.machine.specs.declared.event.Event.{Event}
-use Rattle.script_data.specs.declared.line.Line.{Line}
-use Rattle.script_data.specs.declared.line.Verb.{Verb}
+use Rattle.run_board.proofs.Names.{◌≡◌, ℕ, zero, suc, ◌≤◌, arith, length, leb, Bool, true, false, cond, List, [], ◌∷◌}
+use Rattle.run_board.proofs.Names.{Option, Some, None, refl, sym, ◌∙◌, ap, subst, ◌↔◌, IsTrue, filter, fold, slice_get}
+use Rattle.run_board.proofs.Names.{option_map, le-leb, leb-true, true≢false, same_Some, none-some, slice_get_past}
+use Rattle.run_board.proofs.Names.{SetupNumbers, Actor, Session, Event, Line, Verb, ScriptData, Point, Opens, Drives}
+use Rattle.run_board.proofs.Names.{Extends, View, same_actor, ActorFits, AreLinesOf, Clocks, clocks_of, view_of}
+use Rattle.run_board.proofs.Names.{actor_same, Passes, Holds, Seat, Turn, own_opens, own_next, lines_of, lines_left}
+use Rattle.run_board.proofs.Names.{present_line, with_next_line, ahead_of, is_passed, passed, Carried, aimed_clocks}
+use Rattle.run_board.proofs.Names.{name_posted, seat_of, event_of, ahead_at, ahead_in, own_ahead, seat_passed}
+use Rattle.run_board.proofs.Names.{all_passed, turned_by, turned, with_event, at_first, carried, find_true, drop_get}
+use Rattle.run_board.proofs.Names.{drop_next, passed_actor, passed_seat, Seated, SitsAt, seated_of, place_in}
+use Rattle.std.specs.Prelude.{drop}
 use Rattle.script_data.specs.declared.line.Verb.TheVariants as verb
-use Rattle.script_data.specs.Data.{ScriptData}
-use Rattle.command_semantics.specs.declared.point.Point.{Point}
-use Rattle.command_semantics.specs.declared.point.Point.TheVariants.{Opens, Drives, Extends}
-use Rattle.command_semantics.specs.declared.point.View.{View}
-use Rattle.command_semantics.specs.Answers.{same_actor}
-use Rattle.command_semantics.specs.Laws.{ActorFits, AreLinesOf}
-use Rattle.command_semantics.specs.Next.{Clocks}
-use Rattle.command_semantics.specs.Runs.{Played, clocks_of}
-use Rattle.command_semantics.specs.Views.{view_of}
-use Rattle.command_semantics.proofs.ScriptWalks.{actor_same}
-use Rattle.turn_rules.specs.declared.ahead.NextAction.TheVariants.{Passes}
-use Rattle.turn_rules.specs.declared.seat.Holds.{Holds}
-use Rattle.turn_rules.specs.declared.seat.Seat.{Seat}
-use Rattle.turn_rules.specs.declared.turn.Turn.{Turn}
-use Rattle.turn_rules.specs.Waiting.{own_opens, own_next}
-use Rattle.turn_rules.specs.Seats.{lines_of, lines_left, present_line, with_next_line, ahead_of, is_passed, passed}
-use Rattle.turn_rules.specs.Carried.{Carried, aimed_clocks, name_posted, seat_of, event_of, ahead_at, ahead_in, own_ahead, seat_passed, all_passed, turned_by, turned, with_event, at_first, carried}
+use Rattle.command_semantics.specs.Runs.{Played}
 use Rattle.turn_rules.proofs.AimsAlike.{Alike, ahead_alike, passed_alike}
 use Rattle.turn_rules.proofs.AllSeats.{has_seat}
-use Rattle.turn_rules.proofs.SeatLists.{find_true, drop_get, drop_next}
-use Rattle.turn_rules.proofs.SeatsOn.{passed_actor, passed_seat}
-use Rattle.run_board.specs.declared.seated.Seated.{Seated}
-use Rattle.run_board.specs.Run.{SitsAt}
-use Rattle.run_board.specs.Seating.{seated_of}
-use Rattle.run_board.specs.Steps.{place_in}
 use Rattle.run_board.proofs.Found.{IsFound, is_found}
 
 -- ---- a seat that has passed what it can

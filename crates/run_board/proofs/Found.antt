@@ -1,21 +1,9 @@
 -- Where an actor sits, found among the seats with their lines.
-use Rattle.std.proofs.Common.{◌≡◌, ℕ, Bool, true, false, cond, List, [], ◌∷◌, Option, Some, None, All, refl, sym, ◌∙◌, ap, subst}
-use Rattle.std.specs.Prelude.{map, slice_get}
-use Rattle.std.proofs.lemmas.List.Elements.{All-head, All-tail}
-use Rattle.history_book.specs.declared.item.Actor.{Actor}
-use Rattle.script_data.specs.declared.line.Line.{Line}
-use Rattle.script_data.specs.Data.{ScriptData}
-use Rattle.command_semantics.specs.Answers.{same_actor}
-use Rattle.turn_rules.specs.declared.ahead.NextAction.{NextAction}
-use Rattle.turn_rules.specs.declared.ahead.NextAction.TheVariants.{Passes}
-use Rattle.turn_rules.specs.declared.seat.Holds.{Holds}
-use Rattle.turn_rules.specs.declared.seat.Seat.{Seat}
-use Rattle.turn_rules.specs.Seats.{present_line}
-use Rattle.turn_rules.specs.Carried.{Carried, seat_of, ahead_at, ahead_in, own_ahead}
-use Rattle.run_board.specs.declared.seated.Seated.{Seated}
-use Rattle.run_board.specs.Run.{IsSeated, SitsAt}
-use Rattle.run_board.specs.Seating.{line_of, seated_of}
-use Rattle.run_board.specs.Steps.{place_in}
+use Rattle.run_board.proofs.Names.{◌≡◌, ℕ, Bool, true, false, cond, List, [], ◌∷◌, Option, Some, None, All, refl, sym}
+use Rattle.run_board.proofs.Names.{◌∙◌, ap, subst, map, slice_get, All-head, All-tail, Actor, Line, ScriptData}
+use Rattle.run_board.proofs.Names.{same_actor, NextAction, Passes, Holds, Seat, present_line, Carried, seat_of}
+use Rattle.run_board.proofs.Names.{ahead_at, ahead_in, own_ahead, Seated, IsSeated, SitsAt, line_of, seated_of}
+use Rattle.run_board.proofs.Names.{place_in}
 
 -- the one is found exactly where the other is
 abbrev pub IsFound : ScriptData → Option Seated → Option Seat → Type 0

@@ -1,18 +1,10 @@
 -- Every step keeps the script, and lowers no place.
-use Rattle.std.proofs.Common.{◌≡◌, ℕ, ◌≤◌, Option, Some, None, inl, inr, sym, ap, subst, arith}
-use Rattle.std.specs.Prelude.{IsSomeAnd}
-use Rattle.stamp_base.specs.declared.stage.Stage.{Stage}
-use Rattle.machine.specs.declared.event.Event.{Event}
-use Rattle.turn_rules.specs.declared.turn.Turn.{Turn}
+use Rattle.run_board.proofs.Names.{◌≡◌, ℕ, ◌≤◌, Option, Some, None, inl, inr, sym, ap, subst, arith, IsSomeAnd, Stage}
+use Rattle.run_board.proofs.Names.{Event, Turn, event_of, StageStep, Ran, reached_by, with_turn, TurnsBy, place_of}
+use Rattle.run_board.proofs.Names.{TellsTurn, ServesOnce, IsFurther, AdvancesGoFurther, StageStepsGoFurther}
 use Rattle.turn_rules.specs.declared.turn.Turn.TheVariants as turn
-use Rattle.turn_rules.specs.Carried.{event_of}
-use Rattle.thread_steps.specs.declared.stages.StageStep.{StageStep}
 use Rattle.thread_steps.specs.declared.stages.StageStep.TheVariants as step
 use Rattle.run_board.specs.declared.answers.Advance.TheVariants as advance
-use Rattle.run_board.specs.Run.{Ran, reached_by, with_turn}
-use Rattle.run_board.specs.Making.{TurnsBy}
-use Rattle.run_board.specs.Steps.{place_of, TellsTurn, ServesOnce}
-use Rattle.run_board.specs.Further.{IsFurther, AdvancesGoFurther, StageStepsGoFurther}
 use Rattle.run_board.proofs.Places.{places_rise}
 
 stays : (old new : Ran) → new ≡ old → IsFurther old new

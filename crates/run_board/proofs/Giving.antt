@@ -1,16 +1,10 @@
 -- For this crate's own proofs.
 -- A line that is given to the seat of its actor.
-use Rattle.std.proofs.Common.{◌≡◌, ℕ, zero, suc, Bool, true, false, cond, List, [], ◌∷◌, ◌++◌, append-nil, Some, None, All, refl, sym, ◌∙◌, ap, subst, arith}
-use Rattle.std.specs.Prelude.{map, slice_get, slice_set}
-use Rattle.std.proofs.lemmas.List.Elements.{All-nil, All-cons, All-head, All-tail, filter-append}
-use Rattle.std.proofs.lemmas.Option.{same_Some, none-some}
-use Rattle.history_book.specs.declared.item.Actor.{Actor}
-use Rattle.script_data.specs.declared.line.Line.{Line}
-use Rattle.command_semantics.specs.Answers.{same_actor}
-use Rattle.command_semantics.proofs.ScriptWalks.{actor_same, same_itself}
-use Rattle.turn_rules.specs.declared.seat.Seat.{Seat}
-use Rattle.run_board.specs.declared.seated.Seated.{Seated}
-use Rattle.run_board.specs.Seating.{own_lines, seated_of, sits_at, AreSeated, SitOnce}
+use Rattle.run_board.proofs.Names.{◌≡◌, ℕ, zero, suc, Bool, true, false, cond, List, [], ◌∷◌, ◌++◌, append-nil, Some}
+use Rattle.run_board.proofs.Names.{None, All, refl, sym, ◌∙◌, ap, subst, arith, map, slice_get, slice_set, All-nil}
+use Rattle.run_board.proofs.Names.{All-cons, All-head, All-tail, filter-append, same_Some, none-some, Actor, Line}
+use Rattle.run_board.proofs.Names.{same_actor, actor_same, same_itself, Seat, Seated, own_lines, seated_of, sits_at}
+use Rattle.run_board.proofs.Names.{AreSeated, SitOnce}
 use Rattle.run_board.proofs.AllEnded.{other_way}
 use Rattle.run_board.proofs.ByIndex.{IsAlone, alone_left, fails, is_its, missed_by, not_first, only}
 

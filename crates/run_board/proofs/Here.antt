@@ -1,14 +1,7 @@
 -- What the parts of a script run tell of where it stands.
-use Rattle.std.proofs.Common.{◌≡◌, Bool, ℕ, zero, suc, List, [], ◌∷◌, Some, All, sym, subst}
-use Rattle.std.specs.Prelude.{slice_get, IfSome}
-use Rattle.std.proofs.lemmas.List.Elements.{All-head, All-tail}
-use Rattle.history_book.specs.declared.item.Actor.{Actor}
-use Rattle.script_data.specs.declared.line.Line.{Line}
-use Rattle.command_semantics.specs.Clocks.{HaveRoom}
-use Rattle.turn_rules.specs.declared.seat.Holds.{Holds}
-use Rattle.run_board.specs.declared.seated.Seated.{Seated}
-use Rattle.run_board.specs.Run.{Ran, reached_by, IsSeated, SitsAt, IsCarriedOut}
-use Rattle.run_board.specs.Seating.{line_of, seated_of}
+use Rattle.run_board.proofs.Names.{◌≡◌, Bool, ℕ, zero, suc, List, [], ◌∷◌, Some, All, sym, subst, slice_get, IfSome}
+use Rattle.run_board.proofs.Names.{All-head, All-tail, Actor, Line, HaveRoom, Holds, Seated, Ran, reached_by, IsSeated}
+use Rattle.run_board.proofs.Names.{SitsAt, IsCarriedOut, line_of, seated_of}
 use Rattle.run_board.proofs.Found.{IsFound, is_found}
 use Rattle.run_board.proofs.Steady.{clock_room, lines_have_room}
 

@@ -1,27 +1,11 @@
 -- For this crate's own proofs.
 -- What a script run keeps beside its turns, and a call that makes one turn more of it.
-use Rattle.std.proofs.Common.{◌≡◌, ℕ, ◌≤◌, Bool, List, Option, Some, Result, drop, length}
-use Rattle.std.specs.Prelude.{map}
+use Rattle.run_board.proofs.Names.{◌≡◌, ℕ, ◌≤◌, Bool, List, Option, Some, Result, drop, length, map, Fate, Item, Event}
+use Rattle.run_board.proofs.Names.{Stopped, Interruption, halt_of, played, ClusterModel, StandsAt, Reaches, PlaysOn}
+use Rattle.run_board.proofs.Names.{clocks_at, Holds, Turn, was_asked, names_after, event_of, held_after, IsFree}
+use Rattle.run_board.proofs.Names.{IsInPlace, stage_of, Seated, step_in, halted, lacking_after, cleared, Ran}
+use Rattle.run_board.proofs.Names.{reached_by, SitsAt, IsCarriedOut, after_turn, after_passing}
 use Rattle.stamp_base.specs.declared.stores.Store.{Store}
-use Rattle.port_io.specs.declared.weather.Fate.{Fate}
-use Rattle.history_book.specs.declared.item.Item.{Item}
-use Rattle.machine.specs.declared.event.Event.{Event}
-use Rattle.event_parts.specs.declared.stopped.Stopped.{Stopped}
-use Rattle.command_semantics.specs.declared.point.Interruption.{Interruption}
-use Rattle.command_semantics.specs.Interruptions.{halt_of}
-use Rattle.command_semantics.specs.Runs.{played}
-use Rattle.cluster_core.specs.ClusterModel.{ClusterModel}
-use Rattle.planned_cluster.specs.Standing.{StandsAt, Reaches, PlaysOn, clocks_at}
-use Rattle.turn_rules.specs.declared.seat.Holds.{Holds}
-use Rattle.turn_rules.specs.declared.turn.Turn.{Turn}
-use Rattle.turn_rules.specs.Seats.{was_asked}
-use Rattle.session_script.specs.PostedNames.{names_after}
-use Rattle.turn_rules.specs.Carried.{event_of, held_after}
-use Rattle.turn_rules.specs.Lawful.{IsFree, IsInPlace, stage_of}
-use Rattle.run_board.specs.declared.seated.Seated.{Seated}
-use Rattle.run_board.specs.Making.{step_in, halted, lacking_after, cleared}
-use Rattle.run_board.specs.Run.{Ran, reached_by, SitsAt, IsCarriedOut}
-use Rattle.run_board.specs.Seating.{after_turn, after_passing}
 
 -- the cluster with its clock and the fates ahead, the names that were posted, what the stages hold, who is seated, and which nodes
 -- lack stamps

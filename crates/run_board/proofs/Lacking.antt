@@ -1,11 +1,9 @@
 -- Which nodes are noted to lack stamps.
-use Rattle.std.proofs.Common.{◌≡◌, ℕ, zero, suc, ◌⊎◌, Bool, true, false, List, [], ◌∷◌, Option, Some, None, inl, inr, refl, sym, ap}
-use Rattle.std.specs.Prelude.{replicate, slice_index_or, slice_set}
-use Rattle.std.proofs.lemmas.Bool.{true≢false}
-use Rattle.command_semantics.specs.declared.point.Interruption.{Interruption}
+use Rattle.run_board.proofs.Names.{◌≡◌, ℕ, zero, suc, ◌⊎◌, Bool, true, false, List, [], ◌∷◌, Option, Some, None, inl}
+use Rattle.run_board.proofs.Names.{inr, refl, sym, ap, replicate, slice_index_or, slice_set, true≢false, Interruption}
+use Rattle.run_board.proofs.Names.{finds_no_stamp, lacking_after, cleared}
 use Rattle.command_semantics.specs.declared.point.Interruption.TheVariants as halt
 use Rattle.turn_rules.specs.declared.turn.Turn.TheVariants as turn
-use Rattle.run_board.specs.Making.{finds_no_stamp, lacking_after, cleared}
 
 -- a decision that finds no stamp is noted, and no other
 pub noted : (lacking : List Bool) (node session : ℕ) (stop : Option Interruption) → finds_no_stamp stop ≡ true → lacking_after lacking (turn.Decide node session) stop ≡ slice_set lacking node true

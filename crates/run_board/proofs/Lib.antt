@@ -1,3 +1,4 @@
+mod Names
 pub mod Turned
 pub mod Silent
 pub mod Steady

@@ -1,30 +1,12 @@
 -- For this crate's own proofs.
 -- After a turn of one session only that session has lines to pass.
-use Rattle.std.proofs.Common.{◌≡◌, ℕ, Bool, true, false, cond, List, [], ◌∷◌, Option, Some, None, All, drop, refl, sym, ◌∙◌, ap, subst}
-use Rattle.std.specs.Prelude.{map}
-use Rattle.std.proofs.lemmas.Bool.{true≢false}
-use Rattle.std.proofs.lemmas.Option.{same_Some, none-some}
-use Rattle.std.proofs.lemmas.List.Elements.{All-head, All-tail, All-nil, All-cons}
-use Rattle.history_book.specs.declared.item.Actor.{Actor}
-use Rattle.history_book.specs.declared.item.Actor.TheVariants.{Session}
-use Rattle.machine.specs.State.{State}
-use Rattle.script_data.specs.declared.line.Line.{Line}
-use Rattle.script_data.specs.Data.{ScriptData}
-use Rattle.command_semantics.specs.declared.point.Interruption.{Interruption}
-use Rattle.command_semantics.specs.declared.point.View.{View}
-use Rattle.command_semantics.specs.Answers.{same_actor}
-use Rattle.command_semantics.specs.Next.{Clocks}
-use Rattle.command_semantics.specs.Runs.{fate_of}
-use Rattle.command_semantics.specs.Views.{view_of}
-use Rattle.command_semantics.proofs.ScriptWalks.{same_itself}
-use Rattle.planned_cluster.specs.Standing.{clocks_at}
-use Rattle.turn_rules.specs.declared.seat.Seat.{Seat}
-use Rattle.turn_rules.specs.declared.turn.Turn.{Turn}
+use Rattle.run_board.proofs.Names.{◌≡◌, ℕ, Bool, true, false, cond, List, [], ◌∷◌, Option, Some, None, All, drop, refl}
+use Rattle.run_board.proofs.Names.{sym, ◌∙◌, ap, subst, map, true≢false, same_Some, none-some, All-head, All-tail}
+use Rattle.run_board.proofs.Names.{All-nil, All-cons, Actor, Session, State, Line, ScriptData, Interruption, View}
+use Rattle.run_board.proofs.Names.{same_actor, Clocks, fate_of, view_of, same_itself, clocks_at, Seat, Turn, passed}
+use Rattle.run_board.proofs.Names.{was_asked, Seated, line_of, gone_on_at, after_turn, after_passing, after_passes}
+use Rattle.run_board.proofs.Names.{passing_of, touched, Ran, reached_by, IsSeated}
 use Rattle.turn_rules.specs.declared.turn.Turn.TheVariants as turn
-use Rattle.turn_rules.specs.Seats.{passed, was_asked}
-use Rattle.run_board.specs.declared.seated.Seated.{Seated}
-use Rattle.run_board.specs.Seating.{line_of, gone_on_at, after_turn, after_passing, after_passes, passing_of, touched}
-use Rattle.run_board.specs.Run.{Ran, reached_by, IsSeated}
 use Rattle.run_board.proofs.Kept.{Kept, Call, IsMade, CanTurn, HasGone, since, moved_by}
 use Rattle.run_board.proofs.SessionEvents.{touches_one}
 use Rattle.run_board.proofs.OtherViews.{others_see}

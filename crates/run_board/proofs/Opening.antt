@@ -1,25 +1,10 @@
 -- What a script run keeps before its first turn.
-use Rattle.std.proofs.Common.{◌≡◌, ℕ, ◌+◌, ◌≤◌, ◌^◌, Bool, false, List, [], All, length, get_or, refl, sym, ◌∙◌, ap, subst, arith}
-use Rattle.std.specs.Prelude.{map, replicate, slice_index_or}
-use Rattle.std.proofs.lemmas.List.Elements.{All-weaker}
-use Rattle.std.proofs.lemmas.Option.{none-some}
-use Rattle.script_data.specs.declared.line.Line.{Line}
-use Rattle.script_data.specs.Data.{ScriptData, IsSound}
-use Rattle.command_semantics.specs.Clocks.{HaveRoom}
-use Rattle.command_semantics.specs.Laws.{AreLinesOf}
-use Rattle.command_semantics.specs.Next.{Clocks}
-use Rattle.command_semantics.specs.Runs.{opening_played}
-use Rattle.planned_cluster.specs.Fitting.{SessionIsThere}
-use Rattle.planned_cluster.specs.Standing.{StandsAt, clocks_at}
-use Rattle.planned_cluster.proofs.Clocks.{clocks_there}
-use Rattle.planned_cluster.proofs.Fitting.{lines_fit}
-use Rattle.turn_rules.specs.declared.seat.Holds.{Holds}
-use Rattle.turn_rules.specs.declared.turn.Turn.{Turn}
-use Rattle.turn_rules.specs.Carried.{at_first, carried, none_held}
-use Rattle.turn_rules.specs.Told.{AreForThreads}
-use Rattle.run_board.specs.declared.seated.Seated.{Seated}
-use Rattle.run_board.specs.Run.{IsSeated, SitsAt}
-use Rattle.run_board.specs.Seating.{own_lines, after_passing, CanPass, AreSeatedFirst}
+use Rattle.run_board.proofs.Names.{◌≡◌, ℕ, ◌+◌, ◌≤◌, ◌^◌, Bool, false, List, [], All, length, get_or, refl, sym, ◌∙◌}
+use Rattle.run_board.proofs.Names.{ap, subst, arith, map, replicate, slice_index_or, All-weaker, none-some, Line}
+use Rattle.run_board.proofs.Names.{ScriptData, IsSound, HaveRoom, AreLinesOf, Clocks, opening_played, SessionIsThere}
+use Rattle.run_board.proofs.Names.{StandsAt, clocks_at, clocks_there, lines_fit, Holds, Turn, at_first, carried}
+use Rattle.run_board.proofs.Names.{none_held, AreForThreads, Seated, IsSeated, SitsAt, own_lines, after_passing}
+use Rattle.run_board.proofs.Names.{CanPass, AreSeatedFirst}
 use Rattle.run_board.proofs.Lacking.{none_at_first}
 use Rattle.run_board.proofs.Steady.{clock_room, lines_have_room}
 use Rattle.run_board.proofs.Kept.{Kept, IsMade}

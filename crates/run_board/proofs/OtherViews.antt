@@ -1,49 +1,37 @@
 -- For this crate's own proofs.
 -- An event of a session leaves what the lines of other actors look at.
-use Rattle.std.proofs.Common.{◌≡◌, ◌≢◌, ℕ, is_some, zero, suc, ◌+◌, ◌==◌, Bool, true, false, cond, List, [], ◌∷◌, Option, Some, None, Result, Ok, Err, refl, sym, ◌∙◌, ap, subst}
-use Rattle.std.specs.Prelude.{slice_get, slice_set}
-use Rattle.std.proofs.lemmas.Option.{same_Some}
+use Rattle.run_board.proofs.Names.{◌≡◌, ◌≢◌, ℕ, zero, suc, ◌+◌, ◌==◌, Bool, true, false, cond, List, [], ◌∷◌, Option}
+use Rattle.run_board.proofs.Names.{Some, None, Result, Ok, Err, refl, sym, ◌∙◌, ap, subst, slice_get, slice_set}
+use Rattle.run_board.proofs.Names.{same_Some, Fate, Cause, Actor, Clock, Node, Session, Janitor, Item, Verdict, Free}
+use Rattle.run_board.proofs.Names.{Conflict, Hidden, Decided, Held, Progress, InstanceEntry, held_of, with_request}
+use Rattle.run_board.proofs.Names.{stamps_at, InstanceStep, instance_ask, instance_accept, instance_settle}
+use Rattle.run_board.proofs.Names.{instance_answer, out_of_stamps, decide_drawn, decided, Event, Client, State}
+use Rattle.run_board.proofs.Names.{both_verdict, both_if_accepted, both_held, decide_both, decide_by, decide_request}
+use Rattle.run_board.proofs.Names.{decide_on, to_place, put_by, put_commit, put_on, Step, with_reading, stepped}
+use Rattle.run_board.proofs.Names.{held_at, first_holder, holder_from, holder_of, doing_at, place_held, commit_held}
+use Rattle.run_board.proofs.Names.{set_other, view_of}
+use Rattle.std.proofs.Common.{is_some}
 use Rattle.stamp_base.specs.declared.stores.Mark.{Mark}
-use Rattle.port_io.specs.declared.weather.Fate.{Fate}
 use Rattle.port_io.specs.declared.weather.Fate.TheVariants.{Works, FailsUnchanged, FailsApplied}
-use Rattle.history_book.specs.declared.cause.Cause.{Cause}
 use Rattle.history_book.specs.declared.cause.Cause.TheVariants as cause
-use Rattle.history_book.specs.declared.item.Actor.{Actor}
-use Rattle.history_book.specs.declared.item.Actor.TheVariants.{Clock, Node, Session, Janitor}
-use Rattle.history_book.specs.declared.item.Item.{Item}
 use Rattle.system_parts.specs.Pairs.{Pairs}
-use Rattle.system_parts.specs.declared.buckets.Verdict.{Verdict}
-use Rattle.system_parts.specs.declared.buckets.Verdict.TheVariants.{Free, Conflict, Hidden}
-use Rattle.system_parts.specs.declared.instance.Decided.{Decided}
-use Rattle.system_parts.specs.declared.instance.Held.{Held}
-use Rattle.system_parts.specs.declared.instance.Progress.{Progress}
 use Rattle.system_parts.specs.declared.instance.Progress.TheVariants as progress
 use Rattle.system_parts.specs.declared.instance.Reply.{Reply}
 use Rattle.system_parts.specs.declared.instance.Reply.TheVariants as reply
 use Rattle.system_parts.specs.declared.instance.Request.{Request}
 use Rattle.system_parts.specs.declared.instance.Request.TheVariants as request
 use Rattle.system_parts.specs.declared.instance.Settled.{Settled as How}
-use Rattle.system_parts.specs.Instance.{InstanceEntry, held_of, with_request, stamps_at}
-use Rattle.system_parts.specs.InstanceSteps.{InstanceStep, instance_ask, instance_accept, instance_settle, instance_answer, out_of_stamps, decide_drawn, decide_by as decided}
 use Rattle.system_parts.specs.InstanceLaws.{InstanceCall, Asks, Accepts, Settles, Answers, after_call, call_session}
 use Rattle.system_parts.proofs.InstanceRequests.{held_of-with_request_other, held_of-after_call_other}
-use Rattle.machine.specs.declared.event.Event.{Event}
 use Rattle.machine.specs.declared.event.Event.TheVariants as event
-use Rattle.machine.specs.State.{Client, State}
 use Rattle.machine.specs.Events.AskBegin.{asked_by, begin_asked, ask_begin_by}
 use Rattle.machine.specs.Events.AskCommit.{commit_asked, commit_of, ask_commit_by}
 use Rattle.machine.specs.Events.Accept.{accept_by, accept_request, accept_on}
-use Rattle.machine.specs.Events.Decide.{both_verdict, both_if_accepted, both_held, decide_both, decide_by, decide_request, decide_on}
-use Rattle.machine.specs.Events.Put.{to_place, put_by, put_commit, put_on}
 use Rattle.machine.specs.Events.Answer.{answer_by, answer_request, answer_on}
 use Rattle.system_parts.specs.SessionSteps.{begin_refusal, work_refusal}
 use Rattle.machine.specs.Clients.{is_reading}
-use Rattle.machine.specs.Machine.{Step, with_reading, stepped}
-use Rattle.machine.specs.Readers.{held_at, first_holder, holder_from, holder_of, doing_at, place_held, commit_held}
 use Rattle.machine.proofs.LookedUp.{of_post, of_client, of_both}
-use Rattle.machine.proofs.Lookups.{set_other}
 use Rattle.machine.proofs.PartsKept.{leaves_parts}
-use Rattle.command_semantics.specs.Views.{view_of}
 use Rattle.run_board.proofs.SessionEvents.{IsEventOf}
 
 -- what a session's lines look at

@@ -1,27 +1,13 @@
 -- For this crate's own proofs.
 -- A turn of a session moves no other actor's seat.
-use Rattle.std.proofs.Common.{◌≡◌, ◌≢◌, ℕ, Bool, true, false, List, Option, Some, None, refl, sym, ◌∙◌, ap, subst}
-use Rattle.std.specs.Option.{option_map}
-use Rattle.std.proofs.lemmas.Option.{same_Some, none-some}
-use Rattle.std.proofs.lemmas.List.Sums.{fold_push}
-use Rattle.history_book.specs.declared.item.Actor.{Actor}
-use Rattle.history_book.specs.declared.item.Actor.TheVariants.{Session}
-use Rattle.machine.specs.declared.event.Event.{Event}
-use Rattle.script_data.specs.Data.{ScriptData}
-use Rattle.command_semantics.specs.declared.point.View.{View}
-use Rattle.command_semantics.specs.Answers.{same_actor}
-use Rattle.command_semantics.specs.Runs.{fate_of, step_of, clocks_of}
-use Rattle.command_semantics.specs.Views.{view_of}
-use Rattle.command_semantics.proofs.ScriptWalks.{actor_same}
-use Rattle.turn_rules.specs.declared.seat.Seat.{Seat}
-use Rattle.turn_rules.specs.declared.turn.Turn.{Turn}
+use Rattle.run_board.proofs.Names.{◌≡◌, ◌≢◌, ℕ, Bool, true, false, List, Option, Some, None, refl, sym, ◌∙◌, ap, subst}
+use Rattle.run_board.proofs.Names.{option_map, same_Some, none-some, fold_push, Actor, Session, Event, ScriptData, View}
+use Rattle.run_board.proofs.Names.{same_actor, fate_of, step_of, clocks_of, view_of, actor_same, Seat, Turn, lines_left}
+use Rattle.run_board.proofs.Names.{passed, Carried, seat_of, event_of, moved, with_event, seat_passed, all_passed}
+use Rattle.run_board.proofs.Names.{turned_by, turned, at_first, carried, find_true, find_place, seat_after, turned_seat}
+use Rattle.run_board.proofs.Names.{other_stays, OthersStaySeated, touched}
 use Rattle.turn_rules.specs.declared.turn.Turn.TheVariants as turn
-use Rattle.turn_rules.specs.Seats.{lines_left, passed}
-use Rattle.turn_rules.specs.Carried.{Carried, seat_of, event_of, moved, with_event, seat_passed, all_passed, turned_by, turned, at_first, carried}
-use Rattle.turn_rules.proofs.SeatLists.{Place, find_true, find_place}
-use Rattle.turn_rules.proofs.SeatsOn.{seat_after, turned_seat, other_stays}
-use Rattle.run_board.specs.Further.{OthersStaySeated}
-use Rattle.run_board.specs.Seating.{touched}
+use Rattle.turn_rules.proofs.SeatLists.{Place}
 use Rattle.run_board.proofs.SessionEvents.{touches_one}
 use Rattle.run_board.proofs.OtherViews.{others_see}
 use Rattle.run_board.proofs.PassedOnce.{HasPassed, AllHavePassed, all_have_passed}

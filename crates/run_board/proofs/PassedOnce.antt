@@ -1,27 +1,13 @@
 -- For this crate's own proofs.
 -- Where an actor has passed its lines, none is passed again while its lines see the same, whatever the clocks.
-use Rattle.std.proofs.Common.{◌≡◌, Bool, true, false, cond, List, [], ◌∷◌, Option, Some, None, All, fold, refl, sym, ◌∙◌, ap, subst}
-use Rattle.std.proofs.lemmas.List.Elements.{All-map}
-use Rattle.history_book.specs.declared.item.Actor.{Actor}
-use Rattle.history_book.specs.declared.item.Actor.TheVariants.{Clock, Node, Session, Janitor}
-use Rattle.machine.specs.declared.event.Event.{Event}
-use Rattle.script_data.specs.declared.line.Line.{Line}
-use Rattle.script_data.specs.declared.line.Verb.{Verb}
+use Rattle.run_board.proofs.Names.{◌≡◌, Bool, true, false, cond, List, [], ◌∷◌, Option, Some, None, All, refl, sym, ◌∙◌}
+use Rattle.run_board.proofs.Names.{ap, subst, All-map, Actor, Clock, Node, Session, Janitor, Event, Line, Verb}
+use Rattle.run_board.proofs.Names.{ScriptData, Point, Opens, View, Clocks, clocks_of, view_of, Seat, Turn, own_opens}
+use Rattle.run_board.proofs.Names.{own_next, lines_of, lines_left, with_next_line, ahead_of, is_passed, passed, Carried}
+use Rattle.run_board.proofs.Names.{event_of, with_event, seat_passed, all_passed, turned_by, turned, at_first, carried}
+use Rattle.run_board.proofs.Names.{passed_actor, drop_next}
+use Rattle.std.proofs.Common.{fold}
 use Rattle.script_data.specs.declared.line.Verb.TheVariants as verb
-use Rattle.script_data.specs.Data.{ScriptData}
-use Rattle.command_semantics.specs.declared.point.Point.{Point}
-use Rattle.command_semantics.specs.declared.point.Point.TheVariants.{Opens}
-use Rattle.command_semantics.specs.declared.point.View.{View}
-use Rattle.command_semantics.specs.Next.{Clocks}
-use Rattle.command_semantics.specs.Runs.{clocks_of}
-use Rattle.command_semantics.specs.Views.{view_of}
-use Rattle.turn_rules.specs.declared.seat.Seat.{Seat}
-use Rattle.turn_rules.specs.declared.turn.Turn.{Turn}
-use Rattle.turn_rules.specs.Waiting.{own_opens, own_next}
-use Rattle.turn_rules.specs.Seats.{lines_of, lines_left, with_next_line, ahead_of, is_passed, passed}
-use Rattle.turn_rules.specs.Carried.{Carried, event_of, with_event, seat_passed, all_passed, turned_by, turned, at_first, carried}
-use Rattle.turn_rules.proofs.SeatsOn.{passed_actor}
-use Rattle.turn_rules.proofs.SeatLists.{drop_next}
 
 -- ---- whether a line is passed does not hang on the clocks
 opens_alike : (a b : Clocks) (actor : Actor) (line : Verb) (view : View) (unawaited : Bool) → is_passed (own_opens a true actor line view unawaited) ≡ is_passed (own_opens b true actor line view unawaited)

@@ -1,25 +1,12 @@
 -- For this crate's own proofs.
 -- No turn lowers a place.
-use Rattle.std.proofs.Common.{◌≡◌, ℕ, ◌≤◌, Bool, true, false, cond, List, [], ◌∷◌, ◌++◌, Option, Some, None, refl, sym, subst, arith}
-use Rattle.std.specs.Option.{option_map}
-use Rattle.std.proofs.lemmas.List.Sums.{fold_push}
-use Rattle.history_book.specs.declared.item.Actor.{Actor}
-use Rattle.machine.specs.declared.event.Event.{Event}
-use Rattle.machine.specs.Machine.{Step}
-use Rattle.script_data.specs.declared.line.Line.{Line}
-use Rattle.script_data.specs.Data.{ScriptData}
-use Rattle.command_semantics.specs.declared.point.View.{View}
-use Rattle.command_semantics.specs.Answers.{same_actor}
-use Rattle.command_semantics.specs.Next.{Clocks}
-use Rattle.command_semantics.specs.Runs.{clocks_of, step_of}
-use Rattle.command_semantics.specs.Views.{view_of}
-use Rattle.turn_rules.specs.declared.seat.Seat.{Seat}
-use Rattle.turn_rules.specs.declared.turn.Turn.{Turn}
+use Rattle.run_board.proofs.Names.{◌≡◌, ℕ, ◌≤◌, Bool, true, false, cond, List, [], ◌∷◌, ◌++◌, Option, Some, None, refl}
+use Rattle.run_board.proofs.Names.{sym, subst, arith, option_map, fold_push, Actor, Event, Step, Line, ScriptData, View}
+use Rattle.run_board.proofs.Names.{same_actor, Clocks, clocks_of, step_of, view_of, Seat, Turn, lines_left}
+use Rattle.run_board.proofs.Names.{present_line, with_event_at, with_next_line, ahead_of, is_passed, passed, Carried}
+use Rattle.run_board.proofs.Names.{seat_of, event_of, moved, with_event, all_passed, turned_by, turned, at_first}
+use Rattle.run_board.proofs.Names.{carried, seat_after, turned_seat, place_in}
 use Rattle.turn_rules.specs.declared.turn.Turn.TheVariants as turn
-use Rattle.turn_rules.specs.Seats.{lines_left, present_line, with_event_at, with_next_line, ahead_of, is_passed, passed}
-use Rattle.turn_rules.specs.Carried.{Carried, seat_of, event_of, moved, with_event, all_passed, turned_by, turned, at_first, carried}
-use Rattle.turn_rules.proofs.SeatsOn.{seat_after, turned_seat}
-use Rattle.run_board.specs.Steps.{place_in}
 
 least_of_two : (b : Bool) (on here : Seat) (least : ℕ) → least ≤ on.place → least ≤ here.place → least ≤ (cond b on here).place
 least_of_two true on here least further still = further

@@ -1,22 +1,10 @@
 -- What lies under the lock is kept at first, by a step of the run, and by a cursor that comes up to its seat.
-use Rattle.std.proofs.Common.{◌≡◌, ℕ, ◌<◌, ◌≤◌, ◌^◌, List, All, length, sym, subst, arith}
-use Rattle.std.specs.Prelude.{map}
-use Rattle.history_book.specs.declared.item.Actor.{Actor}
-use Rattle.script_data.specs.declared.line.Line.{Line}
-use Rattle.script_data.specs.Data.{ScriptData, IsSound}
-use Rattle.command_semantics.specs.Laws.{AreLinesOf}
-use Rattle.planned_cluster.specs.Fitting.{SessionIsThere}
-use Rattle.planned_cluster.proofs.Fitting.{lines_fit}
-use Rattle.thread_steps.specs.declared.cursor.Cursor.{Cursor}
-use Rattle.thread_steps.specs.Done.{first_cursor, caught_up}
-use Rattle.thread_scripts.specs.Actors.{actors_of, AreBehind, CoverLines}
+use Rattle.run_board.proofs.Names.{◌≡◌, ℕ, ◌<◌, ◌≤◌, ◌^◌, List, All, length, sym, subst, arith, map, Actor, Line}
+use Rattle.run_board.proofs.Names.{ScriptData, IsSound, AreLinesOf, SessionIsThere, lines_fit, Cursor, first_cursor}
+use Rattle.run_board.proofs.Names.{caught_up, actors_of, AreBehind, CoverLines, behind_at_first, behind_further}
+use Rattle.run_board.proofs.Names.{behind_up, covered_up, Ran, place_of, IsFurther, IsKept}
 use Rattle.thread_scripts.proofs.Places.{place_is_within}
 use Rattle.thread_scripts.proofs.Covered.{covered_at_first}
-use Rattle.thread_scripts.proofs.Behind.{behind_at_first, behind_further, behind_up, covered_up}
-use Rattle.run_board.specs.Run.{Ran}
-use Rattle.run_board.specs.Steps.{place_of}
-use Rattle.run_board.specs.Further.{IsFurther}
-use Rattle.run_board.specs.Playing.{IsKept}
 
 -- ---- at first
 are_lines_of : (script : ScriptData) → IsSound script → All (λ (line : Line). SessionIsThere line.actor) script.lines → AreLinesOf script.setup script.lines

@@ -1,23 +1,13 @@
 -- For this crate's own proofs.
 -- A turn is told where its event appends an item or opens a sweep, and else all is as before.
-use Rattle.std.proofs.Common.{◌≡◌, ℕ, ◌≢◌, Bool, true, false, List, [], ◌∷◌, Some, refl, sym, ◌∙◌, ap, subst}
-use Rattle.std.proofs.lemmas.Bool.{true≢false}
-use Rattle.std.proofs.lemmas.Option.{same_Some}
-use Rattle.history_book.specs.declared.item.Actor.{Actor}
-use Rattle.history_book.specs.declared.item.Item.{Item}
-use Rattle.machine.specs.declared.event.Event.{Event}
+use Rattle.run_board.proofs.Names.{◌≡◌, ℕ, ◌≢◌, Bool, true, false, List, [], ◌∷◌, Some, refl, sym, ◌∙◌, ap, subst}
+use Rattle.run_board.proofs.Names.{true≢false, same_Some, Actor, Item, Event, ScriptData, ReachedInvariant, step_of}
+use Rattle.run_board.proofs.Names.{played, playable_at_first, Turn, Carried, event_of, IsInPlace, IsTold}
+use Rattle.run_board.proofs.Names.{OwnTurnsAreTold, StageTurnsAreTold, QuietTurnsChangeNothing, has_some, is_told, Ran}
+use Rattle.run_board.proofs.Names.{reached_by, IsCarriedOut}
 use Rattle.machine.specs.declared.event.Event.TheVariants as event
-use Rattle.script_data.specs.Data.{ScriptData}
-use Rattle.isolation_laws.specs.Sound.{ReachedInvariant}
-use Rattle.command_semantics.specs.Runs.{Played, step_of, played}
-use Rattle.planned_cluster.proofs.Playable.{playable_at_first}
-use Rattle.turn_rules.specs.declared.turn.Turn.{Turn}
+use Rattle.command_semantics.specs.Runs.{Played}
 use Rattle.turn_rules.specs.declared.turn.Turn.TheVariants as turn
-use Rattle.turn_rules.specs.Carried.{Carried, event_of}
-use Rattle.turn_rules.specs.Lawful.{IsInPlace, IsTold}
-use Rattle.turn_rules.specs.Told.{OwnTurnsAreTold, StageTurnsAreTold, QuietTurnsChangeNothing}
-use Rattle.run_board.specs.Making.{has_some, is_told}
-use Rattle.run_board.specs.Run.{Ran, reached_by, IsCarriedOut}
 use Rattle.run_board.proofs.Silent.{not_empty}
 use Rattle.run_board.proofs.Steady.{facts}
 

@@ -1,27 +1,13 @@
 -- For this crate's own proofs.
 -- No actor has two seats, whichever turns are made.
-use Rattle.std.proofs.Common.{◌≡◌, ℕ, zero, suc, ◌+◌, Bool, List, [], ◌∷◌, ◌++◌, Option, Some, None, inl, inr, fold, length, refl, sym, ◌∙◌, ap, subst, arith}
-use Rattle.std.specs.Prelude.{map, slice_get}
-use Rattle.std.specs.Option.{option_map}
-use Rattle.std.proofs.lemmas.List.{length-append}
-use Rattle.std.proofs.lemmas.Option.{same_Some, none-some, slice_get-map}
-use Rattle.history_book.specs.declared.item.Actor.{Actor}
-use Rattle.history_book.specs.declared.item.Actor.TheVariants.{Clock, Node, Session, Janitor}
-use Rattle.history_book.proofs.MemberLemmas.{slice_get-push}
-use Rattle.machine.specs.declared.event.Event.{Event}
-use Rattle.script_data.specs.declared.line.Line.{Line}
-use Rattle.script_data.specs.Data.{ScriptData}
-use Rattle.command_semantics.specs.declared.point.Interruption.{Interruption}
-use Rattle.command_semantics.specs.Runs.{step_of}
-use Rattle.turn_rules.specs.declared.seat.Holds.{Holds}
-use Rattle.turn_rules.specs.declared.seat.Seat.{Seat}
-use Rattle.turn_rules.specs.declared.turn.Turn.{Turn}
-use Rattle.turn_rules.specs.Seats.{first_seat, seats_of}
-use Rattle.turn_rules.specs.Carried.{Carried, event_of, moved, with_event, seat_passed, all_passed, turned_by, turned, at_first, carried}
-use Rattle.turn_rules.proofs.SeatsOn.{passed_actor, moved_actor}
-use Rattle.run_board.specs.declared.seated.Seated.{Seated}
-use Rattle.run_board.specs.Run.{SitsAt}
-use Rattle.run_board.specs.Seating.{after_turn, SitOnce, AreSeatedFirst}
+use Rattle.run_board.proofs.Names.{◌≡◌, ℕ, zero, suc, ◌+◌, Bool, List, [], ◌∷◌, ◌++◌, Option, Some, None, inl, inr}
+use Rattle.run_board.proofs.Names.{length, refl, sym, ◌∙◌, ap, subst, arith, map, slice_get, option_map, length-append}
+use Rattle.run_board.proofs.Names.{same_Some, none-some, slice_get-map, Actor, Clock, Node, Session, Janitor}
+use Rattle.run_board.proofs.Names.{slice_get-push, Event, Line, ScriptData, Interruption, step_of, Holds, Seat, Turn}
+use Rattle.run_board.proofs.Names.{first_seat, seats_of, Carried, event_of, moved, with_event, seat_passed, all_passed}
+use Rattle.run_board.proofs.Names.{turned_by, turned, at_first, carried, passed_actor, moved_actor, Seated, SitsAt}
+use Rattle.run_board.proofs.Names.{after_turn, SitOnce, AreSeatedFirst}
+use Rattle.std.proofs.Common.{fold}
 use Rattle.run_board.proofs.OneActor.{same_seat}
 
 -- ---- no two of a list are of one actor

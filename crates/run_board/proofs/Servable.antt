@@ -1,28 +1,16 @@
 -- The turn by which a stage serves a request is one of that stage, and the request stands where it is made.
-use Rattle.std.proofs.Common.{◌≡◌, ℕ, ◌==◌, Bool, true, false, cond, List, Option, Some, None, inl, inr, refl, sym, ◌∙◌, ap, subst}
-use Rattle.std.specs.Prelude.{MatchOption, slice_get, slice_index_or}
-use Rattle.std.specs.List.{list_any}
-use Rattle.std.proofs.lemmas.Bool.{true≢false, eqb-true}
-use Rattle.std.proofs.lemmas.Option.{same_Some, none-some}
-use Rattle.stamp_base.specs.declared.stage.Stage.{Stage}
-use Rattle.stamp_base.specs.declared.stage.Stage.TheVariants.{Request, Persist, Reply}
-use Rattle.history_book.specs.declared.item.Item.{Item}
-use Rattle.system_parts.specs.declared.instance.Place.{Place}
+use Rattle.run_board.proofs.Names.{◌≡◌, ℕ, ◌==◌, Bool, true, false, cond, List, Option, Some, None, inl, inr, refl, sym}
+use Rattle.run_board.proofs.Names.{◌∙◌, ap, subst, MatchOption, slice_get, slice_index_or, list_any, true≢false}
+use Rattle.run_board.proofs.Names.{eqb-true, same_Some, none-some, Stage, Request, Persist, Reply, Item, Place}
+use Rattle.run_board.proofs.Names.{InstanceEntry, State, ReachedInvariant, Serving, Turn, stage_of, IsInPlace}
+use Rattle.run_board.proofs.Names.{LacksStamps, session_view, serving_turn, serving_turn_of, stage_turn, Ran}
+use Rattle.run_board.proofs.Names.{reached_by, IsToldUsedUp, IsCarriedOut, StageStep, serves, state_of, ExtendsFirst}
+use Rattle.run_board.proofs.Names.{IsServable, NeedsStamps, MayTakeMemory, LacksOnlyThere, LacksUnserved}
 use Rattle.system_parts.specs.declared.instance.Place.TheVariants as place
 use Rattle.system_parts.specs.declared.instance.Progress.TheVariants as progress
-use Rattle.system_parts.specs.Instance.{InstanceEntry}
-use Rattle.machine.specs.State.{State}
-use Rattle.isolation_laws.specs.Sound.{ReachedInvariant}
-use Rattle.command_semantics.proofs.Serving.{Serving}
-use Rattle.turn_rules.specs.declared.turn.Turn.{Turn}
 use Rattle.turn_rules.specs.declared.turn.Turn.TheVariants as turn
 use Rattle.turn_rules.specs.Lawful as lawful
-use Rattle.turn_rules.specs.Lawful.{stage_of, IsInPlace, LacksStamps, session_view, serving_turn, serving_turn_of, stage_turn}
-use Rattle.run_board.specs.Run.{Ran, reached_by, IsToldUsedUp, IsCarriedOut}
-use Rattle.thread_steps.specs.declared.stages.StageStep.{StageStep}
 use Rattle.thread_steps.specs.declared.stages.StageStep.TheVariants as step
-use Rattle.run_board.specs.Making.{serves}
-use Rattle.run_board.specs.Steps.{state_of, ExtendsFirst, IsServable, NeedsStamps, MayTakeMemory, LacksOnlyThere, LacksUnserved}
 use Rattle.run_board.proofs.Steady.{facts}
 use Rattle.run_board.proofs.Silent.{serving, is_accepted, any_held}
 

@@ -1,31 +1,17 @@
 -- For this crate's own proofs.
 -- The events of a session's turns are of that session.
-use Rattle.std.proofs.Common.{◌≡◌, ℕ, Bool, true, false, cond, Option, Some, None, refl, subst}
-use Rattle.std.proofs.lemmas.Option.{same_Some, none-some}
-use Rattle.history_book.specs.declared.item.Actor.{Actor}
-use Rattle.history_book.specs.declared.item.Actor.TheVariants.{Session}
-use Rattle.system_parts.specs.declared.instance.Place.{Place}
+use Rattle.run_board.proofs.Names.{◌≡◌, ℕ, Bool, true, false, cond, Option, Some, None, refl, subst, same_Some}
+use Rattle.run_board.proofs.Names.{none-some, Actor, Session, Place, Event, Verb, ScriptData, Point, Opens, Drives}
+use Rattle.run_board.proofs.Names.{Extends, Finishes, Reads, Steps, Over, View, Clocks, is_served, finish_next, places}
+use Rattle.run_board.proofs.Names.{placing_next, idle_next, read_next, steps_next, view_of, NextAction, Waits, Passes}
+use Rattle.run_board.proofs.Names.{Turn, made_next, drive_ahead, collect_ahead, own_opens, own_next, Carried}
+use Rattle.run_board.proofs.Names.{aimed_clocks, name_posted, made_by, event_of, OwnTurn, own_turn, touched}
 use Rattle.machine.specs.declared.event.Doing.{Doing}
 use Rattle.machine.specs.declared.event.Doing.TheVariants as doing
-use Rattle.machine.specs.declared.event.Event.{Event}
 use Rattle.machine.specs.declared.event.Event.TheVariants as event
-use Rattle.script_data.specs.declared.line.Verb.{Verb}
 use Rattle.script_data.specs.declared.line.Verb.TheVariants as verb
-use Rattle.script_data.specs.Data.{ScriptData}
-use Rattle.command_semantics.specs.declared.point.Point.{Point}
-use Rattle.command_semantics.specs.declared.point.Point.TheVariants.{Opens, Drives, Extends, Finishes, Reads, Steps, Over}
-use Rattle.command_semantics.specs.declared.point.View.{View}
-use Rattle.command_semantics.specs.Next.{Clocks, is_served, finish_next, places, placing_next, idle_next, read_next, steps_next}
-use Rattle.command_semantics.specs.Views.{view_of}
-use Rattle.turn_rules.specs.declared.ahead.NextAction.{NextAction}
-use Rattle.turn_rules.specs.declared.ahead.NextAction.TheVariants.{Waits, Passes}
 use Rattle.turn_rules.specs.declared.ahead.Why.TheVariants.{Reply}
-use Rattle.turn_rules.specs.declared.turn.Turn.{Turn}
 use Rattle.turn_rules.specs.declared.turn.Turn.TheVariants as turn
-use Rattle.turn_rules.specs.Waiting.{made_next, drive_ahead, collect_ahead, own_opens, own_next}
-use Rattle.turn_rules.specs.Carried.{Carried, aimed_clocks, name_posted, made_by, event_of}
-use Rattle.turn_rules.proofs.OwnTurns.{OwnTurn, own_turn}
-use Rattle.run_board.specs.Seating.{touched}
 
 -- the event is of the session: made by itself, or by a stage that serves its request
 abbrev pub IsEventOf : ℕ → Event → Type 0

@@ -1,40 +1,22 @@
 -- For this crate's own proofs.
 -- A decision that found no stamp shows that none is left.
-use Rattle.std.proofs.Common.{◌≡◌, ℕ, zero, suc, ◌+◌, ◌==◌, ◌||◌, Bool, true, false, cond, List, [], ◌∷◌, Option, Some, None, Result, Ok, Err, refl, sym, ◌∙◌, ap, subst}
-use Rattle.std.specs.Prelude.{◌&&◌, slice_get, slice_index_or, slice_set}
-use Rattle.std.specs.List.{list_any}
-use Rattle.std.proofs.lemmas.Bool.{true≢false, eqb-true}
-use Rattle.std.proofs.lemmas.Option.{none-some}
-use Rattle.port_io.specs.declared.weather.Fate.{Fate}
-use Rattle.history_book.specs.declared.cause.Cause.{Cause}
+use Rattle.run_board.proofs.Names.{◌≡◌, ℕ, zero, suc, ◌+◌, ◌==◌, ◌||◌, Bool, true, false, cond, List, [], ◌∷◌, Option}
+use Rattle.run_board.proofs.Names.{Some, None, Result, Ok, Err, refl, sym, ◌∙◌, ap, subst, ◌&&◌, slice_get}
+use Rattle.run_board.proofs.Names.{slice_index_or, slice_set, list_any, true≢false, eqb-true, none-some, Fate, Cause}
+use Rattle.run_board.proofs.Names.{Item, Verdict, Free, Conflict, Hidden, Decided, Held, Progress, InstanceEntry}
+use Rattle.run_board.proofs.Names.{held_of, place_of_progress, InstanceStep, no_stamp_told, out_of_stamps, decide_drawn}
+use Rattle.run_board.proofs.Names.{verdict_by, Client, State, Step, stepped, both_verdict, both_if_accepted, both_held}
+use Rattle.run_board.proofs.Names.{decide_by, decide_request, decide_on, set_found, Interruption, halt_of, Place}
+use Rattle.run_board.proofs.Names.{ReachedInvariant, Serving, node_step, on_both, is_accepted_by, session_view}
+use Rattle.run_board.proofs.Names.{has_some, waits_told, IsToldUsedUp}
 use Rattle.history_book.specs.declared.cause.Cause.TheVariants as cause
-use Rattle.history_book.specs.declared.item.Item.{Item}
-use Rattle.system_parts.specs.declared.buckets.Verdict.{Verdict}
-use Rattle.system_parts.specs.declared.buckets.Verdict.TheVariants.{Free, Conflict, Hidden}
-use Rattle.system_parts.specs.declared.instance.Decided.{Decided}
-use Rattle.system_parts.specs.declared.instance.Held.{Held}
 use Rattle.system_parts.specs.declared.instance.Place.TheVariants as place
-use Rattle.system_parts.specs.declared.instance.Progress.{Progress}
 use Rattle.system_parts.specs.declared.instance.Progress.TheVariants as progress
-use Rattle.system_parts.specs.Instance.{InstanceEntry, held_of, place_of_progress}
-use Rattle.system_parts.specs.InstanceSteps.{InstanceStep, no_stamp_told, out_of_stamps, decide_drawn, decide_by as verdict_by}
 use Rattle.machine.specs.declared.event.Event.TheVariants as event
-use Rattle.machine.specs.State.{Client, State}
-use Rattle.machine.specs.Machine.{Step, stepped}
-use Rattle.machine.specs.Events.Decide.{both_verdict, both_if_accepted, both_held, decide_by, decide_request, decide_on}
 use Rattle.isolation_laws.specs.Words.{InstanceAt, ClientAt}
 use Rattle.machine.specs.Fits.{StopOf}
-use Rattle.machine.proofs.Lookups.{set_found}
-use Rattle.command_semantics.specs.declared.point.Interruption.{Interruption}
 use Rattle.command_semantics.specs.declared.point.Interruption.TheVariants as halt
-use Rattle.command_semantics.specs.Interruptions.{halt_of}
-use Rattle.system_parts.specs.declared.instance.Place.{Place}
-use Rattle.isolation_laws.specs.Sound.{ReachedInvariant}
 use Rattle.command_semantics.proofs.Driving.{serving_at}
-use Rattle.command_semantics.proofs.Serving.{Serving, node_step, on_both}
-use Rattle.turn_rules.specs.Lawful.{is_accepted_by, session_view}
-use Rattle.run_board.specs.Making.{has_some}
-use Rattle.run_board.specs.Run.{waits_told, IsToldUsedUp}
 
 pub not_empty : (x : Item) (xs : List Item) → x ∷ xs ≡ [] → ⊥
 not_empty x xs e = true≢false (ap has_some e)

@@ -1,16 +1,9 @@
 -- The items that a turn has appended are those of the history from the old length on.
-use Rattle.std.proofs.Common.{◌≡◌, ℕ, ◌+◌, ◌≤◌, List, [], ◌++◌, Some, Result, Ok, Err, inl, inr, drop, length, sym, ◌∙◌, ap, arith}
-use Rattle.std.proofs.lemmas.List.{length-append}
+use Rattle.run_board.proofs.Names.{◌≡◌, ℕ, ◌+◌, ◌≤◌, List, [], ◌++◌, Some, Result, Ok, Err, inl, inr, drop, length, sym}
+use Rattle.run_board.proofs.Names.{◌∙◌, ap, arith, length-append, Item, Event, Stopped, Refused, StoreFault, NoMemory}
+use Rattle.run_board.proofs.Names.{Turn, event_of, carried_items, step_in, TurnsBy, Makes, Ran, reached_by, with_turn}
 use Rattle.std.proofs.Math.Seq.{drop-append_seam, drop-length}
-use Rattle.history_book.specs.declared.item.Item.{Item}
-use Rattle.machine.specs.declared.event.Event.{Event}
-use Rattle.event_parts.specs.declared.stopped.Stopped.{Stopped}
-use Rattle.event_parts.specs.declared.stopped.Stopped.TheVariants.{Refused, StoreFault, NoMemory}
 use Rattle.command_semantics.specs.Runs.{Played}
-use Rattle.turn_rules.specs.declared.turn.Turn.{Turn}
-use Rattle.turn_rules.specs.Carried.{event_of, carried_items}
-use Rattle.run_board.specs.Making.{step_in, TurnsBy, Makes}
-use Rattle.run_board.specs.Run.{Ran, reached_by, with_turn}
 use Rattle.run_board.proofs.TurnMade.{played_on}
 
 abbrev pub items_of : Ran → List Item

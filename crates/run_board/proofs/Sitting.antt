@@ -1,15 +1,8 @@
 -- For this crate's own proofs.
 -- Actors that sit down one after the other.
-use Rattle.std.proofs.Common.{◌≡◌, ℕ, suc, ◌+◌, List, [], ◌∷◌, ◌++◌, append_assoc, append-nil, All, refl, sym, ◌∙◌, ap, subst, arith}
-use Rattle.std.specs.Prelude.{map}
-use Rattle.std.proofs.lemmas.List.Elements.{All-nil, All-push}
-use Rattle.history_book.specs.declared.item.Actor.{Actor}
-use Rattle.history_book.specs.declared.item.Actor.TheVariants.{Clock, Node, Session, Janitor}
-use Rattle.script_data.specs.declared.line.Line.{Line}
-use Rattle.turn_rules.specs.declared.seat.Seat.{Seat}
-use Rattle.turn_rules.specs.Seats.{first_seat, seats_of}
-use Rattle.run_board.specs.declared.seated.Seated.{Seated}
-use Rattle.run_board.specs.Seating.{own_lines, AreSeated}
+use Rattle.run_board.proofs.Names.{◌≡◌, ℕ, suc, ◌+◌, List, [], ◌∷◌, ◌++◌, append_assoc, append-nil, All, refl, sym, ◌∙◌}
+use Rattle.run_board.proofs.Names.{ap, subst, arith, map, All-nil, All-push, Actor, Clock, Node, Session, Janitor, Line}
+use Rattle.run_board.proofs.Names.{Seat, first_seat, seats_of, Seated, own_lines, AreSeated}
 
 map_push : (all : List Seated) (s : Seated) → map (λ (x : Seated). x.seat) (all ++ s ∷ []) ≡ map (λ (x : Seated). x.seat) all ++ s.seat ∷ []
 map_push [] s = refl

@@ -1,11 +1,6 @@
 -- Whatever turns were made so far, the lines that were passed are answered, and the plan is kept.
-use Rattle.std.proofs.Common.{List}
-use Rattle.thread_steps.specs.declared.cursor.Cursor.{Cursor}
-use Rattle.planned_cluster.proofs.Playable.{playable_at_first}
-use Rattle.turn_rules.specs.Laws.{TurnsAnswerSoFar, TurnsArePlannedSoFar, IsPlannedSoFar}
-use Rattle.run_board.specs.Run.{Ran, reached_by}
-use Rattle.run_board.specs.Playing.{IsKept}
-use Rattle.run_board.specs.SoFar.{AreAnsweredSoFar}
+use Rattle.run_board.proofs.Names.{List, Cursor, playable_at_first, TurnsAnswerSoFar, TurnsArePlannedSoFar}
+use Rattle.run_board.proofs.Names.{IsPlannedSoFar, Ran, reached_by, IsKept, AreAnsweredSoFar}
 
 pub answered_so_far : (r : Ran) (cursors : List Cursor) → TurnsAnswerSoFar → IsKept r cursors → AreAnsweredSoFar r
 answered_so_far r cursors law k = λ actor seat at. (law r.script r.turns actor seat k.sound.setup (playable_at_first r.script k.sound k.few) k.sessions at).1

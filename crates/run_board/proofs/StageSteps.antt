@@ -1,13 +1,8 @@
 -- Steps of a stage that follow each other.
-use Rattle.std.proofs.Common.{◌≡◌, ℕ, ◌+◌, ◌<◌, false, List, [], ◌∷◌, ◌++◌, inl, inr, refl, sym, subst, arith}
-use Rattle.std.proofs.lemmas.Bool.Decides.{eqb_tells}
-use Rattle.stamp_base.specs.declared.stage.Stage.{Stage}
-use Rattle.stamp_base.specs.declared.stage.Stage.TheVariants.{Request, Persist, Reply}
-use Rattle.thread_steps.specs.declared.stages.StageStep.{StageStep}
-use Rattle.run_board.specs.Run.{Ran}
-use Rattle.run_board.specs.Steps.{IsStageHeld, state_of, has_turn}
-use Rattle.run_board.specs.Playing.{Played, Serves}
-use Rattle.run_board.specs.Through.{Follow, MakesSteps, GoesThrough}
+use Rattle.run_board.proofs.Names.{◌≡◌, ℕ, ◌+◌, ◌<◌, false, List, [], ◌∷◌, ◌++◌, inl, inr, refl, sym, subst, arith}
+use Rattle.run_board.proofs.Names.{eqb_tells, Stage, Request, Persist, Reply, StageStep, Ran, IsStageHeld, state_of}
+use Rattle.run_board.proofs.Names.{has_turn, Played, Follow, MakesSteps, GoesThrough}
+use Rattle.run_board.specs.Playing.{Serves}
 
 -- ---- steps
 no_steps : (node term : ℕ) (stage : Stage) (session : ℕ) (p : Played) → Follow node term stage session [] p p

@@ -1,31 +1,18 @@
 -- For this crate's own proofs.
 -- The clocks of a script run have room, and the reading of its next event is steady.
-use Rattle.std.proofs.Common.{◌≡◌, ℕ, ◌+◌, ◌≤◌, ◌^◌, List, Some, All, length, sym, subst, arith}
-use Rattle.std.specs.Prelude.{slice_index_or}
-use Rattle.std.proofs.lemmas.List.Elements.{All-weaker, All-filter}
-use Rattle.stamp_base.specs.SetupNumbers.{SetupNumbers}
-use Rattle.history_book.specs.declared.item.Actor.{Actor}
-use Rattle.machine.specs.declared.event.Event.{Event}
+use Rattle.run_board.proofs.Names.{◌≡◌, ℕ, ◌+◌, ◌≤◌, ◌^◌, List, Some, All, length, sym, subst, arith, slice_index_or}
+use Rattle.run_board.proofs.Names.{All-weaker, All-filter, SetupNumbers, Actor, Event, IsSteadyAt, reading_of, Line}
+use Rattle.run_board.proofs.Names.{ScriptData, IsSound, same_actor, HaveRoom, IsPlayable, Clocks, clocks_of}
+use Rattle.run_board.proofs.Names.{playable_at_first, Turn, lines_of, Carried, event_of, all_passed, at_first, carried}
+use Rattle.run_board.proofs.Names.{OwnTurn, own_turn, turn_timed}
 use Rattle.machine.specs.declared.event.Event.TheVariants as event
-use Rattle.machine.specs.Machine.{IsSteadyAt, reading_of}
-use Rattle.script_data.specs.declared.line.Line.{Line}
-use Rattle.script_data.specs.Data.{ScriptData, IsSound}
 use Rattle.script_data.specs.Sound.{LineIsSound}
-use Rattle.command_semantics.specs.Answers.{same_actor}
-use Rattle.command_semantics.specs.Clocks.{HaveRoom}
-use Rattle.command_semantics.specs.Laws.{IsPlayable}
-use Rattle.command_semantics.specs.Next.{Clocks}
-use Rattle.command_semantics.specs.Runs.{clocks_of}
 use Rattle.command_semantics.proofs.Timing.{Timed, tick_ahead}
-use Rattle.planned_cluster.proofs.Playable.{playable_at_first}
 use Rattle.planned_cluster.proofs.Rooms.{have_room}
-use Rattle.turn_rules.specs.declared.turn.Turn.{Turn}
 use Rattle.turn_rules.specs.declared.turn.Turn.TheVariants as turn
-use Rattle.turn_rules.specs.Seats.{lines_of}
-use Rattle.turn_rules.specs.Carried.{Carried, event_of, all_passed, at_first, carried}
 use Rattle.turn_rules.proofs.Facts.{Facts, facts_all, facts_at_first}
 use Rattle.turn_rules.proofs.OwnTimes.{own_tick}
-use Rattle.turn_rules.proofs.OwnTurns.{OwnTurn, own_turn, turn_timed, stage_turn}
+use Rattle.turn_rules.proofs.OwnTurns.{stage_turn}
 
 pub facts : (script : ScriptData) (turns : List Turn) → IsSound script → length script.lines ≤ 131072 → Facts script (carried script turns)
 facts script turns sound few = facts_all script (playable_at_first script sound few) turns (all_passed script (at_first script)) (facts_at_first script sound.setup)

@@ -1,18 +1,9 @@
 -- For this crate's own proofs.
 -- How a call answered, and what stands after it.
-use Rattle.std.proofs.Common.{◌≡◌, Option, Some, None, Result, Ok, Err, sym, ◌∙◌, ap}
-use Rattle.std.proofs.lemmas.Option.{same_Some, none-some}
-use Rattle.machine.specs.declared.event.Event.{Event}
-use Rattle.machine.specs.Effect.{Stop}
-use Rattle.event_parts.specs.declared.stopped.Stopped.{Stopped}
-use Rattle.event_parts.specs.declared.stopped.Stopped.TheVariants.{Refused, StoreFault, NoMemory}
-use Rattle.command_semantics.specs.declared.point.Interruption.{Interruption}
+use Rattle.run_board.proofs.Names.{◌≡◌, Option, Some, None, Result, Ok, Err, sym, ◌∙◌, ap, same_Some, none-some, Event}
+use Rattle.run_board.proofs.Names.{Stop, Stopped, Refused, StoreFault, NoMemory, Interruption, halt_of, refused_by}
+use Rattle.run_board.proofs.Names.{Reaches, Turn, step_in, TurnsBy, Makes, halted, Ran}
 use Rattle.command_semantics.specs.declared.point.Interruption.TheVariants as halt
-use Rattle.command_semantics.specs.Interruptions.{halt_of, refused_by}
-use Rattle.planned_cluster.specs.Standing.{Reaches}
-use Rattle.turn_rules.specs.declared.turn.Turn.{Turn}
-use Rattle.run_board.specs.Making.{step_in, TurnsBy, Makes, halted}
-use Rattle.run_board.specs.Run.{Ran}
 
 -- the event was made
 pub record Went (stop : Option Stop) (found : Option Interruption) (after : Type 0) : Type 0 where

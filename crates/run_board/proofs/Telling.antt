@@ -1,24 +1,12 @@
 -- How the turns of stages and of actors are told.
-use Rattle.std.proofs.Common.{◌≡◌, ℕ, Bool, true, false, List, Option, Some, None, Result, Ok, Err, inl, inr, refl, sym, ◌∙◌, ap, subst, drop, length}
-use Rattle.std.specs.Prelude.{IsSomeAnd}
-use Rattle.std.proofs.lemmas.Bool.{true≢false}
-use Rattle.stamp_base.specs.declared.stage.Stage.{Stage}
-use Rattle.history_book.specs.declared.item.Actor.{Actor}
-use Rattle.history_book.specs.declared.item.Item.{Item}
-use Rattle.machine.specs.declared.event.Event.{Event}
-use Rattle.machine.specs.Effect.{Stop, Refuses, Faults}
-use Rattle.machine.specs.Readers.{term_of}
-use Rattle.event_parts.specs.declared.stopped.Stopped.{Stopped}
-use Rattle.event_parts.specs.declared.stopped.Stopped.TheVariants.{Refused, StoreFault, NoMemory}
-use Rattle.turn_rules.specs.declared.turn.Turn.{Turn}
+use Rattle.run_board.proofs.Names.{◌≡◌, ℕ, Bool, true, false, List, Option, Some, None, Result, Ok, Err, inl, inr, refl}
+use Rattle.run_board.proofs.Names.{sym, ◌∙◌, ap, subst, drop, length, IsSomeAnd, true≢false, Stage, Actor, Item, Event}
+use Rattle.run_board.proofs.Names.{Stop, Refuses, Faults, term_of, Stopped, Refused, StoreFault, NoMemory, Turn}
+use Rattle.run_board.proofs.Names.{event_of, IsTold, step_in, TurnsBy, MakesTurn, Makes, StageStep, Ran, reached_by}
+use Rattle.run_board.proofs.Names.{state_of, asked_of, node_asked, drawn_in, did, done_by, told_by, TellsTurn, ServesBy}
+use Rattle.run_board.proofs.Names.{LacksUnserved, IsServable, ServesOnce, Serves, IsStageHeld, MakesOwn}
 use Rattle.turn_rules.specs.declared.turn.Turn.TheVariants as turn
-use Rattle.turn_rules.specs.Carried.{event_of}
-use Rattle.turn_rules.specs.Lawful.{IsTold}
-use Rattle.run_board.specs.Making.{step_in, TurnsBy, MakesTurn, Makes}
-use Rattle.thread_steps.specs.declared.stages.StageStep.{StageStep}
 use Rattle.thread_steps.specs.declared.stages.StageStep.TheVariants as step
-use Rattle.run_board.specs.Run.{Ran, reached_by}
-use Rattle.run_board.specs.Steps.{state_of, asked_of, node_asked, drawn_in, did, done_by, told_by, TellsTurn, ServesBy, LacksUnserved, IsServable, ServesOnce, Serves, IsStageHeld, MakesOwn}
 use Rattle.run_board.proofs.Since.{items_of, has_grown}
 
 -- ---- a turn is told neither as held nor as stale

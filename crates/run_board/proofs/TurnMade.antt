@@ -1,27 +1,16 @@
 -- For this crate's own proofs.
 -- What a script run keeps once the event of a turn was made.
-use Rattle.std.proofs.Common.{◌≡◌, ℕ, Bool, true, false, List, [], ◌∷◌, ◌++◌, Option, Some, None, inl, inr, refl, sym, ◌∙◌, ap, subst}
-use Rattle.std.specs.Prelude.{slice_get, slice_set, IsSomeAnd}
-use Rattle.std.proofs.lemmas.Option.{same_Some}
-use Rattle.history_book.specs.declared.item.Item.{Item}
-use Rattle.history_book.proofs.MemberLemmas.{AtEach-push}
+use Rattle.run_board.proofs.Names.{◌≡◌, ℕ, Bool, true, false, List, [], ◌∷◌, ◌++◌, Option, Some, None, inl, inr, refl}
+use Rattle.run_board.proofs.Names.{sym, ◌∙◌, ap, subst, slice_get, slice_set, IsSomeAnd, same_Some, Item, AtEach-push}
+use Rattle.run_board.proofs.Names.{Event, State, ScriptData, Interruption, halt_of, fate_of, step_of, played, Serving}
+use Rattle.run_board.proofs.Names.{StandsAt, Turn, Carried, event_of, carried, IsFree, IsInPlace, IsTold, IsLawful}
+use Rattle.run_board.proofs.Names.{stage_of, step_in, is_told, lacking_after, cleared, Ran, reached_by, with_turn}
+use Rattle.run_board.proofs.Names.{IsToldUsedUp, AreToldUsedUp, IsCarriedOut}
 use Rattle.system_parts.specs.declared.instance.Place.TheVariants as place
-use Rattle.machine.specs.declared.event.Event.{Event}
 use Rattle.machine.specs.declared.event.Event.TheVariants as event
-use Rattle.machine.specs.State.{State}
-use Rattle.script_data.specs.Data.{ScriptData}
-use Rattle.command_semantics.specs.declared.point.Interruption.{Interruption}
 use Rattle.command_semantics.specs.declared.point.Interruption.TheVariants as halt
-use Rattle.command_semantics.specs.Interruptions.{halt_of}
-use Rattle.command_semantics.specs.Runs.{Played, fate_of, step_of, played}
-use Rattle.command_semantics.proofs.Serving.{Serving}
-use Rattle.planned_cluster.specs.Standing.{StandsAt}
-use Rattle.turn_rules.specs.declared.turn.Turn.{Turn}
+use Rattle.command_semantics.specs.Runs.{Played}
 use Rattle.turn_rules.specs.declared.turn.Turn.TheVariants as turn
-use Rattle.turn_rules.specs.Carried.{Carried, event_of, carried}
-use Rattle.turn_rules.specs.Lawful.{IsFree, IsInPlace, IsTold, IsLawful, stage_of}
-use Rattle.run_board.specs.Making.{step_in, is_told, lacking_after, cleared}
-use Rattle.run_board.specs.Run.{Ran, reached_by, with_turn, IsToldUsedUp, AreToldUsedUp, IsCarriedOut}
 use Rattle.run_board.proofs.Kept.{Kept, Call, IsMade, CanTurn, HasGone, since, kept_after, kept_still}
 use Rattle.run_board.proofs.Lacking.{noted_at, none_cleared}
 use Rattle.run_board.proofs.Quiet.{ToldLaws, told, stays}

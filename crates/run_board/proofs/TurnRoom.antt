@@ -1,36 +1,19 @@
 -- A turn that serves a request has its room among what is kept for requests in flight, and every other turn leaves that room.
-use Rattle.std.proofs.Common.{◌≡◌, ◌≤◌, ◌<◌, ◌+◌, ℕ, Bool, true, false, List, [], ◌∷◌, length, length-drop, Option, Some, Result, refl, sym, ◌∙◌, ap, subst, arith}
-use Rattle.std.specs.Prelude.{is_ok, is_some, IsOk}
-use Rattle.std.proofs.lemmas.Bool.{true≢false}
-use Rattle.std.proofs.lemmas.Option.{same_Some}
-use Rattle.history_book.specs.declared.item.Item.{Item}
-use Rattle.system_parts.specs.declared.instance.Place.{Place}
+use Rattle.run_board.proofs.Names.{◌≡◌, ◌≤◌, ◌<◌, ◌+◌, ℕ, Bool, true, false, List, [], ◌∷◌, length, length-drop, Option}
+use Rattle.run_board.proofs.Names.{Some, Result, refl, sym, ◌∙◌, ap, subst, arith, is_ok, is_some, IsOk, true≢false}
+use Rattle.run_board.proofs.Names.{same_Some, Item, Place, Progress, InstanceEntry, place_of_progress, Event}
+use Rattle.run_board.proofs.Names.{to_place_by, is_commit, asks_commit, State, Stopped, ScriptData, ReachedInvariant}
+use Rattle.run_board.proofs.Names.{Serving, ClusterModel, Turn, Carried, event_of, IsInPlace, answered_from, posts}
+use Rattle.run_board.proofs.Names.{has_some, is_told, serves, Ran, reached_by}
 use Rattle.system_parts.specs.declared.instance.Place.TheVariants as place
-use Rattle.system_parts.specs.declared.instance.Progress.{Progress}
 use Rattle.system_parts.specs.declared.instance.Progress.TheVariants.{Asked, Accepted, Drawn, Settled, Handed}
 use Rattle.system_parts.specs.declared.instance.Request.{Request}
 use Rattle.system_parts.specs.declared.instance.Request.TheVariants.{Begin, Commit}
-use Rattle.system_parts.specs.Instance.{InstanceEntry, place_of_progress}
-use Rattle.machine.specs.declared.event.Event.{Event}
 use Rattle.machine.specs.declared.event.Event.TheVariants as event
-use Rattle.machine.specs.Events.Put.{to_place_by}
-use Rattle.machine.specs.Readers.{is_commit, asks_commit}
-use Rattle.machine.specs.State.{State}
 use Rattle.event_parts.specs.Served.{decides_at, is_to_decide, is_to_put, answers_at, is_to_answer}
-use Rattle.event_parts.specs.declared.stopped.Stopped.{Stopped}
-use Rattle.script_data.specs.Data.{ScriptData}
-use Rattle.isolation_laws.specs.Sound.{ReachedInvariant}
-use Rattle.command_semantics.proofs.Serving.{Serving}
-use Rattle.cluster_core.specs.ClusterModel.{ClusterModel}
 use Rattle.cluster_core.specs.Served.{held_found, held_in, is_served, LeavesRoom, NeverLacksIf, most_reserved}
 use Rattle.cluster_core.proofs.RoomMoves.{room_rises, served_spends}
-use Rattle.turn_rules.specs.declared.turn.Turn.{Turn}
 use Rattle.turn_rules.specs.declared.turn.Turn.TheVariants as turn
-use Rattle.turn_rules.specs.Carried.{Carried, event_of}
-use Rattle.turn_rules.specs.Lawful.{IsInPlace, answered_from}
-use Rattle.session_script.specs.PostedNames.{posts}
-use Rattle.run_board.specs.Making.{has_some, is_told, serves}
-use Rattle.run_board.specs.Run.{Ran, reached_by}
 use Rattle.run_board.proofs.Kept.{Kept, Call, IsMade, CanTurn, since}
 use Rattle.run_board.proofs.Silent.{serving}
 use Rattle.run_board.proofs.Steady.{facts}

@@ -1,37 +1,16 @@
 -- For this crate's own proofs.
 -- Names, held stages and seats after one turn more.
-use Rattle.std.proofs.Common.{◌≡◌, ℕ, ◌+◌, ◌-◌, ◌≤◌, Bool, true, false, cond, List, [], ◌∷◌, ◌++◌, Option, Some, None, All, drop, length, refl, sym, ap, ◌∙◌, subst, arith}
-use Rattle.std.specs.Prelude.{map, slice_get}
+use Rattle.run_board.proofs.Names.{◌≡◌, ℕ, ◌+◌, ◌-◌, ◌≤◌, Bool, true, false, cond, List, [], ◌∷◌, ◌++◌, Option, Some}
+use Rattle.run_board.proofs.Names.{None, All, drop, length, refl, sym, ap, ◌∙◌, subst, arith, map, slice_get, All-head}
+use Rattle.run_board.proofs.Names.{All-tail, All-map, All-weaker, fold_push, Item, Event, Step, State, Line, ScriptData}
+use Rattle.run_board.proofs.Names.{Interruption, View, same_actor, halt_of, Clocks, clocks_of, view_of, clocks_at}
+use Rattle.run_board.proofs.Names.{clocks_there, Holds, Seat, Turn, lines_of, present_line, was_asked, gone_on}
+use Rattle.run_board.proofs.Names.{with_event_at, with_next_line, ahead_of, is_passed, passed, names_after, Carried}
+use Rattle.run_board.proofs.Names.{event_of, held_after, moved, with_event, seat_passed, all_passed, turned_by, turned}
+use Rattle.run_board.proofs.Names.{at_first, carried, passed_actor, Seated, line_of, gone_on_at, after_turn}
+use Rattle.run_board.proofs.Names.{after_passing, step_in, Ran, reached_by, with_turn, IsSeated, SitsAt}
 use Rattle.std.proofs.lemmas.List.{length-drop}
-use Rattle.std.proofs.lemmas.List.Elements.{All-head, All-tail, All-map, All-weaker}
-use Rattle.std.proofs.lemmas.List.Sums.{fold_push}
-use Rattle.history_book.specs.declared.item.Item.{Item}
-use Rattle.machine.specs.declared.event.Event.{Event}
-use Rattle.machine.specs.Machine.{Step}
-use Rattle.machine.specs.State.{State}
-use Rattle.script_data.specs.declared.line.Line.{Line}
-use Rattle.script_data.specs.Data.{ScriptData}
-use Rattle.command_semantics.specs.declared.point.Interruption.{Interruption}
-use Rattle.command_semantics.specs.declared.point.View.{View}
-use Rattle.command_semantics.specs.Answers.{same_actor}
-use Rattle.command_semantics.specs.Interruptions.{halt_of}
-use Rattle.command_semantics.specs.Next.{Clocks}
-use Rattle.command_semantics.specs.Runs.{clocks_of}
-use Rattle.command_semantics.specs.Views.{view_of}
-use Rattle.planned_cluster.specs.Standing.{clocks_at}
-use Rattle.planned_cluster.proofs.Clocks.{clocks_there}
-use Rattle.turn_rules.specs.declared.seat.Holds.{Holds}
-use Rattle.turn_rules.specs.declared.seat.Seat.{Seat}
-use Rattle.turn_rules.specs.declared.turn.Turn.{Turn}
 use Rattle.turn_rules.specs.declared.turn.Turn.TheVariants as turn
-use Rattle.turn_rules.specs.Seats.{lines_of, present_line, was_asked, gone_on, with_event_at, with_next_line, ahead_of, is_passed, passed}
-use Rattle.session_script.specs.PostedNames.{names_after}
-use Rattle.turn_rules.specs.Carried.{Carried, event_of, held_after, moved, with_event, seat_passed, all_passed, turned_by, turned, at_first, carried}
-use Rattle.turn_rules.proofs.SeatsOn.{passed_actor}
-use Rattle.run_board.specs.declared.seated.Seated.{Seated}
-use Rattle.run_board.specs.Seating.{line_of, gone_on_at, after_turn, after_passing}
-use Rattle.run_board.specs.Making.{step_in}
-use Rattle.run_board.specs.Run.{Ran, reached_by, with_turn, IsSeated, SitsAt}
 use Rattle.run_board.proofs.Kept.{Kept, Call, HasGone, since, moved_by, kept_after}
 
 pub carried_on : (script : ScriptData) (turns : List Turn) (t : Turn) (e : Event) → event_of script (carried script turns) t ≡ Some e → carried script (turns ++ t ∷ []) ≡ all_passed script (with_event script (carried script turns) t e)

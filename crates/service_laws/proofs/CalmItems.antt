@@ -1,47 +1,24 @@
 -- Which items neither ask, draw, tell a start nor hand a commit over: most outcomes tell nothing else.
-use Rattle.std.proofs.Common.{◌≡◌, ℕ, ◌+◌, Bool, true, false, List, [], ◌∷◌, ◌++◌, append_assoc, Option, None, Some, inl, inr, refl, sym, subst}
-use Rattle.std.specs.Prelude.{All}
-use Rattle.std.proofs.lemmas.Bool.{ne_eqb}
-use Rattle.std.proofs.lemmas.List.{append-nil}
-use Rattle.std.proofs.lemmas.List.Elements.{All-nil, All-cons, All-head, All-tail, All-append, All-weaker}
-use Rattle.stamp_base.specs.declared.stores.Store.TheVariants.{Table}
-use Rattle.history_book.specs.Members.{◌∈◌, AtEach}
+use Rattle.service_laws.proofs.Names.{◌≡◌, ℕ, ◌+◌, Bool, true, false, List, [], ◌∷◌, ◌++◌, append_assoc, Option, None}
+use Rattle.service_laws.proofs.Names.{Some, inl, inr, refl, sym, subst, All, ne_eqb, append-nil, All-nil, All-cons}
+use Rattle.service_laws.proofs.Names.{All-head, All-tail, All-append, All-weaker, Table, ◌∈◌, AtEach, Session, Handed}
+use Rattle.service_laws.proofs.Names.{PutFound, Item, AtEach-push, granted, SettleTurn, Goes, Decides, settle_ask}
+use Rattle.service_laws.proofs.Names.{settle_turn, Held, Request, Begin, Commit, Settled, InstanceEntry, Client, State}
+use Rattle.service_laws.proofs.Names.{told_by, loss_heard, loss_items, crashed_items, all_crashed_items, draw_item}
+use Rattle.service_laws.proofs.Names.{settle_items, rules_of, take_item, Silent, AllSilent, fault_if, answered_item}
+use Rattle.service_laws.proofs.Names.{own_told, Outcome, OfGranted, OfCrashed, OfAskedBegin, OfAskedCommit, OfAccepted}
+use Rattle.service_laws.proofs.Names.{OfEnded, OfDrew, OfAnsweredBegin, OfAnsweredCommit, OfHanded, OfOwnPlaced}
+use Rattle.service_laws.proofs.Names.{OfOwnNotPlaced, OfOutcome, told_by_outcome, asks_for, InstanceAt, HeldBy}
+use Rattle.service_laws.proofs.Names.{IsolationInvariant, not_true, free_waits, open_waits, none_held, fault_if_silent}
+use Rattle.service_laws.proofs.Names.{silent_items}
 use Rattle.history_book.specs.declared.cause.Cause.TheVariants as cause
-use Rattle.history_book.specs.declared.item.Actor.TheVariants.{Session}
 use Rattle.history_book.specs.declared.item.Ending.TheVariants.{Dead as DeadEnd}
-use Rattle.history_book.specs.declared.item.StoreStep.TheVariants.{Handed, PutFound}
-use Rattle.history_book.specs.declared.item.Item.{Item}
 use Rattle.history_book.specs.declared.item.Item.TheVariants as item
-use Rattle.history_book.proofs.MemberLemmas.{AtEach-push}
-use Rattle.system_parts.specs.Record.{granted}
 use Rattle.system_parts.specs.declared.resolve.Outcome.TheVariants as outcome
-use Rattle.system_parts.specs.Resolve.{SettleTurn, Goes, Decides, settle_ask, settle_turn}
 use Rattle.system_parts.specs.declared.session.State as state
 use Rattle.system_parts.specs.declared.session.State.TheVariants as phase
-use Rattle.system_parts.specs.declared.instance.Held.{Held}
 use Rattle.system_parts.specs.declared.instance.Progress.{Progress}
-use Rattle.system_parts.specs.declared.instance.Request.{Request}
-use Rattle.system_parts.specs.declared.instance.Request.TheVariants.{Begin, Commit}
-use Rattle.system_parts.specs.declared.instance.Settled.{Settled}
 use Rattle.system_parts.specs.declared.instance.Settled.TheVariants as how
-use Rattle.system_parts.specs.Instance.{InstanceEntry}
-use Rattle.machine.specs.State.{Client, State}
-use Rattle.machine.specs.StoreSteps.{told_by}
-use Rattle.machine.specs.Events.Crash.{loss_heard, loss_items, crashed_items, all_crashed_items}
-use Rattle.machine.specs.Events.Decide.{draw_item}
-use Rattle.machine.specs.Events.Step.{settle_items}
-use Rattle.machine.specs.Events.Take.{rules_of, take_item}
-use Rattle.machine.specs.Plain.{Silent, AllSilent}
-use Rattle.machine.specs.Outcome.OutcomesOfRecord.{fault_if}
-use Rattle.machine.specs.Outcome.OutcomesOfStamps.{answered_item}
-use Rattle.machine.specs.Outcome.OutcomesOfPlacings.{own_told}
-use Rattle.machine.specs.Outcome.Outcomes.{Outcome, OfGranted, OfCrashed, OfAskedBegin, OfAskedCommit, OfAccepted, OfEnded, OfDrew, OfAnsweredBegin, OfAnsweredCommit, OfHanded, OfOwnPlaced, OfOwnNotPlaced, OfOutcome, told_by_outcome}
-use Rattle.cause_rules.specs.Asks.{asks_for}
-use Rattle.isolation_laws.specs.Words.{InstanceAt, HeldBy}
-use Rattle.isolation_laws.specs.IsolationInvariant.{IsolationInvariant}
-use Rattle.isolation_laws.proofs.Pushed.{not_true}
-use Rattle.isolation_laws.proofs.Requests.RequestsAfter.{free_waits, open_waits, none_held}
-use Rattle.cause_laws.proofs.SilentOutcomes.{fault_if_silent, silent_items}
 
 -- the item asks, draws, tells a start or hands a commit over
 abbrev pub is_stamping : Item → Bool

@@ -1,27 +1,14 @@
 -- A transaction that its session has let go, and whose commit no node holds any more, is neither open nor in flight.
-use Rattle.std.proofs.Common.{◌≡◌, ℕ, Bool, true, List, [], ◌∷◌, Some, inl, inr, refl, sym, ◌∙◌, ap, subst}
-use Rattle.std.specs.Prelude.{slice_set}
-use Rattle.history_book.specs.declared.item.Item.{Item}
-use Rattle.system_parts.specs.declared.session.State.{State as SessionState}
+use Rattle.service_laws.proofs.Names.{◌≡◌, ℕ, Bool, true, List, [], ◌∷◌, Some, inl, inr, refl, sym, ◌∙◌, ap, subst}
+use Rattle.service_laws.proofs.Names.{slice_set, Item, SessionState, SessionEntry, aborted_by, Held, Commit}
+use Rattle.service_laws.proofs.Names.{InstanceEntry, held_of, without_request, Client, State, client_aborted}
+use Rattle.service_laws.proofs.Names.{instance_changed, one_client, held_by, heldby_ended, InstanceAt, HeldBy, ClientAt}
+use Rattle.service_laws.proofs.Names.{OpenAt, Begun, InFlight, HeldPending, PlacingAt, Pending, Live}
+use Rattle.service_laws.proofs.Names.{IsolationInvariant, begun_once, NoneInFlight, not_in_flight, open_begun}
+use Rattle.service_laws.proofs.Names.{fewer_changed, none_more_ended, open_waits, none_held}
 use Rattle.system_parts.specs.declared.session.State.TheVariants as phase
-use Rattle.system_parts.specs.SessionSteps.{SessionEntry, aborted_by}
-use Rattle.system_parts.specs.declared.instance.Held.{Held}
-use Rattle.system_parts.specs.declared.instance.Request.TheVariants.{Commit}
-use Rattle.system_parts.specs.Instance.{InstanceEntry, held_of}
-use Rattle.system_parts.specs.InstanceSteps.{without_request}
-use Rattle.machine.specs.State.{Client, State}
-use Rattle.machine.specs.Clients.{client_aborted}
-use Rattle.machine.proofs.Lookups.{instance_changed, one_client, held_by, heldby_ended}
-use Rattle.isolation_laws.specs.Words.{InstanceAt, HeldBy, ClientAt, OpenAt, Begun}
-use Rattle.isolation_laws.specs.Pending.{InFlight, HeldPending, PlacingAt, Pending, Live}
-use Rattle.isolation_laws.specs.IsolationInvariant.{IsolationInvariant}
-use Rattle.isolation_laws.proofs.OnceEach.{begun_once}
-use Rattle.isolation_laws.proofs.Owners.{NoneInFlight, not_in_flight}
-use Rattle.isolation_laws.proofs.Numbers.NumbersKept.{open_begun}
 use Rattle.isolation_laws.proofs.Requests.ClientsOpen.{FewerAtWork, placing_was}
 use Rattle.isolation_laws.proofs.Requests.OtherCommits.{placing_holds_none}
-use Rattle.isolation_laws.proofs.Requests.PendingAfter.{fewer_changed, none_more_ended}
-use Rattle.isolation_laws.proofs.Requests.RequestsAfter.{open_waits, none_held}
 
 -- ---- its session is there, and has something else to do
 -- a state that neither has a transaction open nor a commit in flight

@@ -1,64 +1,34 @@
 -- What ends without a commit is lost: its session had it open, or looked up its outcome, and has let it go.
-use Rattle.std.proofs.Common.{◌≡◌, ◌≢◌, ℕ, true, IsTrue, List, [], ◌∷◌, ◌++◌, Option, None, Some, ◌⊎◌, inl, inr, refl, sym, ◌∙◌, ap, subst}
+use Rattle.service_laws.proofs.Names.{◌≡◌, ◌≢◌, ℕ, true, IsTrue, List, [], ◌∷◌, ◌++◌, Option, None, Some, ◌⊎◌, inl, inr}
+use Rattle.service_laws.proofs.Names.{refl, sym, ◌∙◌, ap, subst, same_Some, Cells, Table, Mark, Fate, Works}
+use Rattle.service_laws.proofs.Names.{FailsUnchanged, FailsApplied, ◌∈◌, Committed, Cause, Session, Ending, PutFound}
+use Rattle.service_laws.proofs.Names.{Item, in_front, Row, Pairs, mark_of, Ask, Told, Settling, SettleTurn, Goes}
+use Rattle.service_laws.proofs.Names.{Decides, settle_ask, settle_turn, Reading, read_ask, SessionState, SessionEntry}
+use Rattle.service_laws.proofs.Names.{has_transaction, work_refusal, step_refusal, handed_commit, aborted_by, Commit}
+use Rattle.service_laws.proofs.Names.{InstanceEntry, instance_ask, Event, kept_items, UnderWay, Nothing, Reads, Settles}
+use Rattle.service_laws.proofs.Names.{Completes, Client, State, Met, met, told_by, is_reading, client_freed}
+use Rattle.service_laws.proofs.Names.{client_aborted, Step, nothing, with_reading, stepped, reading_of, IsSteadyAt}
+use Rattle.service_laws.proofs.Names.{take_on, renew_on, extend_on, crash_on, ask_begin_on, accept_on, decide_on}
+use Rattle.service_laws.proofs.Names.{put_on, answer_on, client_put_fresh, fetch_on, client_settled, settle_items}
+use Rattle.service_laws.proofs.Names.{settle_by, settle_step, read_by, read_step, complete_by, complete_step, step_at}
+use Rattle.service_laws.proofs.Names.{placed_among, step_due, step_on, work_of, step_recall, heal_on, vanish_on}
+use Rattle.service_laws.proofs.Names.{sweep_open_on, set_found, ClientAt, Begun, epoch_or_none, IsolationInvariant}
+use Rattle.service_laws.proofs.Names.{ReachedInvariant, IsLost, facts_stay, open_unplaced, in_append, opens}
+use Rattle.service_laws.proofs.Names.{ExplainedInvariant}
 use Rattle.std.specs.Prelude.{slice_get}
-use Rattle.std.proofs.lemmas.Option.{same_Some}
-use Rattle.stamp_base.specs.declared.stores.Store.TheVariants.{Cells, Table}
-use Rattle.stamp_base.specs.declared.stores.Mark.{Mark}
-use Rattle.port_io.specs.declared.weather.Fate.{Fate}
-use Rattle.port_io.specs.declared.weather.Fate.TheVariants.{Works, FailsUnchanged, FailsApplied}
-use Rattle.history_book.specs.Members.{◌∈◌}
-use Rattle.history_book.specs.Isolation.{Committed}
-use Rattle.history_book.specs.declared.cause.Cause.{Cause}
 use Rattle.history_book.specs.declared.cause.Cause.TheVariants as cause
-use Rattle.history_book.specs.declared.item.Actor.TheVariants.{Session}
-use Rattle.history_book.specs.declared.item.Ending.{Ending}
 use Rattle.history_book.specs.declared.item.Ending.TheVariants as ending
-use Rattle.history_book.specs.declared.item.StoreStep.TheVariants.{PutFound}
-use Rattle.history_book.specs.declared.item.Item.{Item}
 use Rattle.history_book.specs.declared.item.Item.TheVariants as item
-use Rattle.history_book.proofs.MemberLemmas.{in_front}
-use Rattle.system_parts.specs.Rows.{Row}
-use Rattle.system_parts.specs.Pairs.{Pairs, mark_of}
-use Rattle.system_parts.specs.declared.asks.Ask.{Ask}
-use Rattle.system_parts.specs.declared.asks.Told.{Told}
 use Rattle.system_parts.specs.declared.resolve.Outcome.TheVariants as outcome
-use Rattle.system_parts.specs.Resolve.{Settling, SettleTurn, Goes, Decides, settle_ask, settle_turn}
-use Rattle.system_parts.specs.KeyRead.{Reading, read_ask}
-use Rattle.system_parts.specs.declared.session.State.{State as SessionState}
 use Rattle.system_parts.specs.declared.session.State.TheVariants as phase
-use Rattle.system_parts.specs.SessionSteps.{SessionEntry, has_transaction, work_refusal, step_refusal, handed_commit, aborted_by}
-use Rattle.system_parts.specs.declared.instance.Request.TheVariants.{Commit}
-use Rattle.system_parts.specs.Instance.{InstanceEntry}
-use Rattle.system_parts.specs.InstanceSteps.{instance_ask}
-use Rattle.machine.specs.declared.event.Event.{Event}
 use Rattle.machine.specs.declared.event.Event.TheVariants as event
-use Rattle.machine.specs.Effect.{kept_items}
-use Rattle.machine.specs.State.{UnderWay, Nothing, Reads, Settles, Completes, Client, State}
-use Rattle.machine.specs.StoreSteps.{Met, met, told_by}
-use Rattle.machine.specs.Clients.{is_reading, client_freed, client_aborted}
 use Rattle.machine.specs.Fits.{StepsFit, IsWork}
-use Rattle.machine.specs.Machine.{Step, nothing, with_reading, stepped, reading_of, IsSteadyAt}
-use Rattle.machine.specs.Events.Take.{take_on}
-use Rattle.machine.specs.Events.Renew.{renew_on}
-use Rattle.machine.specs.Events.Extend.{extend_on}
-use Rattle.machine.specs.Events.Crash.{crash_on}
-use Rattle.machine.specs.Events.AskBegin.{ask_begin_on}
 use Rattle.machine.specs.Events.AskCommit.{commit_of, ask_commit_by, ask_commit_on}
-use Rattle.machine.specs.Events.Accept.{accept_on}
-use Rattle.machine.specs.Events.Decide.{decide_on}
-use Rattle.machine.specs.Events.Put.{put_on}
-use Rattle.machine.specs.Events.Answer.{answer_on}
 use Rattle.machine.specs.Events.Write.{client_wrote, write_refused, write_by, write_open, write_on}
-use Rattle.machine.specs.Events.Fetch.{client_put_fresh, fetch_on}
 use Rattle.machine.specs.Events.Place.{place_by}
-use Rattle.machine.specs.Events.Step.{client_settled, settle_items, settle_by, settle_step, read_by, read_step, complete_by, complete_step, step_at, placed_among, step_due, step_on, work_of, step_recall}
 use Rattle.machine.specs.Events.Step as steps
-use Rattle.machine.specs.Events.Heal.{heal_on}
 use Rattle.machine.specs.Events.Abort.{abort_by, abort_on}
-use Rattle.machine.specs.Events.Vanish.{vanish_on}
-use Rattle.machine.specs.Events.SweepOpen.{sweep_open_on}
 use Rattle.machine.proofs.LookedUp.{of_post, of_client, of_both}
-use Rattle.machine.proofs.Lookups.{set_found}
 use Rattle.machine.proofs.Inversions.InversionOfSessions.{for_client, for_cells, work_open, write_may}
 use Rattle.machine.proofs.Inversions.InversionOfRecord.{for_record}
 use Rattle.machine.proofs.Inversions.InversionOfAsks.{for_clients, for_ask}
@@ -66,16 +36,7 @@ use Rattle.machine.proofs.Inversions.InversionOfRequests.{for_request}
 use Rattle.machine.proofs.Inversions.InversionOfAnswers.{for_table}
 use Rattle.machine.proofs.Inversions.InversionOfSteps.{for_stores}
 use Rattle.machine.proofs.Inversions.InversionOfSweeps.{for_sweep}
-use Rattle.isolation_laws.specs.Words.{ClientAt, Begun, epoch_or_none}
-use Rattle.isolation_laws.specs.IsolationInvariant.{IsolationInvariant}
-use Rattle.isolation_laws.specs.Sound.{ReachedInvariant}
-use Rattle.isolation_laws.specs.Laws.{IsLost}
-use Rattle.isolation_laws.proofs.AlwaysHolds.{facts_stay}
-use Rattle.isolation_laws.proofs.Owners.{open_unplaced}
-use Rattle.isolation_laws.proofs.Pushed.{in_append}
 use Rattle.isolation_laws.proofs.Inversions.Inversion.{parts_fit}
-use Rattle.isolation_laws.proofs.Requests.RequestsOfMoves.{opens}
-use Rattle.cause_laws.specs.ShownInvariant.{ExplainedInvariant}
 use Rattle.service_laws.proofs.DeadTransactions.{IsIdle, free_idle, aborted_idle, idle_dead}
 use Rattle.service_laws.proofs.EndlessItems.{Endless, none_ends, one_endless, then_endless, both_endless, no_end_in, kept_endless, met_endless}
 use Rattle.service_laws.proofs.EndlessEvents.{take_endless, renew_endless, extend_endless, crash_endless, asked_endless, ask_begin_endless, accept_endless, decide_endless, put_endless, answer_endless, read_endless, fetch_endless, heal_endless, vanish_endless, sweep_open_endless, sweep_step_endless}

@@ -1,20 +1,24 @@
 -- The sixteen events by which no transaction ends without a commit.
-use Rattle.std.proofs.Common.{ℕ, Bool, true, false, List, [], ◌∷◌, ◌++◌, Option, None, Some, Result, Ok, Err, refl}
-use Rattle.stamp_base.specs.SetupNumbers.{SetupNumbers}
-use Rattle.stamp_base.specs.declared.stores.Mark.{Mark}
-use Rattle.stamp_base.specs.declared.stores.Store.TheVariants.{Cells, Table, Master}
-use Rattle.port_io.specs.declared.weather.Fate.{Fate}
-use Rattle.port_io.specs.declared.weather.Fate.TheVariants.{Works, FailsUnchanged, FailsApplied}
-use Rattle.history_book.specs.declared.cause.Cause.{Cause}
+use Rattle.service_laws.proofs.Names.{ℕ, Bool, true, false, List, [], ◌∷◌, ◌++◌, Option, None, Some, Result, Ok, Err}
+use Rattle.service_laws.proofs.Names.{refl, SetupNumbers, Mark, Cells, Table, Master, Fate, Works, FailsUnchanged}
+use Rattle.service_laws.proofs.Names.{FailsApplied, Cause, Node, Session, Janitor, Item, Cell, Row, fetched, Pairs}
+use Rattle.service_laws.proofs.Names.{mark_of, MasterRecord, granted, take_refused, renewed_until, renew_refused}
+use Rattle.service_laws.proofs.Names.{extend_refused, Ask, Told, begin_refusal, vanish_refusal, ReadTurn, Asks, Answers}
+use Rattle.service_laws.proofs.Names.{Sweeping, sweep_ask, sweep_told, is_undecided, Held, Request, Begin, Commit}
+use Rattle.service_laws.proofs.Names.{InstanceEntry, held_of, stamps_at, was_told_not_yet, InstanceStep, instance_ask}
+use Rattle.service_laws.proofs.Names.{instance_accept, instance_answer, Client, kept_items, met, told_by, rules_of}
+use Rattle.service_laws.proofs.Names.{take_item, take_by, take_on, renew_by, renew_on, extend_by, extend_on, loss_heard}
+use Rattle.service_laws.proofs.Names.{loss_items, crashed_items, all_crashed_items, crash_on, asked_by, begin_asked}
+use Rattle.service_laws.proofs.Names.{ask_begin_by, ask_begin_on, accept_by, accept_request, accept_on, draw_item}
+use Rattle.service_laws.proofs.Names.{decide_both, decide_by, decide_request, decide_on, to_place, put_by, put_commit}
+use Rattle.service_laws.proofs.Names.{put_on, answer_by, answer_request, answer_on, read_items, fetch_by, fetch_open}
+use Rattle.service_laws.proofs.Names.{fetch_on, fetch_refused, fetch_recall, client_fetched, found_of, no_offer_cause}
+use Rattle.service_laws.proofs.Names.{heal_by, heal_at, heal_on, offer_of, vanish_by, vanish_on, sweep_open_at}
+use Rattle.service_laws.proofs.Names.{sweep_open_on, undecided_items, sweep_by, sweep_lists, sweep_at, sweep_step_on}
+use Rattle.service_laws.proofs.Names.{Met}
 use Rattle.history_book.specs.declared.cause.Cause.TheVariants as cause
-use Rattle.history_book.specs.declared.item.Actor.TheVariants.{Node, Session, Janitor}
 use Rattle.history_book.specs.declared.item.StoreStep.TheVariants as step
-use Rattle.history_book.specs.declared.item.Item.{Item}
 use Rattle.history_book.specs.declared.item.Item.TheVariants as item
-use Rattle.system_parts.specs.declared.rows.Cell.{Cell}
-use Rattle.system_parts.specs.Rows.{Row, fetched}
-use Rattle.system_parts.specs.Pairs.{Pairs, mark_of}
-use Rattle.system_parts.specs.Record.{MasterRecord, granted, take_refused, renewed_until, renew_refused, extend_refused}
 use Rattle.system_parts.specs.declared.record.Grant.{Grant}
 use Rattle.system_parts.specs.declared.record.TakeRefused.{TakeRefused}
 use Rattle.system_parts.specs.declared.record.TakeRefused.TheVariants as take_
@@ -22,41 +26,13 @@ use Rattle.system_parts.specs.declared.record.RenewRefused.{RenewRefused}
 use Rattle.system_parts.specs.declared.record.RenewRefused.TheVariants as renew_
 use Rattle.system_parts.specs.declared.record.ExtendRefused.{ExtendRefused}
 use Rattle.system_parts.specs.declared.record.ExtendRefused.TheVariants as extend_
-use Rattle.system_parts.specs.declared.asks.Ask.{Ask}
 use Rattle.system_parts.specs.declared.asks.Ask.TheVariants as ask
-use Rattle.system_parts.specs.declared.asks.Told.{Told}
 use Rattle.system_parts.specs.declared.session.State as state
 use Rattle.system_parts.specs.declared.session.State.TheVariants as phase
-use Rattle.system_parts.specs.SessionSteps.{begin_refusal, vanish_refusal}
-use Rattle.system_parts.specs.KeyRead.{ReadTurn, Asks, Answers}
-use Rattle.system_parts.specs.Sweep.{Sweeping, sweep_ask, sweep_told, is_undecided}
 use Rattle.system_parts.specs.declared.instance.Decided.{Decided}
-use Rattle.system_parts.specs.declared.instance.Held.{Held}
 use Rattle.system_parts.specs.declared.instance.Reply.{Reply}
 use Rattle.system_parts.specs.declared.instance.Reply.TheVariants as reply
-use Rattle.system_parts.specs.declared.instance.Request.{Request}
-use Rattle.system_parts.specs.declared.instance.Request.TheVariants.{Begin, Commit}
-use Rattle.system_parts.specs.Instance.{InstanceEntry, held_of, stamps_at, was_told_not_yet}
-use Rattle.system_parts.specs.InstanceSteps.{InstanceStep, instance_ask, instance_accept, instance_answer}
 use Rattle.system_parts.specs.InstanceLaws.{stamp_of}
-use Rattle.machine.specs.State.{Client}
-use Rattle.machine.specs.Effect.{kept_items}
-use Rattle.machine.specs.StoreSteps.{met, told_by}
-use Rattle.machine.specs.Events.Take.{rules_of, take_item, take_by, take_on}
-use Rattle.machine.specs.Events.Renew.{renew_by, renew_on}
-use Rattle.machine.specs.Events.Extend.{extend_by, extend_on}
-use Rattle.machine.specs.Events.Crash.{loss_heard, loss_items, crashed_items, all_crashed_items, crash_on}
-use Rattle.machine.specs.Events.AskBegin.{asked_by, begin_asked, ask_begin_by, ask_begin_on}
-use Rattle.machine.specs.Events.Accept.{accept_by, accept_request, accept_on}
-use Rattle.machine.specs.Events.Decide.{draw_item, decide_both, decide_by, decide_request, decide_on}
-use Rattle.machine.specs.Events.Put.{to_place, put_by, put_commit, put_on}
-use Rattle.machine.specs.Events.Answer.{answer_by, answer_request, answer_on}
-use Rattle.machine.specs.Events.Fetch.{read_items, fetch_by, fetch_open, fetch_on, fetch_refused, fetch_recall, client_fetched, found_of}
-use Rattle.machine.specs.Events.Heal.{no_offer_cause, heal_by, heal_at, heal_on, offer_of}
-use Rattle.machine.specs.Events.Vanish.{vanish_by, vanish_on}
-use Rattle.machine.specs.Events.SweepOpen.{sweep_open_at, sweep_open_on}
-use Rattle.machine.specs.Events.SweepStep.{undecided_items, sweep_by, sweep_lists, sweep_at, sweep_step_on}
-use Rattle.machine.specs.StoreSteps.{Met}
 use Rattle.service_laws.proofs.EndlessItems.{IsNoEnd, Endless, none_ends, one_endless, then_endless, both_endless, once_endless, kept_endless, met_endless}
 
 -- ---- the master record

@@ -1,22 +1,12 @@
 -- Lists of items by which no transaction ends, as most events append.
-use Rattle.std.proofs.Common.{◌≡◌, ℕ, Bool, true, false, if◌then◌else◌, List, [], ◌∷◌, ◌++◌, Option, None, Some, inl, inr, refl, sym, subst}
-use Rattle.std.specs.Prelude.{All}
-use Rattle.std.proofs.lemmas.List.Elements.{All-nil, All-cons, All-head, All-tail, All-append}
-use Rattle.port_io.specs.declared.weather.Fate.{Fate}
-use Rattle.port_io.specs.declared.weather.Fate.TheVariants.{Works, FailsUnchanged, FailsApplied}
-use Rattle.history_book.specs.Members.{◌∈◌}
-use Rattle.history_book.specs.declared.item.Actor.{Actor}
-use Rattle.history_book.specs.declared.item.Ending.{Ending}
-use Rattle.history_book.specs.declared.item.Item.{Item}
+use Rattle.service_laws.proofs.Names.{◌≡◌, ℕ, Bool, true, false, if◌then◌else◌, List, [], ◌∷◌, ◌++◌, Option, None, Some}
+use Rattle.service_laws.proofs.Names.{inl, inr, refl, sym, subst, All, All-nil, All-cons, All-head, All-tail}
+use Rattle.service_laws.proofs.Names.{All-append, Fate, Works, FailsUnchanged, FailsApplied, ◌∈◌, Actor, Ending, Item}
+use Rattle.service_laws.proofs.Names.{Mark, Ask, Told, kept_items, mark_item, step_item, store_of, mark_kept}
+use Rattle.service_laws.proofs.Names.{effect_items, items_met, entry_of, not_true}
 use Rattle.history_book.specs.declared.item.Item.TheVariants as item
-use Rattle.stamp_base.specs.declared.stores.Mark.{Mark}
-use Rattle.system_parts.specs.declared.asks.Ask.{Ask}
 use Rattle.system_parts.specs.declared.asks.Ask.TheVariants as ask
-use Rattle.system_parts.specs.declared.asks.Told.{Told}
 use Rattle.system_parts.specs.declared.asks.Told.TheVariants as told
-use Rattle.machine.specs.Effect.{kept_items}
-use Rattle.machine.specs.StoreSteps.{mark_item, step_item, store_of, mark_kept, effect_items, items_met, entry_of}
-use Rattle.isolation_laws.proofs.Pushed.{not_true}
 
 abbrev pub is_end : Item → Bool
 is_end (item.End session start how) = true

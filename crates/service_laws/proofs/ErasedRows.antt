@@ -1,27 +1,16 @@
 -- A row of an open transaction that is there before an outcome and gone after it: only where the open sweep was to erase it.
-use Rattle.std.proofs.Common.{◌≡◌, ℕ, Bool, true, false, IsTrue, if◌then◌else◌, List, [], ◌∷◌, length, Option, None, Some, ◌⊎◌, inl, inr, refl, sym, ◌∙◌, ap, subst, arith}
-use Rattle.std.proofs.lemmas.Option.{same_Some, none-some}
-use Rattle.history_book.specs.declared.item.Item.{Item}
-use Rattle.system_parts.specs.declared.rows.Cell.{Cell}
-use Rattle.system_parts.specs.Rows.{Row, looked, shadowed, put_row, with_shadow, AreOrdered}
-use Rattle.system_parts.specs.declared.asks.Ask.{Ask}
+use Rattle.service_laws.proofs.Names.{◌≡◌, ℕ, Bool, true, false, IsTrue, if◌then◌else◌, List, [], ◌∷◌, length, Option}
+use Rattle.service_laws.proofs.Names.{None, Some, ◌⊎◌, inl, inr, refl, sym, ◌∙◌, ap, subst, arith, same_Some, none-some}
+use Rattle.service_laws.proofs.Names.{Item, Cell, Row, looked, shadowed, put_row, with_shadow, AreOrdered, Ask, Told}
+use Rattle.service_laws.proofs.Names.{has_transaction, SweepPoint, Marking, Listing, Left, Undecided, Sweeping}
+use Rattle.service_laws.proofs.Names.{sweep_ask, sweep_ask_at, sweep_point_after, sweep_told, State, rows_after}
+use Rattle.service_laws.proofs.Names.{told_by, still_open, sweep_left, CompletedOne, WriteFailed, Outcome, OfWrote}
+use Rattle.service_laws.proofs.Names.{OfWriteFailed, OfHealed, OfCompleted, OfSwept, OfSweepFailed, left_by, one_client}
+use Rattle.service_laws.proofs.Names.{ClientAt, OpenAt, Begun, IsolationInvariant, begun_once, erase_cases, put_cases}
 use Rattle.system_parts.specs.declared.asks.Ask.TheVariants as ask
-use Rattle.system_parts.specs.declared.asks.Told.{Told}
 use Rattle.system_parts.specs.declared.session.State.TheVariants as phase
-use Rattle.system_parts.specs.SessionSteps.{has_transaction}
-use Rattle.system_parts.specs.Sweep.{SweepPoint, Table, Marking, Listing, Left, Undecided, Sweeping, sweep_ask, sweep_ask_at, sweep_point_after, sweep_told}
-use Rattle.machine.specs.State.{State}
-use Rattle.machine.specs.StoreSteps.{rows_after, told_by}
-use Rattle.machine.specs.Events.SweepStep.{still_open, sweep_left}
-use Rattle.machine.specs.Outcome.OutcomesOfWork.{CompletedOne}
-use Rattle.machine.specs.Outcome.OutcomesOfSessions.{WriteFailed}
+use Rattle.system_parts.specs.Sweep.{Table}
 use Rattle.machine.specs.Outcome.OutcomesOfSweeps.{SweptOne, swept_state}
-use Rattle.machine.specs.Outcome.Outcomes.{Outcome, OfWrote, OfWriteFailed, OfHealed, OfCompleted, OfSwept, OfSweepFailed, left_by}
-use Rattle.machine.proofs.Lookups.{one_client}
-use Rattle.isolation_laws.specs.Words.{ClientAt, OpenAt, Begun}
-use Rattle.isolation_laws.specs.IsolationInvariant.{IsolationInvariant}
-use Rattle.isolation_laws.proofs.OnceEach.{begun_once}
-use Rattle.isolation_laws.proofs.Stores.CellsMove.{erase_cases, put_cases}
 use Rattle.isolation_laws.proofs.Stores.CellsStay.{shadow_cases}
 use Rattle.isolation_laws.proofs.Stores.CompletionSteps.{finish_first, undo_first}
 use Rattle.service_laws.proofs.OpenRows.{has_begun, bare_row}

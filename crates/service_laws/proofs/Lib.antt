@@ -1,3 +1,4 @@
+mod Names
 mod DeadTransactions
 mod PlainItems
 mod ToldItems

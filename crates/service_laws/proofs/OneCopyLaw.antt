@@ -1,21 +1,12 @@
 -- Where a history is isolated and serial its transactions read one copy: what is visible at a reader's start is what was committed last
 -- below its commit.
-use Rattle.std.proofs.Common.{◌≡◌, ℕ, List, Option, None, Some, inl, inr, sym, ◌∙◌, ap, subst, arith, slice_get, take}
-use Rattle.std.proofs.lemmas.Bool.{cases_eq}
-use Rattle.stamp_base.specs.SetupNumbers.{SetupNumbers}
-use Rattle.history_book.specs.Isolation.{Committed, Candidate, Visible, Isolated, Stamped, RightAnswer, last_write}
+use Rattle.service_laws.proofs.Names.{◌≡◌, ℕ, List, Option, None, Some, inl, inr, sym, ◌∙◌, ap, subst, arith, slice_get}
+use Rattle.service_laws.proofs.Names.{take, cases_eq, SetupNumbers, Committed, Candidate, Visible, Isolated, Stamped}
+use Rattle.service_laws.proofs.Names.{RightAnswer, last_write, Found, Item, Read, in_at, opening, state_after}
+use Rattle.service_laws.proofs.Names.{history_after, Begun, always_stands, stands_serially, setup_after, one_commit}
 use Rattle.history_book.specs.Serial.{StoodUntil, Serial}
-use Rattle.history_book.specs.declared.item.Found.{Found}
-use Rattle.history_book.specs.declared.item.Item.{Item}
-use Rattle.history_book.specs.declared.item.Item.TheVariants.{Read}
-use Rattle.history_book.proofs.MemberLemmas.{in_at}
-use Rattle.machine.specs.State.{opening}
-use Rattle.machine.specs.Machine.{state_after, history_after}
 use Rattle.machine.proofs.Orders.{three_ways}
-use Rattle.isolation_laws.specs.Words.{Begun}
 use Rattle.isolation_laws.specs.Numbers.{AreBegun}
-use Rattle.isolation_laws.proofs.AlwaysHolds.{always_stands, stands_serially, setup_after}
-use Rattle.isolation_laws.proofs.OnceEach.{one_commit}
 use Rattle.service_rules.specs.OneCopy.{StandsAt, ReadsOneCopy}
 use Rattle.service_laws.specs.OneCopy.{OneCopyNow, OneCopyAlways}
 

@@ -1,16 +1,7 @@
 -- The cell of an open transaction at a key: bare, with what it wrote last, or not there.
-use Rattle.std.proofs.Common.{◌≡◌, ℕ, List, Option, None, Some, ◌⊎◌, inl, inr, sym, ◌∙◌, ap}
-use Rattle.std.proofs.lemmas.Option.{same_Some, none-some}
-use Rattle.history_book.specs.Isolation.{Wrote, last_write}
-use Rattle.history_book.specs.declared.item.Item.{Item}
-use Rattle.system_parts.specs.declared.rows.Cell.{Cell}
-use Rattle.system_parts.specs.Rows.{looked, bare_cell}
-use Rattle.machine.specs.State.{State}
-use Rattle.machine.specs.Outcome.OutcomesOfSessions.{AtOpen}
-use Rattle.isolation_laws.specs.Words.{OpenAt, Begun, cell_with}
-use Rattle.isolation_laws.specs.IsolationInvariant.{IsolationInvariant}
-use Rattle.isolation_laws.proofs.Numbers.NumbersKept.{open_begun}
-use Rattle.isolation_laws.proofs.Requests.RequestsOfMoves.{opens}
+use Rattle.service_laws.proofs.Names.{◌≡◌, ℕ, List, Option, None, Some, ◌⊎◌, inl, inr, sym, ◌∙◌, ap, same_Some}
+use Rattle.service_laws.proofs.Names.{none-some, Wrote, last_write, Item, Cell, looked, bare_cell, State, AtOpen}
+use Rattle.service_laws.proofs.Names.{OpenAt, Begun, cell_with, IsolationInvariant, open_begun, opens}
 
 pub has_begun : (w : State) (h : List Item) (s t e : ℕ) → IsolationInvariant w h → OpenAt w.clients s t e → Begun h s t
 has_begun w h s t e holds o = open_begun w.clients h s t o.client holds.requests.have_begun o.at o.state_is o.start_is

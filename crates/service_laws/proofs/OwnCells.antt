@@ -1,29 +1,14 @@
 -- The cell of an open transaction's write, where it is there and where it is gone: after every event, and at a fetch.
-use Rattle.std.proofs.Common.{◌≡◌, ℕ, zero, suc, ◌==◌, ◌<◌, ◌≤◌, Bool, true, List, [], ◌∷◌, ◌++◌, None, Some, ◌⊎◌, inl, inr, refl, sym, ◌∙◌, ap, subst, arith}
-use Rattle.std.specs.Prelude.{slice_index_or}
+use Rattle.service_laws.proofs.Names.{◌≡◌, ℕ, zero, suc, ◌==◌, ◌<◌, ◌≤◌, Bool, true, List, [], ◌∷◌, ◌++◌, None, Some}
+use Rattle.service_laws.proofs.Names.{◌⊎◌, inl, inr, refl, sym, ◌∙◌, ap, subst, arith, slice_index_or, cases_Bool}
+use Rattle.service_laws.proofs.Names.{eq-eqb, Fate, Wrote, Item, Cell, looked, fetched, front_of, is_below, bare_cell}
+use Rattle.service_laws.proofs.Names.{AreFalling, AreUpto, AreOrdered, ReadTurn, Asks, Answers, found_cell}
+use Rattle.service_laws.proofs.Names.{after_passed, read_over, Cache, put_fresh, recalled_over, recalled_from}
+use Rattle.service_laws.proofs.Names.{over_from, Event, State, stepped, marks_every, found_of, Fetched, fetched_turn}
+use Rattle.service_laws.proofs.Names.{OpenAt, epoch_or_none, IsolationInvariant, ReachedInvariant, each_outcome}
+use Rattle.service_laws.proofs.Names.{ErasedSince, OwnInvariant}
 use Rattle.std.specs.List.{Contains}
-use Rattle.std.proofs.lemmas.Bool.{cases_Bool, eq-eqb}
-use Rattle.port_io.specs.declared.weather.Fate.{Fate}
-use Rattle.history_book.specs.Isolation.{Wrote}
-use Rattle.history_book.specs.declared.item.Item.{Item}
-use Rattle.system_parts.specs.declared.rows.Cell.{Cell}
-use Rattle.system_parts.specs.Rows.{looked, fetched, front_of, is_below, bare_cell, AreFalling, AreUpto, AreOrdered}
-use Rattle.system_parts.specs.KeyRead.{ReadTurn, Asks, Answers, found_cell, after_passed, read_over}
-use Rattle.system_parts.specs.Cache.{Cache, put_fresh}
-use Rattle.system_parts.specs.Recalled.{recalled_over, recalled_from}
 use Rattle.system_parts.proofs.RowFetches.{fetched-falls, fetched-upto, Contains-fetched}
-use Rattle.system_parts.proofs.RecalledLemmas.{over_from}
-use Rattle.machine.specs.declared.event.Event.{Event}
-use Rattle.machine.specs.State.{State}
-use Rattle.machine.specs.Machine.{stepped}
-use Rattle.machine.specs.Events.Fetch.{marks_every, found_of}
-use Rattle.machine.specs.Outcome.OutcomesOfWork.{Fetched, fetched_turn}
-use Rattle.isolation_laws.specs.Words.{OpenAt, epoch_or_none}
-use Rattle.isolation_laws.specs.IsolationInvariant.{IsolationInvariant}
-use Rattle.isolation_laws.specs.Sound.{ReachedInvariant}
-use Rattle.isolation_laws.proofs.AlwaysHolds.{each_outcome}
-use Rattle.service_rules.specs.OwnWrites.{ErasedSince}
-use Rattle.service_laws.specs.OwnWrites.{OwnInvariant}
 use Rattle.service_laws.proofs.Unwritten.{erased_past, erased_now}
 use Rattle.service_laws.proofs.OpenRows.{own_cell}
 use Rattle.service_laws.proofs.SweptRows.{gone_told}

@@ -1,17 +1,9 @@
 -- Own writes stand: at first, after every event, and in every history.
-use Rattle.std.proofs.Common.{◌≡◌, ℕ, List, [], ◌∷◌, ◌++◌, append_assoc, sym, subst}
-use Rattle.std.proofs.lemmas.List.{append-nil}
-use Rattle.std.proofs.lemmas.Option.{none-some}
-use Rattle.history_book.specs.Isolation.{Wrote, last_write}
-use Rattle.history_book.specs.declared.item.Item.{Item}
-use Rattle.system_parts.specs.KeyRead.{Reading}
-use Rattle.machine.specs.State.{Reads, Client, State, opening}
-use Rattle.machine.specs.Machine.{Step, stepped, Move, state_after, items_after, AreSteady}
-use Rattle.isolation_laws.specs.Words.{ClientAt}
-use Rattle.isolation_laws.specs.Sound.{ReachedInvariant}
-use Rattle.isolation_laws.proofs.AlwaysHolds.{each_outcome, facts_stay, steady_now, steady_stays, stands_at_first}
-use Rattle.service_rules.specs.OwnWrites.{ErasedSince, OwnWritesStand}
-use Rattle.service_laws.specs.OwnWrites.{OwnInvariant, OwnAtFirst, EventsKeepOwn, OwnAlways}
+use Rattle.service_laws.proofs.Names.{◌≡◌, ℕ, List, [], ◌∷◌, ◌++◌, append_assoc, sym, subst, append-nil, none-some}
+use Rattle.service_laws.proofs.Names.{Wrote, last_write, Item, Reading, Reads, Client, State, opening, Step, stepped}
+use Rattle.service_laws.proofs.Names.{Move, state_after, items_after, AreSteady, ClientAt, ReachedInvariant}
+use Rattle.service_laws.proofs.Names.{each_outcome, facts_stay, steady_now, steady_stays, stands_at_first, ErasedSince}
+use Rattle.service_laws.proofs.Names.{OwnWritesStand, OwnInvariant, OwnAtFirst, EventsKeepOwn, OwnAlways}
 use Rattle.service_laws.proofs.OwnCells.{cells_erased}
 use Rattle.service_laws.proofs.OwnReads.{reads_erased, stands_still}
 

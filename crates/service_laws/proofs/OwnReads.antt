@@ -1,34 +1,17 @@
 -- Reads under way, and reads that are answered, of keys that their transaction wrote.
-use Rattle.std.proofs.Common.{◌≡◌, ℕ, List, [], ◌∷◌, ◌++◌, append_assoc, Option, None, Some, ◌⊎◌, inl, inr, refl, sym, ◌∙◌, ap, subst}
-use Rattle.std.proofs.lemmas.List.{append-nil}
-use Rattle.history_book.specs.Members.{◌∈◌}
-use Rattle.history_book.specs.Isolation.{Wrote, last_write}
-use Rattle.history_book.specs.declared.item.Found.{Found}
-use Rattle.history_book.specs.declared.item.Item.{Item}
-use Rattle.history_book.specs.declared.item.Item.TheVariants.{Read}
-use Rattle.history_book.proofs.MemberLemmas.{AtEach-push}
-use Rattle.system_parts.specs.Rows.{fetched, front_of}
-use Rattle.system_parts.specs.KeyRead.{Reading, ReadTurn, Asks, Answers, read_ask}
-use Rattle.system_parts.specs.Cache.{put_fresh, cache_learnt, learnt_by}
-use Rattle.machine.specs.State.{Reads, Client, State}
-use Rattle.machine.specs.StoreSteps.{told_by}
-use Rattle.machine.specs.Events.Fetch.{marks_every, found_of, client_read, read_items}
-use Rattle.machine.specs.Quiet.{Quiet}
-use Rattle.machine.specs.Outcome.OutcomesOfSessions.{WroteOne, wrote_state, wrote_items}
-use Rattle.machine.specs.Outcome.OutcomesOfWork.{Fetched, fetched_turn, fetched_client, fetched_state, fetched_items, ReadStepped, read_turn, read_client, read_stepped_state, read_stepped_items}
-use Rattle.machine.specs.Outcome.Outcomes.{Outcome, OfWrote, OfFetched, OfReadStepped, left_by, told_by_outcome}
-use Rattle.machine.proofs.Lookups.{client_set, one_client}
-use Rattle.isolation_laws.specs.Words.{ClientAt, Begun}
-use Rattle.isolation_laws.specs.IsolationInvariant.{IsolationInvariant}
-use Rattle.isolation_laws.proofs.Holding.LeftAlone.{alone}
-use Rattle.isolation_laws.proofs.Pushed.{not_true}
-use Rattle.isolation_laws.proofs.OnceEach.{begun_once}
+use Rattle.service_laws.proofs.Names.{◌≡◌, ℕ, List, [], ◌∷◌, ◌++◌, append_assoc, Option, None, Some, ◌⊎◌, inl, inr}
+use Rattle.service_laws.proofs.Names.{refl, sym, ◌∙◌, ap, subst, append-nil, ◌∈◌, Wrote, last_write, Found, Item, Read}
+use Rattle.service_laws.proofs.Names.{AtEach-push, fetched, front_of, Reading, ReadTurn, Asks, Answers, read_ask}
+use Rattle.service_laws.proofs.Names.{put_fresh, cache_learnt, learnt_by, Reads, Client, State, told_by, marks_every}
+use Rattle.service_laws.proofs.Names.{found_of, client_read, read_items, Quiet, WroteOne, wrote_state, wrote_items}
+use Rattle.service_laws.proofs.Names.{Fetched, fetched_turn, fetched_client, fetched_state, fetched_items, ReadStepped}
+use Rattle.service_laws.proofs.Names.{read_turn, read_client, read_stepped_state, read_stepped_items, Outcome, OfWrote}
+use Rattle.service_laws.proofs.Names.{OfFetched, OfReadStepped, left_by, told_by_outcome, client_set, one_client}
+use Rattle.service_laws.proofs.Names.{ClientAt, Begun, IsolationInvariant, alone, not_true, begun_once, opens}
+use Rattle.service_laws.proofs.Names.{ErasedSince, OwnStands, ReadsOwn, OwnWritesStand, OwnInvariant}
 use Rattle.isolation_laws.proofs.Requests.ClientsIdle.{FewerReading, nothing_reads, idle_reads}
-use Rattle.isolation_laws.proofs.Requests.RequestsOfMoves.{opens}
 use Rattle.service_laws.proofs.OpenRows.{has_begun}
 use Rattle.service_laws.proofs.ReadTurns.{IsTurnOf, fetched_of, told_of}
-use Rattle.service_rules.specs.OwnWrites.{ErasedSince, OwnStands, ReadsOwn, OwnWritesStand}
-use Rattle.service_laws.specs.OwnWrites.{OwnInvariant}
 use Rattle.service_laws.proofs.Unwritten.{Unwritten, quiet_unwritten, one_unwritten, write_unwritten, last_write-past, erased_past, own_past}
 use Rattle.service_laws.proofs.WritesBefore.{nothing_written}
 use Rattle.service_laws.proofs.OwnCells.{AnswersOwn, fetched_owns}

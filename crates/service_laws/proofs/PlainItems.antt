@@ -1,31 +1,17 @@
 -- Which items tell no commit, and no refusal that ends one for good: most outcomes tell nothing else.
-use Rattle.std.proofs.Common.{◌≡◌, ℕ, ◌+◌, Bool, true, false, if◌then◌else◌, List, [], ◌∷◌, Option, None, Some, inl, inr, refl, sym, ◌∙◌, ap, subst, ◌⊎◌}
-use Rattle.std.specs.Prelude.{All}
-use Rattle.std.proofs.lemmas.List.Elements.{All-nil, All-cons, All-head, All-tail, All-append, All-weaker}
-use Rattle.history_book.specs.Members.{◌∈◌}
-use Rattle.history_book.specs.declared.cause.Cause.{Cause}
+use Rattle.service_laws.proofs.Names.{◌≡◌, ℕ, ◌+◌, Bool, true, false, if◌then◌else◌, List, [], ◌∷◌, Option, None, Some}
+use Rattle.service_laws.proofs.Names.{inl, inr, refl, sym, ◌∙◌, ap, subst, ◌⊎◌, All, All-nil, All-cons, All-head}
+use Rattle.service_laws.proofs.Names.{All-tail, All-append, All-weaker, ◌∈◌, Cause, Session, Handed, Item, granted}
+use Rattle.service_laws.proofs.Names.{Held, Request, Begin, Commit, Client, State, loss_heard, loss_items}
+use Rattle.service_laws.proofs.Names.{crashed_items, all_crashed_items, draw_item, rules_of, take_item, Silent}
+use Rattle.service_laws.proofs.Names.{AllSilent, fault_if, Outcome, OfGranted, OfCrashed, OfAskedBegin, OfAskedCommit}
+use Rattle.service_laws.proofs.Names.{OfAccepted, OfEnded, OfDrew, OfAnsweredBegin, OfAnsweredCommit, OfHanded}
+use Rattle.service_laws.proofs.Names.{OfOwnPlaced, OfOwnNotPlaced, OfOutcome, told_by_outcome, ends_request, not_true}
+use Rattle.service_laws.proofs.Names.{fault_if_silent, silent_items, ends_for_good}
 use Rattle.history_book.specs.declared.cause.Cause.TheVariants as cause
-use Rattle.history_book.specs.declared.item.Actor.TheVariants.{Session}
-use Rattle.history_book.specs.declared.item.StoreStep.TheVariants.{Handed}
-use Rattle.history_book.specs.declared.item.Item.{Item}
 use Rattle.history_book.specs.declared.item.Item.TheVariants as item
-use Rattle.system_parts.specs.Record.{granted}
 use Rattle.system_parts.specs.declared.session.State as state
 use Rattle.system_parts.specs.declared.session.State.TheVariants as phase
-use Rattle.system_parts.specs.declared.instance.Held.{Held}
-use Rattle.system_parts.specs.declared.instance.Request.{Request}
-use Rattle.system_parts.specs.declared.instance.Request.TheVariants.{Begin, Commit}
-use Rattle.machine.specs.State.{Client, State}
-use Rattle.machine.specs.Events.Crash.{loss_heard, loss_items, crashed_items, all_crashed_items}
-use Rattle.machine.specs.Events.Decide.{draw_item}
-use Rattle.machine.specs.Events.Take.{rules_of, take_item}
-use Rattle.machine.specs.Plain.{Silent, AllSilent}
-use Rattle.machine.specs.Outcome.OutcomesOfRecord.{fault_if}
-use Rattle.machine.specs.Outcome.Outcomes.{Outcome, OfGranted, OfCrashed, OfAskedBegin, OfAskedCommit, OfAccepted, OfEnded, OfDrew, OfAnsweredBegin, OfAnsweredCommit, OfHanded, OfOwnPlaced, OfOwnNotPlaced, OfOutcome, told_by_outcome}
-use Rattle.cause_rules.specs.OpenAsks.{ends_request}
-use Rattle.isolation_laws.proofs.Pushed.{not_true}
-use Rattle.cause_laws.proofs.SilentOutcomes.{fault_if_silent, silent_items}
-use Rattle.service_rules.specs.Told.{ends_for_good}
 
 -- the item tells a commit, or refuses one for good
 abbrev pub tells_outcome : Item → Bool

@@ -1,16 +1,12 @@
 -- A read that goes on keeps its start and its key.
-use Rattle.std.proofs.Common.{◌≡◌, ℕ, Bool, ◌==◌, ◌||◌, is_some, List, [], ◌∷◌, inl, inr, refl, sym, ap, subst}
-use Rattle.std.specs.Prelude.{nat_lt}
-use Rattle.std.proofs.lemmas.Bool.{cases_Bool}
-use Rattle.system_parts.specs.declared.rows.Cell.{Cell}
+use Rattle.service_laws.proofs.Names.{◌≡◌, ℕ, Bool, ◌==◌, ◌||◌, is_some, List, [], ◌∷◌, inl, inr, refl, sym, ap, subst}
+use Rattle.service_laws.proofs.Names.{nat_lt, cases_Bool, Cell, Told, SettleTurn, Goes, Decides, settle_turn, Reading}
+use Rattle.service_laws.proofs.Names.{ReadTurn, Asks, Answers, found_none, found_cell, found_by, settling_of}
+use Rattle.service_laws.proofs.Names.{after_passed, turn_at, read_over, Cache, outcome_known, recalled_over}
+use Rattle.service_laws.proofs.Names.{recalled_told, AnyCache, Recalls, come_to, over_holds, told_holds}
 use Rattle.system_parts.specs.declared.resolve.Outcome.TheVariants.{Committed, Dead}
 use Rattle.system_parts.specs.declared.key_read.Answer.{Answer}
-use Rattle.system_parts.specs.declared.asks.Told.{Told}
-use Rattle.system_parts.specs.Resolve.{SettleTurn, Goes, Decides, settle_turn}
-use Rattle.system_parts.specs.KeyRead.{Reading, ReadTurn, Asks, Answers, found_none, found_cell, found_by, settling_of, after_passed, turn_at, read_over, read_by}
-use Rattle.system_parts.specs.Cache.{Cache}
-use Rattle.system_parts.specs.Recalled.{outcome_known, recalled_over, recalled_told}
-use Rattle.system_parts.proofs.RecalledLemmas.{AnyCache, Recalls, come_to, over_holds, told_holds}
+use Rattle.system_parts.specs.KeyRead.{read_by}
 
 abbrev pub IsTurnOf : ℕ → ℕ → ReadTurn → Type 0
 IsTurnOf b k turn = (r : Reading) → turn ≡ Asks r → (r.start ≡ b) × (r.key ≡ k)

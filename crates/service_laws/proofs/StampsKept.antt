@@ -1,48 +1,25 @@
 -- Stamps keep to real time: at first, and after every event.
-use Rattle.std.proofs.Common.{◌≡◌, ℕ, ◌+◌, ◌<◌, ◌≤◌, zero, suc, if◌then◌else◌, List, [], ◌∷◌, ◌++◌, append_assoc, Option, None, Some, inl, inr, refl, sym, ◌∙◌, ap, subst, arith, is_some, take}
-use Rattle.std.specs.Prelude.{slice_get, replicate}
-use Rattle.std.proofs.lemmas.Bool.{eq-eqb}
-use Rattle.std.proofs.lemmas.List.{append-nil}
-use Rattle.std.proofs.lemmas.Option.{same_Some, none-some}
-use Rattle.stamp_base.specs.SetupNumbers.{SetupNumbers, AreInRange}
-use Rattle.history_book.specs.Members.{◌∈◌, AtEach}
-use Rattle.history_book.specs.Isolation.{Committed}
-use Rattle.history_book.specs.declared.item.Actor.{Actor}
-use Rattle.history_book.specs.declared.item.Actor.TheVariants.{Session}
-use Rattle.history_book.specs.declared.item.StoreStep.TheVariants.{Handed}
-use Rattle.history_book.specs.declared.item.Item.{Item}
+use Rattle.service_laws.proofs.Names.{◌≡◌, ℕ, ◌+◌, ◌<◌, ◌≤◌, zero, suc, if◌then◌else◌, List, [], ◌∷◌, ◌++◌}
+use Rattle.service_laws.proofs.Names.{append_assoc, Option, None, Some, inl, inr, refl, sym, ◌∙◌, ap, subst, arith}
+use Rattle.service_laws.proofs.Names.{is_some, take, replicate, eq-eqb, append-nil, same_Some, none-some, SetupNumbers}
+use Rattle.service_laws.proofs.Names.{AreInRange, ◌∈◌, AtEach, Committed, Actor, Session, Handed, Item, AtEach-push}
+use Rattle.service_laws.proofs.Names.{in_front, Held, Request, Begin, Commit, InstanceEntry, session_of, moved}
+use Rattle.service_laws.proofs.Names.{drawn_as, State, opening, Step, stepped, Move, state_after, items_after}
+use Rattle.service_laws.proofs.Names.{history_after, reading_of, IsSteadyAt, AreSteady, Steady, draw_item, Accepted}
+use Rattle.service_laws.proofs.Names.{AcceptedSteadily, accepted_state, Drew, drew_instance, drew_state, drew_items}
+use Rattle.service_laws.proofs.Names.{AnsweredBegin, HandedOver, Outcome, OfAskedBegin, OfAskedCommit, OfAccepted}
+use Rattle.service_laws.proofs.Names.{OfDrew, OfAnsweredBegin, OfHanded, left_by, told_by_outcome, IsTimely}
+use Rattle.service_laws.proofs.Names.{instance_changed, heldby_changed, held_by, commit_own, InstanceAt, HeldBy}
+use Rattle.service_laws.proofs.Names.{DrewCommit, drawn_stamp, IsolationInvariant, comes_by, steady_now, steady_stays}
+use Rattle.service_laws.proofs.Names.{alone, place_of, accepts_now, drawn_below_last, not_true, in_append}
+use Rattle.service_laws.proofs.Names.{drawn_as_stamp, begin_held, ExplainedInvariant, tells_stay, tells_at_first}
+use Rattle.service_laws.proofs.Names.{open_asks_of, WasPlaced, stamp_told, ToldBeforeAsk, StampAbove, StartsAboveOwn}
+use Rattle.service_laws.proofs.Names.{CommitsBelowOwn, ToldInvariant}
+use Rattle.std.specs.Prelude.{slice_get}
 use Rattle.history_book.specs.declared.item.Item.TheVariants as item
-use Rattle.history_book.proofs.MemberLemmas.{AtEach-push, in_front}
-use Rattle.system_parts.specs.declared.instance.Held.{Held}
 use Rattle.system_parts.specs.declared.instance.Progress.TheVariants as progress
-use Rattle.system_parts.specs.declared.instance.Request.{Request}
-use Rattle.system_parts.specs.declared.instance.Request.TheVariants.{Begin, Commit}
-use Rattle.system_parts.specs.Instance.{InstanceEntry, session_of}
-use Rattle.system_parts.specs.InstanceSteps.{moved, drawn_as}
-use Rattle.machine.specs.State.{State, opening}
-use Rattle.machine.specs.Machine.{Step, stepped, Move, state_after, items_after, history_after, reading_of, IsSteadyAt, AreSteady, Steady}
-use Rattle.machine.specs.Events.Decide.{draw_item}
-use Rattle.machine.specs.Outcome.OutcomesOfRequests.{Accepted, AcceptedSteadily, accepted_state}
-use Rattle.machine.specs.Outcome.OutcomesOfStamps.{Drew, drew_instance, drew_state, drew_items, AnsweredBegin, HandedOver}
-use Rattle.machine.specs.Outcome.Outcomes.{Outcome, OfAskedBegin, OfAskedCommit, OfAccepted, OfDrew, OfAnsweredBegin, OfHanded, left_by, told_by_outcome, IsTimely}
-use Rattle.machine.proofs.Lookups.{instance_changed, heldby_changed, held_by, commit_own}
 use Rattle.machine.proofs.Outcome.Readings.{steadily}
-use Rattle.isolation_laws.specs.Words.{InstanceAt, HeldBy, DrewCommit, drawn_stamp}
-use Rattle.isolation_laws.specs.IsolationInvariant.{IsolationInvariant}
-use Rattle.isolation_laws.proofs.AlwaysHolds.{comes_by, steady_now, steady_stays}
-use Rattle.isolation_laws.proofs.Holding.LeftAlone.{alone}
-use Rattle.isolation_laws.proofs.OnceEach.{place_of}
-use Rattle.isolation_laws.proofs.Owners.{accepts_now, drawn_below_last}
-use Rattle.isolation_laws.proofs.Pushed.{not_true, in_append}
 use Rattle.isolation_laws.proofs.Requests.CommitsInFlight.{FewerStanding, IsAcceptedNow, IsDrawnNow}
-use Rattle.isolation_laws.proofs.Requests.PendingAfter.{drawn_as_stamp}
-use Rattle.isolation_laws.proofs.Requests.RequestsOfBegins.{begin_held}
-use Rattle.cause_laws.specs.ShownInvariant.{ExplainedInvariant}
-use Rattle.cause_laws.proofs.AlwaysExplained.{tells_stay, tells_at_first}
-use Rattle.cause_rules.specs.OpenAsks.{open_asks_of}
-use Rattle.service_rules.specs.Told.{WasPlaced}
-use Rattle.service_rules.specs.Stamps.{stamp_told, ToldBeforeAsk, StampAbove, StartsAboveOwn, CommitsBelowOwn}
-use Rattle.service_laws.specs.Told.{ToldInvariant}
 use Rattle.service_laws.specs.Stamps.{StampInvariant, StampsAtFirst, EventsKeepStamps, StampsAlways, SnapshotsAlways}
 use Rattle.service_laws.proofs.CalmItems.{IsCalm, calm_in, others_calm, NoAsks, calm_asks_none, draw_asks_none, served_asks_none, each_calm}
 use Rattle.service_laws.proofs.ToldBefore.{told_earlier, was_told, told_own}

@@ -1,29 +1,12 @@
 -- So the event that takes the row of an open transaction away is a step of the sweep, and tells the erase, or a failed call on the
 -- cells.
-use Rattle.std.proofs.Common.{◌≡◌, ℕ, List, Option, None, Some, inl, inr, refl, sym, ◌∙◌, ap, subst}
-use Rattle.std.proofs.lemmas.Option.{none-some}
-use Rattle.port_io.specs.declared.weather.Fate.{Fate}
-use Rattle.port_io.specs.declared.weather.Fate.TheVariants.{Works, FailsUnchanged, FailsApplied}
-use Rattle.history_book.specs.Members.{◌∈◌}
-use Rattle.history_book.specs.declared.item.Actor.TheVariants.{Janitor}
-use Rattle.history_book.specs.declared.item.Item.{Item}
-use Rattle.system_parts.specs.declared.rows.Cell.{Cell}
-use Rattle.system_parts.specs.Rows.{Row, looked}
-use Rattle.system_parts.specs.Pairs.{Pairs}
-use Rattle.system_parts.specs.declared.asks.Ask.{Ask}
+use Rattle.service_laws.proofs.Names.{◌≡◌, ℕ, List, Option, None, Some, inl, inr, refl, sym, ◌∙◌, ap, subst, none-some}
+use Rattle.service_laws.proofs.Names.{Fate, Works, FailsUnchanged, FailsApplied, ◌∈◌, Janitor, Item, Cell, Row, looked}
+use Rattle.service_laws.proofs.Names.{Pairs, Ask, Sweeping, sweep_ask, Event, State, stepped, met, sweep_at, sweep_met}
+use Rattle.service_laws.proofs.Names.{sweep_step_on, OpenAt, ReachedInvariant, each_outcome, ErasedIn}
 use Rattle.system_parts.specs.declared.asks.Ask.TheVariants as ask
-use Rattle.system_parts.specs.Sweep.{Sweeping, sweep_ask}
-use Rattle.machine.specs.declared.event.Event.{Event}
 use Rattle.machine.specs.declared.event.Event.TheVariants as event
-use Rattle.machine.specs.State.{State}
-use Rattle.machine.specs.Machine.{stepped}
-use Rattle.machine.specs.StoreSteps.{met}
-use Rattle.machine.specs.Events.SweepStep.{sweep_at, sweep_met, sweep_step_on}
 use Rattle.machine.proofs.PartsKept.{leaves_parts}
-use Rattle.isolation_laws.specs.Words.{OpenAt}
-use Rattle.isolation_laws.specs.Sound.{ReachedInvariant}
-use Rattle.isolation_laws.proofs.AlwaysHolds.{each_outcome}
-use Rattle.service_rules.specs.OwnWrites.{ErasedIn}
 use Rattle.service_laws.proofs.ErasedRows.{IsSweptAway, gone_swept}
 
 -- a sweep that is to erase the cell tells it

@@ -1,15 +1,9 @@
 -- What was told before a session asked: in a longer history in which it asks nothing more, and where its ask is open.
-use Rattle.std.proofs.Common.{◌≡◌, ℕ, ◌==◌, Bool, true, false, ◌&&◌, fold, List, [], ◌∷◌, ◌++◌, Some, inl, inr, refl, sym, ◌∙◌, ap, subst, ◌⊎◌, arith}
-use Rattle.std.specs.Prelude.{All}
-use Rattle.std.proofs.lemmas.Bool.{cases_Bool}
-use Rattle.std.proofs.lemmas.List.Elements.{All-nil, All-cons, All-head, All-tail}
-use Rattle.history_book.specs.Members.{◌∈◌}
-use Rattle.history_book.specs.declared.item.Item.{Item}
+use Rattle.service_laws.proofs.Names.{◌≡◌, ℕ, ◌==◌, Bool, true, false, ◌&&◌, fold, List, [], ◌∷◌, ◌++◌, Some, inl, inr}
+use Rattle.service_laws.proofs.Names.{refl, sym, ◌∙◌, ap, subst, ◌⊎◌, arith, All, cases_Bool, All-nil, All-cons}
+use Rattle.service_laws.proofs.Names.{All-head, All-tail, ◌∈◌, Item, asks_for, closes, asks_at, open_then, open_asks_of}
+use Rattle.service_laws.proofs.Names.{not_true, in_append, stamp_told, WasTold, ToldBeforeAsk}
 use Rattle.history_book.specs.declared.item.Item.TheVariants as item
-use Rattle.cause_rules.specs.Asks.{asks_for}
-use Rattle.cause_rules.specs.OpenAsks.{closes, asks_at, open_then, open_asks_of}
-use Rattle.isolation_laws.proofs.Pushed.{not_true, in_append}
-use Rattle.service_rules.specs.Stamps.{stamp_told, WasTold, ToldBeforeAsk}
 use Rattle.service_laws.proofs.CalmItems.{IsNoAsk, NoAsks}
 
 -- ---- a longer history

@@ -1,50 +1,28 @@
 -- What an outcome tells as committed is placed, and what it refuses for good is lost.
-use Rattle.std.proofs.Common.{◌≡◌, ℕ, zero, suc, Bool, true, false, List, [], ◌∷◌, ◌++◌, Option, None, Some, inl, inr, refl, sym, ◌∙◌, ap, subst, take, slice_get, ◌⊎◌}
-use Rattle.std.specs.Prelude.{slice_set}
-use Rattle.std.proofs.lemmas.List.{append-nil}
-use Rattle.std.proofs.lemmas.Option.{same_Some}
-use Rattle.history_book.specs.Members.{◌∈◌}
-use Rattle.history_book.specs.Isolation.{Committed}
-use Rattle.history_book.specs.declared.cause.Cause.{Cause}
+use Rattle.service_laws.proofs.Names.{◌≡◌, ℕ, zero, suc, Bool, true, false, List, [], ◌∷◌, ◌++◌, Option, None, Some}
+use Rattle.service_laws.proofs.Names.{inl, inr, refl, sym, ◌∙◌, ap, subst, take, slice_get, ◌⊎◌, slice_set, append-nil}
+use Rattle.service_laws.proofs.Names.{same_Some, ◌∈◌, Committed, Cause, Session, PutFound, Item, in_front, in_back}
+use Rattle.service_laws.proofs.Names.{in_at, SettleTurn, Goes, Decides, settle_ask, settle_turn, Request, Begin, Commit}
+use Rattle.service_laws.proofs.Names.{Settled, Completes, Client, State, told_by, client_committed, client_aborted}
+use Rattle.service_laws.proofs.Names.{finish_of, client_settled, settle_items, set_found, held_by, commit_own, Ended}
+use Rattle.service_laws.proofs.Names.{ended_state, AnsweredCommit, answered_commit_state, answered_client}
+use Rattle.service_laws.proofs.Names.{answered_item, OwnPlaced, OwnNotPlaced, own_not_placed_state, own_told}
+use Rattle.service_laws.proofs.Names.{OutcomeStepped, outcome_state, Outcome, OfEnded, OfAnsweredCommit, OfOwnPlaced}
+use Rattle.service_laws.proofs.Names.{OfOwnNotPlaced, OfOutcome, left_by, told_by_outcome, ask_by, its_ask, start_asked}
+use Rattle.service_laws.proofs.Names.{HeldBy, ClientAt, Begun, Stage, Waits, Taken, InFlight, HeldPending}
+use Rattle.service_laws.proofs.Names.{IsolationInvariant, IsLost, holds_kept, pending_unplaced, not_true, old_placed}
+use Rattle.service_laws.proofs.Names.{ExplainedInvariant, last_told-push, ends_for_good}
 use Rattle.history_book.specs.declared.cause.Cause.TheVariants as cause
-use Rattle.history_book.specs.declared.item.Actor.TheVariants.{Session}
-use Rattle.history_book.specs.declared.item.StoreStep.TheVariants.{PutFound}
-use Rattle.history_book.specs.declared.item.Item.{Item}
 use Rattle.history_book.specs.declared.item.Item.TheVariants as item
-use Rattle.history_book.proofs.MemberLemmas.{in_front, in_back, in_at}
 use Rattle.system_parts.specs.declared.resolve.Outcome.TheVariants as outcome
-use Rattle.system_parts.specs.Resolve.{SettleTurn, Goes, Decides, settle_ask, settle_turn}
 use Rattle.system_parts.specs.Completion.{finish_asks}
 use Rattle.system_parts.specs.declared.instance.Progress.TheVariants as progress
-use Rattle.system_parts.specs.declared.instance.Request.{Request}
-use Rattle.system_parts.specs.declared.instance.Request.TheVariants.{Begin, Commit}
-use Rattle.system_parts.specs.declared.instance.Settled.{Settled}
 use Rattle.system_parts.specs.declared.instance.Settled.TheVariants as how
-use Rattle.machine.specs.State.{Completes, Client, State}
-use Rattle.machine.specs.StoreSteps.{told_by}
-use Rattle.machine.specs.Clients.{client_committed, client_aborted, finish_of}
-use Rattle.machine.specs.Events.Step.{client_settled, settle_items}
-use Rattle.machine.proofs.Lookups.{set_found, held_by, commit_own}
-use Rattle.machine.specs.Outcome.OutcomesOfRequests.{Ended, ended_state}
-use Rattle.machine.specs.Outcome.OutcomesOfStamps.{AnsweredCommit, answered_commit_state, answered_client, answered_item}
-use Rattle.machine.specs.Outcome.OutcomesOfPlacings.{OwnPlaced, OwnNotPlaced, own_not_placed_state, own_told}
-use Rattle.machine.specs.Outcome.OutcomesOfWork.{OutcomeStepped, outcome_state}
-use Rattle.machine.specs.Outcome.Outcomes.{Outcome, OfEnded, OfAnsweredCommit, OfOwnPlaced, OfOwnNotPlaced, OfOutcome, left_by, told_by_outcome}
-use Rattle.cause_rules.specs.Asks.{Ask, ask_by, its_ask, start_asked}
-use Rattle.isolation_laws.specs.Words.{HeldBy, ClientAt, Begun}
-use Rattle.isolation_laws.specs.Pending.{Stage, Waits, Taken, InFlight, HeldPending}
+use Rattle.cause_rules.specs.Asks.{Ask}
 use Rattle.isolation_laws.specs.Requests.{IsSettled}
-use Rattle.isolation_laws.specs.IsolationInvariant.{IsolationInvariant}
-use Rattle.isolation_laws.specs.Laws.{IsLost}
-use Rattle.isolation_laws.proofs.AlwaysHolds.{holds_kept}
-use Rattle.isolation_laws.proofs.Owners.{pending_unplaced}
 use Rattle.isolation_laws.proofs.Numbers.Placings.{own_in_flight, own_placing}
-use Rattle.isolation_laws.proofs.Pushed.{not_true, old_placed}
 use Rattle.isolation_laws.proofs.Requests.ClientMoves.{at_work_after}
 use Rattle.cause_laws.specs.Requests.{ask_for}
-use Rattle.cause_laws.specs.ShownInvariant.{ExplainedInvariant}
-use Rattle.cause_laws.proofs.SinceWords.{last_told-push}
-use Rattle.service_rules.specs.Told.{ends_for_good}
 use Rattle.service_laws.proofs.DeadTransactions.{aborted_idle, idle_dead, over_dead}
 use Rattle.service_laws.proofs.PlainItems.{TellsNone, none_in, silent_tells_none, others_tell_none}
 

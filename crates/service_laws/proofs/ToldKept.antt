@@ -1,26 +1,17 @@
 -- What sessions are told is true: at first, and after every event.
-use Rattle.std.proofs.Common.{◌≡◌, ℕ, zero, suc, Bool, true, false, if◌then◌else◌, List, [], ◌∷◌, ◌++◌, append_assoc, Option, None, Some, inl, inr, refl, sym, subst, take, slice_get}
-use Rattle.std.proofs.lemmas.List.{append-nil}
-use Rattle.port_io.specs.declared.weather.Fate.{Fate}
-use Rattle.history_book.specs.Members.{◌∈◌}
-use Rattle.history_book.specs.Isolation.{Committed, Stamped}
-use Rattle.history_book.specs.declared.item.Actor.TheVariants.{Session}
-use Rattle.history_book.specs.declared.item.Item.{Item}
+use Rattle.service_laws.proofs.Names.{◌≡◌, ℕ, zero, suc, Bool, true, false, if◌then◌else◌, List, [], ◌∷◌, ◌++◌}
+use Rattle.service_laws.proofs.Names.{append_assoc, Option, None, Some, inl, inr, refl, sym, subst, take, slice_get}
+use Rattle.service_laws.proofs.Names.{append-nil, Fate, ◌∈◌, Committed, Stamped, Session, Item, in_at, AtEach-weaker}
+use Rattle.service_laws.proofs.Names.{Event, State, opening, Step, stepped, Move, state_after, items_after}
+use Rattle.service_laws.proofs.Names.{history_after, AreSteady, IsLost, each_outcome, steady_now, steady_stays}
+use Rattle.service_laws.proofs.Names.{histories_are_isolated, place_of, one_commit, its_ask, start_asked}
+use Rattle.service_laws.proofs.Names.{ExplainedInvariant, tells_stay, tells_at_first, WasPlaced, ends_for_good}
+use Rattle.service_laws.proofs.Names.{NeverPlaced, ToldIsTrue, NeverToldCommitted, OneOutcome, IsToldLost}
+use Rattle.service_laws.proofs.Names.{ToldInvariant, ToldAtFirst, EventsKeepTold, ToldTrueNow, ToldTrueAlways}
+use Rattle.service_laws.proofs.Names.{OneOutcomeAlways}
 use Rattle.history_book.specs.declared.item.Item.TheVariants as item
-use Rattle.history_book.proofs.MemberLemmas.{in_at, AtEach-weaker}
-use Rattle.machine.specs.declared.event.Event.{Event}
-use Rattle.machine.specs.State.{State, opening}
-use Rattle.machine.specs.Machine.{Step, stepped, Move, state_after, items_after, history_after, AreSteady}
-use Rattle.isolation_laws.specs.Laws.{IsLost}
-use Rattle.isolation_laws.proofs.AlwaysHolds.{each_outcome, steady_now, steady_stays, histories_are_isolated}
 use Rattle.isolation_laws.proofs.Holding.NeverPlaced.{lost_outcome}
-use Rattle.isolation_laws.proofs.OnceEach.{place_of, one_commit}
-use Rattle.cause_rules.specs.Asks.{its_ask, start_asked}
-use Rattle.cause_laws.specs.ShownInvariant.{ExplainedInvariant}
-use Rattle.cause_laws.proofs.AlwaysExplained.{tells_stay, tells_at_first}
 use Rattle.cause_laws.proofs.LongerHistories.{each_longer}
-use Rattle.service_rules.specs.Told.{WasPlaced, ends_for_good, NeverPlaced, ToldIsTrue, NeverToldCommitted, OneOutcome}
-use Rattle.service_laws.specs.Told.{IsToldLost, ToldInvariant, ToldAtFirst, EventsKeepTold, ToldTrueNow, ToldTrueAlways, OneOutcomeAlways}
 use Rattle.service_laws.proofs.ToldItems.{committed_now, refused_now}
 use Rattle.service_laws.proofs.EndItems.{ended_now}
 

@@ -1,27 +1,14 @@
 -- Items that write nothing of a transaction at a key: the last write stays, and what was erased since stays so.
-use Rattle.std.proofs.Common.{◌≡◌, ℕ, false, All, List, [], ◌∷◌, ◌++◌, append_assoc, Option, None, Some, inl, inr, refl, sym, ◌∙◌, ap, subst}
-use Rattle.std.proofs.lemmas.Bool.{cases_eq, ne_eqb, eq-eqb}
-use Rattle.std.proofs.lemmas.List.{append-nil}
-use Rattle.std.proofs.lemmas.List.Elements.{All-nil, All-cons, All-head, All-tail, All-weaker}
-use Rattle.stamp_base.specs.declared.stores.Store.TheVariants.{Cells}
-use Rattle.history_book.specs.Isolation.{last_write, written_by}
-use Rattle.history_book.specs.declared.item.Actor.TheVariants.{Janitor}
-use Rattle.history_book.specs.declared.item.Found.{Found}
-use Rattle.history_book.specs.declared.item.StoreStep.TheVariants.{Erase}
-use Rattle.history_book.specs.declared.item.Item.{Item}
-use Rattle.history_book.specs.declared.item.Item.TheVariants.{Write, Step, Fault}
-use Rattle.history_book.proofs.MemberLemmas.{in_front, in_back}
-use Rattle.system_parts.specs.KeyRead.{ReadTurn, Asks, Answers}
-use Rattle.system_parts.specs.declared.instance.Request.{Request}
-use Rattle.system_parts.specs.declared.instance.Request.TheVariants.{Begin, Commit}
-use Rattle.machine.specs.Events.Decide.{draw_item}
-use Rattle.machine.specs.Events.Fetch.{read_items}
-use Rattle.machine.specs.Quiet.{Quiet, AllQuiet}
-use Rattle.isolation_laws.proofs.Pushed.{not_true}
+use Rattle.service_laws.proofs.Names.{◌≡◌, ℕ, false, List, [], ◌∷◌, ◌++◌, append_assoc, Option, None, Some, inl, inr}
+use Rattle.service_laws.proofs.Names.{refl, sym, ◌∙◌, ap, subst, cases_eq, ne_eqb, eq-eqb, append-nil, All-nil}
+use Rattle.service_laws.proofs.Names.{All-cons, All-head, All-tail, All-weaker, Cells, last_write, written_by, Janitor}
+use Rattle.service_laws.proofs.Names.{Found, Erase, Item, Write, Fault, in_front, in_back, ReadTurn, Asks, Answers}
+use Rattle.service_laws.proofs.Names.{Request, Begin, Commit, draw_item, read_items, Quiet, AllQuiet, not_true}
+use Rattle.service_laws.proofs.Names.{since-more, writes_at, ErasedIn, ErasedSince, OwnStands}
+use Rattle.std.proofs.Common.{All}
+use Rattle.history_book.specs.declared.item.Item.TheVariants.{Step}
 use Rattle.isolation_laws.proofs.Stores.Calm.{last_write-other}
 use Rattle.cause_rules.specs.Since.{since}
-use Rattle.cause_laws.proofs.SinceWords.{since-more}
-use Rattle.service_rules.specs.OwnWrites.{writes_at, ErasedIn, ErasedSince, OwnStands}
 
 abbrev pub IsUnwritten : ℕ → ℕ → Item → Type 0
 IsUnwritten t k x = writes_at t k x ≡ false

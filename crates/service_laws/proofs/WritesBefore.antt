@@ -1,22 +1,13 @@
 -- What an open transaction wrote, where its cell is gone after an outcome, it wrote before it; and of the items only a write writes.
-use Rattle.std.proofs.Common.{◌≡◌, ◌+◌, ℕ, false, List, ◌++◌, None, inl, inr, refl, sym, ◌∙◌, ap}
-use Rattle.std.proofs.lemmas.Option.{none-some}
-use Rattle.history_book.specs.Isolation.{Wrote, last_write}
-use Rattle.history_book.specs.declared.item.Item.{Item}
-use Rattle.system_parts.specs.Rows.{looked}
-use Rattle.machine.specs.State.{State}
-use Rattle.machine.specs.Outcome.OutcomesOfStamps.{AnsweredBegin, answered_begin_items}
-use Rattle.machine.specs.Outcome.OutcomesOfSessions.{WroteOne, wrote_state, wrote_items}
-use Rattle.machine.specs.Outcome.OutcomesOfWork.{fetched_turn, read_turn}
-use Rattle.machine.specs.Outcome.Outcomes.{Outcome, OfAskedBegin, OfDrew, OfPlaced, OfOwnPlaced, OfAnsweredBegin, OfWrote, OfFetched, OfReadStepped, OfSweepListed, left_by, told_by_outcome}
-use Rattle.isolation_laws.specs.Words.{OpenAt}
-use Rattle.isolation_laws.specs.IsolationInvariant.{IsolationInvariant}
+use Rattle.service_laws.proofs.Names.{◌≡◌, ◌+◌, ℕ, false, List, ◌++◌, None, inl, inr, refl, sym, ◌∙◌, ap, none-some}
+use Rattle.service_laws.proofs.Names.{Wrote, last_write, Item, looked, State, AnsweredBegin, answered_begin_items}
+use Rattle.service_laws.proofs.Names.{WroteOne, wrote_state, wrote_items, fetched_turn, read_turn, Outcome}
+use Rattle.service_laws.proofs.Names.{OfAskedBegin, OfDrew, OfPlaced, OfOwnPlaced, OfAnsweredBegin, OfWrote, OfFetched}
+use Rattle.service_laws.proofs.Names.{OfReadStepped, OfSweepListed, left_by, told_by_outcome, OpenAt}
+use Rattle.service_laws.proofs.Names.{IsolationInvariant, alone, start_unbegun, put_cases}
 use Rattle.isolation_laws.proofs.Holding.Alone.{changes}
-use Rattle.isolation_laws.proofs.Holding.LeftAlone.{alone}
 use Rattle.isolation_laws.proofs.Requests.OpenAfter.{open_answered_begin}
-use Rattle.isolation_laws.proofs.Requests.RequestsOfBegins.{start_unbegun}
 use Rattle.isolation_laws.proofs.Requests.WrittenKeys.{last_write-none}
-use Rattle.isolation_laws.proofs.Stores.CellsMove.{put_cases}
 use Rattle.service_laws.proofs.OpenRows.{bare_row}
 use Rattle.service_laws.proofs.Unwritten.{Unwritten, quiet_unwritten, all_unwritten, one_unwritten, then_unwritten, draw_unwritten, turn_unwritten, write_unwritten, last_write-past}
 

@@ -1,13 +1,7 @@
 -- Commits are apart exactly where no pair of items breaks the rule.
-use Rattle.std.proofs.Common.{◌≡◌, ◌≢◌, ◌≤◌, ◌<◌, ℕ, List, Some, slice_get, inl, inr, sym, ap, ◌∙◌, arith}
-use Rattle.std.proofs.lemmas.Bool.{cases_lt}
-use Rattle.std.proofs.lemmas.Option.{same_Some}
-use Rattle.history_book.specs.Isolation.{Apart}
-use Rattle.history_book.specs.declared.item.Item.{Item}
-use Rattle.history_book.specs.declared.item.Item.TheVariants.{Placed}
-use Rattle.history_book.proofs.MemberLemmas.{in_at}
-use Rattle.isolation_rules.specs.ApartPairs.{ShareKey, Overlap, OverlapsPlaced, Overlapping, BreaksApart}
-use Rattle.isolation_rules.proofs.PlaceLemmas.{some_and, and_some, place_of}
+use Rattle.si_judge.proofs.Names.{◌≡◌, ◌≢◌, ◌≤◌, ◌<◌, ℕ, List, Some, slice_get, inl, inr, sym, ap, ◌∙◌, arith, cases_lt}
+use Rattle.si_judge.proofs.Names.{same_Some, Apart, Item, Placed, in_at, ShareKey, Overlap, OverlapsPlaced, Overlapping}
+use Rattle.si_judge.proofs.Names.{BreaksApart, some_and, and_some, place_of}
 
 placed_apart : (h : List Item) → Apart h → (i j t c : ℕ) (y : Item) → slice_get h i ≡ Some (Placed t c) → slice_get h j ≡ Some y → OverlapsPlaced h t c y → ⊥
 placed_apart h apart i j t c (Placed u d) ex ey o =

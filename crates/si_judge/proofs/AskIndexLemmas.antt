@@ -1,18 +1,14 @@
 -- The last ask after one more item, and the least start of those asked for behind a place.
-use Rattle.std.proofs.Common.{◌≡◌, ◌≢◌, ◌≤◌, ◌<◌, ◌||◌, not, if◌then◌else◌, ℕ, zero, suc, Bool, true, false, List, [], ◌∷◌, ◌++◌, Option, Some, None, unwrap_or, length, take, get_or, replicate, slice_get, inl, inr, refl, sym, ap, subst, ◌∙◌, arith, IsSomeAnd, ◌==◌, ◌+◌}
-use Rattle.std.proofs.lemmas.Bool.{cases_eq, cases_lt, eqb-true, eq-eqb}
-use Rattle.std.proofs.lemmas.List.{get_or-set_same, get_or-set_other, get_or_read, length-take-le}
-use Rattle.std.proofs.lemmas.Option.{same_Some, slice_get_within}
-use Rattle.std.proofs.Math.ListN.{set}
-use Rattle.history_book.specs.Isolation.{has_ask, before_ask, asks}
-use Rattle.history_book.specs.declared.item.Item.{Item}
-use Rattle.history_book.specs.declared.item.Item.TheVariants.{AskBegin, Begin, Placed}
+use Rattle.si_judge.proofs.Names.{◌≡◌, ◌≢◌, ◌≤◌, ◌<◌, ◌||◌, not, if◌then◌else◌, ℕ, zero, suc, Bool, true, false, List}
+use Rattle.si_judge.proofs.Names.{[], ◌∷◌, ◌++◌, Option, Some, None, unwrap_or, length, take, get_or, replicate}
+use Rattle.si_judge.proofs.Names.{slice_get, inl, inr, refl, sym, ap, subst, ◌∙◌, arith, IsSomeAnd, ◌==◌, ◌+◌, cases_eq}
+use Rattle.si_judge.proofs.Names.{cases_lt, eqb-true, eq-eqb, get_or-set_same, get_or-set_other, get_or_read}
+use Rattle.si_judge.proofs.Names.{length-take-le, same_Some, slice_get_within, set, has_ask, before_ask, asks, Item}
+use Rattle.si_judge.proofs.Names.{AskBegin, Begin, Placed, ask_place, IsStaleAt, IsStale, Passes, one_at, both_at}
+use Rattle.si_judge.proofs.Names.{and_some, length_take_within, IsNotAbove, IsBelow, IsLastAsk, AreLastAsks, HoldsStart}
+use Rattle.si_judge.proofs.Names.{HasStarts}
 use Rattle.isolation_rules.specs.declared.verdict.Rule.TheVariants as rule
-use Rattle.isolation_rules.specs.FreshPairs.{ask_place, IsStaleAt, IsStale}
-use Rattle.isolation_rules.specs.Judged.{Passes}
-use Rattle.isolation_rules.proofs.PlaceLemmas.{one_at, both_at, and_some, length_take_within}
 use Rattle.isolation_rules.proofs.AskLemmas.{before_no_ask, ask_within}
-use Rattle.si_judge.specs.AskStarts.{IsNotAbove, IsBelow, IsLastAsk, AreLastAsks, HoldsStart, HasStarts}
 
 -- at no place the new start is above the old one
 pub record FallsOnly (old new : List (Option ℕ)) : Type 0 where

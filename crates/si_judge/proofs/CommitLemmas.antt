@@ -1,17 +1,9 @@
 -- What a map of commits holds after one more item, and what is committed by it.
-use Rattle.std.proofs.Common.{◌≡◌, ◌≢◌, ◌<◌, ◌+◌, ℕ, false, List, None, Some, length, slice_get, inl, inr, refl, sym, ap, subst, ◌∙◌, arith}
-use Rattle.std.specs.Prelude.{nat_eq}
-use Rattle.std.specs.HashMap.{Updates, IsEmpty}
-use Rattle.std.proofs.lemmas.Bool.{cases_eq, cases_lt}
-use Rattle.std.proofs.lemmas.Bool.Decides.{nat_tests}
-use Rattle.std.proofs.lemmas.Option.{same_Some, slice_get_within}
-use Rattle.history_book.specs.Isolation.{Committed, Stamped}
-use Rattle.history_book.specs.declared.item.Item.{Item}
-use Rattle.history_book.specs.declared.item.Item.TheVariants.{Placed}
-use Rattle.history_book.proofs.MemberLemmas.{in_at}
-use Rattle.isolation_rules.proofs.PlaceLemmas.{in_take, place_of}
-use Rattle.si_judge.specs.declared.commits.Commit.{Commit}
-use Rattle.si_judge.specs.Commits.{Commits, commit_of, commit_at, NotesCommit, HasCommits}
+use Rattle.si_judge.proofs.Names.{◌≡◌, ◌≢◌, ◌<◌, ◌+◌, ℕ, false, List, None, Some, length, slice_get, inl, inr, refl}
+use Rattle.si_judge.proofs.Names.{sym, ap, subst, ◌∙◌, arith, nat_eq, IsEmpty, cases_eq, cases_lt, nat_tests, same_Some}
+use Rattle.si_judge.proofs.Names.{slice_get_within, Committed, Stamped, Item, Placed, in_at, in_take, place_of, Commit}
+use Rattle.si_judge.proofs.Names.{Commits, commit_of, commit_at, NotesCommit, HasCommits}
+use Rattle.std.specs.HashMap.{Updates}
 
 off_at : (t u : ℕ) → u ≢ t → nat_eq t u ≡ false
 off_at t u other = grind (arith, nat_tests)

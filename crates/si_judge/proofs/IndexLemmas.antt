@@ -1,24 +1,13 @@
 -- The maps of an indexed walk, after one more item, and what they are asked.
-use Rattle.std.proofs.Common.{◌≡◌, ◌≤◌, ◌<◌, ◌==◌, ◌&&◌, ℕ, Bool, true, false, cond, List, [], ◌∷◌, ◌++◌, Option, Some, None, IsSome, is_some, length, ◌⊎◌, inl, inr, refl, sym, ap, subst, ◌∙◌, arith}
-use Rattle.std.specs.Prelude.{nat_eq}
-use Rattle.std.specs.Ordering.{is_lt}
+use Rattle.si_judge.proofs.Names.{◌≡◌, ◌≤◌, ◌<◌, ◌==◌, ◌&&◌, ℕ, Bool, true, false, cond, List, [], ◌∷◌, ◌++◌, Option}
+use Rattle.si_judge.proofs.Names.{Some, None, IsSome, is_some, length, ◌⊎◌, inl, inr, refl, sym, ap, subst, ◌∙◌, arith}
+use Rattle.si_judge.proofs.Names.{nat_eq, is_lt, Excluded, Unbounded, IsInRange, BTreeMap, get, is_at, eqb-true}
+use Rattle.si_judge.proofs.Names.{nat_tests, same_Some, last_write, written_by, Committed, Visible, Newest, Item, Write}
+use Rattle.si_judge.proofs.Names.{Version, IsOwn, IsWritten, last_write_at, pair_cmp, pair_eq, HasVersions, LastWrites}
+use Rattle.si_judge.proofs.Names.{HasLastWrites, Commit, Commits, commit_of, commit_at, HasCommits}
 use Rattle.std.specs.HashMap as hash
-use Rattle.std.specs.declared.ops.Bound.TheVariants.{Excluded, Unbounded}
-use Rattle.std.specs.BTreeMap.Range.{IsInRange}
 use Rattle.std.specs.declared.cmp.Ordering.TheVariants.{Less}
-use Rattle.std.specs.BTreeMap.{BTreeMap, get, is_at, Updates, IsEmpty}
-use Rattle.std.proofs.lemmas.Bool.{eqb-true}
-use Rattle.std.proofs.lemmas.Bool.Decides.{nat_tests}
-use Rattle.std.proofs.lemmas.Option.{same_Some}
-use Rattle.history_book.specs.Isolation.{last_write, written_by, Committed, Visible, Newest}
-use Rattle.history_book.specs.declared.item.Item.{Item}
-use Rattle.history_book.specs.declared.item.Item.TheVariants.{Write}
-use Rattle.isolation_rules.specs.declared.version.Version.{Version}
-use Rattle.isolation_rules.specs.Best.{IsOwn, IsWritten}
-use Rattle.isolation_rules.proofs.WriteLemmas.{last_write_at}
-use Rattle.si_judge.specs.Indexed.{pair_cmp, pair_eq, HasVersions, LastWrites, HasLastWrites}
-use Rattle.si_judge.specs.declared.commits.Commit.{Commit}
-use Rattle.si_judge.specs.Commits.{Commits, commit_of, commit_at, HasCommits}
+use Rattle.std.specs.BTreeMap.{Updates, IsEmpty}
 use Rattle.si_judge.proofs.CommitLemmas.{has_committed, committed_is_held}
 use Rattle.si_judge.proofs.PushLemmas.{write_here, write_stays, last_write_stays, written_is, wrote_or_none}
 

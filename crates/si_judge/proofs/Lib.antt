@@ -1,3 +1,4 @@
+mod Names
 mod ApartLaw
 mod PushLemmas
 mod IndexLemmas

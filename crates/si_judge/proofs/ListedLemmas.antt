@@ -1,13 +1,7 @@
 -- The transactions whose keys were listed, after one more item; tests of one more item.
-use Rattle.std.proofs.Common.{◌≡◌, ◌==◌, ◌||◌, ℕ, Bool, true, false, cond, List, [], ◌∷◌, ◌++◌, refl, sym, ap, ◌∙◌, arith}
-use Rattle.std.specs.List.{list_any}
-use Rattle.std.specs.Prelude.{nat_eq}
-use Rattle.std.specs.HashSet.{contains, Updates}
-use Rattle.std.proofs.lemmas.Bool.Decides.{nat_tests}
+use Rattle.si_judge.proofs.Names.{◌≡◌, ◌==◌, ◌||◌, ℕ, Bool, true, false, cond, List, [], ◌∷◌, ◌++◌, refl, sym, ap, ◌∙◌}
+use Rattle.si_judge.proofs.Names.{arith, list_any, nat_eq, contains, Updates, nat_tests, Item, lists, HasListed, Txns}
 use Rattle.std.proofs.lemmas.List.Folds.{list_any-append}
-use Rattle.history_book.specs.declared.item.Item.{Item}
-use Rattle.isolation_rules.specs.Best.{lists}
-use Rattle.si_judge.specs.Indexed.{HasListed, Txns}
 
 or_false : (a : Bool) → (a || false) ≡ a
 or_false true = refl

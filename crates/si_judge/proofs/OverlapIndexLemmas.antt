@@ -1,32 +1,19 @@
 -- What the maps of commits and of committed writes hold, and what is marked by them.
-use Rattle.std.proofs.Common.{◌≡◌, ◌≤◌, ◌<◌, ◌+◌, ◌==◌, ◌⊎◌, ℕ, zero, suc, Bool, true, false, cond, List, [], ◌∷◌, Option, Some, None, is_some, IfSome, length, get_or, slice_get, inl, inr, refl, sym, ap, subst, ◌∙◌, arith}
-use Rattle.std.specs.Ordering.{nat_cmp}
-use Rattle.std.specs.BTreeMap.{is_at, get, Updates}
-use Rattle.std.specs.BTreeMap.Range.{range_contains, entries_between}
-use Rattle.std.specs.declared.ops.Bound.TheVariants.{Included, Excluded}
-use Rattle.std.specs.List.{list_any, filter}
+use Rattle.si_judge.proofs.Names.{◌≡◌, ◌≤◌, ◌<◌, ◌+◌, ◌==◌, ◌⊎◌, ℕ, zero, suc, Bool, true, false, cond, List, [], ◌∷◌}
+use Rattle.si_judge.proofs.Names.{Option, Some, None, is_some, IfSome, length, get_or, slice_get, inl, inr, refl, sym}
+use Rattle.si_judge.proofs.Names.{ap, subst, ◌∙◌, arith, nat_cmp, is_at, get, range_contains, entries_between, Included}
+use Rattle.si_judge.proofs.Names.{Excluded, list_any, filter, cases_lt, eqb-true, or_cases, nat_tests, same_Some}
+use Rattle.si_judge.proofs.Names.{slice_get_within, ◌∈◌, Wrote, Item, Placed, Write, OverlapsPlaced, Overlapping}
+use Rattle.si_judge.proofs.Names.{writes, Passes, any_writes, and_parts, both_at, Commit, Commits, commit_of, commit_at}
+use Rattle.si_judge.proofs.Names.{HasCommits, IsMarked, KeepsMarks, pair_cmp, Written, HasWrite, HasWrites, KeepsWrites}
+use Rattle.si_judge.proofs.Names.{MarksOverlaps, MarksOwn, MarksAll, HasReached}
+use Rattle.std.specs.BTreeMap.{Updates}
 use Rattle.std.specs.Map.{lookup}
-use Rattle.std.proofs.lemmas.Bool.{cases_lt, eqb-true, or_cases}
-use Rattle.std.proofs.lemmas.Bool.Decides.{nat_tests}
-use Rattle.std.proofs.lemmas.Option.{same_Some, slice_get_within}
 use Rattle.std.proofs.lemmas.Map.Lookups.{exact_pairs, exact_unsigned}
 use Rattle.std.proofs.lemmas.Map.Views.{tells_apart}
-use Rattle.history_book.specs.Members.{◌∈◌}
-use Rattle.history_book.specs.Isolation.{Wrote}
-use Rattle.history_book.specs.declared.item.Item.{Item}
-use Rattle.history_book.specs.declared.item.Item.TheVariants.{Placed, Write}
 use Rattle.isolation_rules.specs.declared.verdict.Rule.TheVariants as rule
-use Rattle.isolation_rules.specs.ApartPairs.{OverlapsPlaced, Overlapping, writes}
-use Rattle.isolation_rules.specs.Judged.{Passes}
-use Rattle.isolation_rules.proofs.KeyLemmas.{any_writes, and_parts}
-use Rattle.isolation_rules.proofs.PlaceLemmas.{both_at}
 use Rattle.si_judge.specs.declared.marks.Marks.{Marks}
-use Rattle.si_judge.specs.declared.commits.Commit.{Commit}
 use Rattle.si_judge.specs.declared.reach.Reach.{Reach}
-use Rattle.si_judge.specs.Commits.{Commits, commit_of, commit_at, HasCommits}
-use Rattle.si_judge.specs.Marks.{IsMarked, KeepsMarks}
-use Rattle.si_judge.specs.Indexed.{pair_cmp}
-use Rattle.si_judge.specs.OverlapIndex.{Written, HasWrite, HasWrites, KeepsWrites, MarksOverlaps, MarksOwn, MarksAll, HasReached}
 
 -- ---- the committed writes
 pub write_noted : (commits : Commits) (old new : Written) (x : Item) (session t k : ℕ) (value : List ℕ) (commit : Commit) → x ≡ Write session t k value → Some commit ≡ commit_of commits t → Updates pair_cmp old new (k, t) (Some commit) → HasWrite commits new x

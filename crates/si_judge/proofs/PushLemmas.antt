@@ -1,13 +1,10 @@
 -- The last write at a key after one more item.
-use Rattle.std.proofs.Common.{◌≡◌, ◌≤◌, ◌<◌, ◌+◌, ◌==◌, ◌&&◌, ℕ, zero, suc, Bool, true, false, if◌then◌else◌, List, [], ◌∷◌, ◌++◌, Option, Some, None, length, take, get_or, refl, sym, ap, ◌∙◌, arith, length-append}
-use Rattle.std.specs.Option.{option_or}
+use Rattle.si_judge.proofs.Names.{◌≡◌, ◌≤◌, ◌<◌, ◌+◌, ◌==◌, ◌&&◌, ℕ, zero, suc, Bool, true, false, if◌then◌else◌, List}
+use Rattle.si_judge.proofs.Names.{[], ◌∷◌, ◌++◌, Option, Some, None, length, take, get_or, refl, sym, ap, ◌∙◌, arith}
+use Rattle.si_judge.proofs.Names.{length-append, option_or, eqb-true, last_write, written_by, Item, Write, written_at}
+use Rattle.si_judge.proofs.Names.{IsLastWrite}
 use Rattle.std.proofs.Math.Seq.{take-suc}
-use Rattle.std.proofs.lemmas.Bool.{eqb-true}
-use Rattle.history_book.specs.Isolation.{last_write, written_by}
-use Rattle.history_book.specs.declared.item.Item.{Item}
-use Rattle.history_book.specs.declared.item.Item.TheVariants.{Write}
 use Rattle.history_book.proofs.HistoryLemmas.{last_write-push}
-use Rattle.isolation_rules.specs.ReadPairs.{written_at, IsLastWrite}
 use Rattle.isolation_rules.proofs.ReadLemmas.{written_within}
 
 -- the items passed so far, and the next one

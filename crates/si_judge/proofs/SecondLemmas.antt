@@ -1,10 +1,7 @@
 -- A commit whose second is looked for, and an item behind it.
-use Rattle.std.proofs.Common.{◌≡◌, ◌<◌, ◌∙◌, ℕ, List, Some, length, slice_get, sym, subst}
-use Rattle.std.proofs.lemmas.Option.{same_Some, slice_get_within}
-use Rattle.history_book.specs.declared.item.Item.{Item}
-use Rattle.history_book.specs.declared.item.Item.TheVariants.{Placed}
-use Rattle.isolation_rules.specs.ApartPairs.{Overlapping, OverlapsPlaced, BreaksApart}
-use Rattle.isolation_rules.proofs.PlaceLemmas.{and_some, both_at}
+use Rattle.si_judge.proofs.Names.{◌≡◌, ◌<◌, ◌∙◌, ℕ, List, Some, length, slice_get, sym, subst, same_Some}
+use Rattle.si_judge.proofs.Names.{slice_get_within, Item, Placed, Overlapping, OverlapsPlaced, BreaksApart, and_some}
+use Rattle.si_judge.proofs.Names.{both_at}
 
 pub breaks_at : (h : List Item) (i j t c : ℕ) (y : Item) → i < j → slice_get h i ≡ Some (Placed t c) → slice_get h j ≡ Some y → OverlapsPlaced h t c y → BreaksApart h i j
 breaks_at h i j t c y less first second over =

@@ -1,13 +1,8 @@
 -- The keys of a transaction, and the transactions that wrote one of them, after one more item.
-use Rattle.std.proofs.Common.{◌≡◌, ◌==◌, ◌||◌, ◌<◌, ℕ, Bool, true, false, cond, List, [], ◌∷◌, ◌++◌, length, slice_index_or, replicate, sym, ap, ◌∙◌}
-use Rattle.std.specs.List.{list_any}
-use Rattle.std.specs.Prelude.{nat_eq}
-use Rattle.std.specs.HashSet.{contains, Updates}
-use Rattle.std.proofs.lemmas.List.{get_or-replicate, length-replicate}
-use Rattle.history_book.specs.declared.item.Item.{Item}
-use Rattle.isolation_rules.specs.ApartPairs.{ShareKey, writes, writes_shared}
-use Rattle.isolation_rules.proofs.KeyLemmas.{shared_any, any_is_shared}
-use Rattle.si_judge.specs.Sharers.{HasKeys, HasSharers}
+use Rattle.si_judge.proofs.Names.{◌≡◌, ◌==◌, ◌||◌, ◌<◌, ℕ, Bool, true, false, cond, List, [], ◌∷◌, ◌++◌, length}
+use Rattle.si_judge.proofs.Names.{slice_index_or, replicate, sym, ap, ◌∙◌, list_any, nat_eq, contains, Updates}
+use Rattle.si_judge.proofs.Names.{get_or-replicate, length-replicate, Item, ShareKey, writes, writes_shared, shared_any}
+use Rattle.si_judge.proofs.Names.{any_is_shared, HasKeys, HasSharers}
 use Rattle.si_judge.specs.StampSets.{StampSet}
 use Rattle.si_judge.proofs.ListedLemmas.{any_more, at_number, chosen}
 

@@ -1,13 +1,7 @@
 -- The walk to the begin that a commit makes stale: one more item.
-use Rattle.std.proofs.Common.{◌≡◌, ◌<◌, ◌∙◌, ◌+◌, ℕ, suc, List, [], ◌∷◌, ◌++◌, Option, Some, length, take, slice_get, sym, subst, arith, inl, inr}
-use Rattle.std.proofs.lemmas.Bool.{cases_lt}
-use Rattle.std.proofs.lemmas.Option.{same_Some, slice_get_within}
-use Rattle.std.proofs.Math.ListN.{set}
-use Rattle.history_book.specs.declared.item.Item.{Item}
-use Rattle.history_book.specs.declared.item.Item.TheVariants.{AskBegin}
-use Rattle.isolation_rules.specs.FreshPairs.{IsStale, BreaksFresh}
-use Rattle.isolation_rules.proofs.PlaceLemmas.{both_at}
-use Rattle.si_judge.specs.AskStarts.{AreLastAsks}
+use Rattle.si_judge.proofs.Names.{◌≡◌, ◌<◌, ◌∙◌, ◌+◌, ℕ, suc, List, [], ◌∷◌, ◌++◌, Option, Some, length, take}
+use Rattle.si_judge.proofs.Names.{slice_get, sym, subst, arith, inl, inr, cases_lt, same_Some, slice_get_within, set}
+use Rattle.si_judge.proofs.Names.{Item, AskBegin, IsStale, BreaksFresh, both_at, AreLastAsks}
 use Rattle.si_judge.proofs.AskIndexLemmas.{ask_noted, one_more}
 
 pub stale_of : (h : List Item) (i j : ℕ) (x y : Item) → slice_get h i ≡ Some x → slice_get h j ≡ Some y → BreaksFresh h i j → IsStale h i x j y

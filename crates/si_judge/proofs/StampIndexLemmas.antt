@@ -1,13 +1,9 @@
 -- Items that share no stamp with those behind.
-use Rattle.std.proofs.Common.{◌≡◌, ℕ, true, ◌≤◌, suc, List, Some, length, slice_get, arith, inl, inr, sym, ap, subst, ◌∙◌}
-use Rattle.std.proofs.lemmas.Bool.{cases_lt}
-use Rattle.std.proofs.lemmas.Option.{same_Some, slice_get_within}
-use Rattle.history_book.specs.declared.item.Item.{Item}
-use Rattle.history_book.specs.declared.item.Item.TheVariants.{Begin, Placed}
+use Rattle.si_judge.proofs.Names.{◌≡◌, ℕ, true, ◌≤◌, suc, List, Some, length, slice_get, arith, inl, inr, sym, ap}
+use Rattle.si_judge.proofs.Names.{subst, ◌∙◌, cases_lt, same_Some, slice_get_within, Item, Begin, Placed, Passes}
+use Rattle.si_judge.proofs.Names.{one_at, both_at}
 use Rattle.isolation_rules.specs.declared.verdict.Rule.TheVariants as rule
 use Rattle.isolation_rules.specs.StampedPairs.{stamps_meet, commits_too_low}
-use Rattle.isolation_rules.specs.Judged.{Passes}
-use Rattle.isolation_rules.proofs.PlaceLemmas.{one_at, both_at}
 use Rattle.si_judge.specs.declared.stamp_index.Stamps.{Stamps}
 use Rattle.si_judge.specs.StampIndex.{HasStamps, KeepsStamps, IsClear}
 

@@ -1,11 +1,7 @@
 -- Marks of the places where a rule may be broken.
-use Rattle.std.proofs.Common.{◌≡◌, ◌<◌, ℕ, zero, suc, Bool, true, false, List, length, get_or, replicate, inl, inr, refl, sym, subst, ◌∙◌}
-use Rattle.std.proofs.lemmas.Bool.{cases_eq}
-use Rattle.std.proofs.lemmas.List.{get_or-set_same, get_or-set_other}
-use Rattle.std.proofs.Math.ListN.{set}
-use Rattle.history_book.specs.declared.item.Item.{Item}
-use Rattle.isolation_rules.specs.declared.verdict.Rule.{Rule}
-use Rattle.isolation_rules.specs.Judged.{Passes}
+use Rattle.si_judge.proofs.Names.{◌≡◌, ◌<◌, ℕ, zero, suc, Bool, true, false, List, length, get_or, replicate, inl, inr}
+use Rattle.si_judge.proofs.Names.{refl, sym, subst, ◌∙◌, cases_eq, get_or-set_same, get_or-set_other, set, Item, Rule}
+use Rattle.si_judge.proofs.Names.{Passes}
 
 -- each place that is not marked passes
 pub record ArePassed (rule : Rule) (h : List Item) (marks : List Bool) : Type 0 where

@@ -1,24 +1,14 @@
 -- Writers that take turns, after one more item, and what they say of commits.
-use Rattle.std.specs.Prelude.{vec_len}
-use Rattle.std.proofs.Common.{◌≡◌, ◌<◌, ◌+◌, ◌==◌, ◌⊎◌, ℕ, true, List, Option, Some, None, MatchOption, is_some, length, get_or, slice_get, inl, inr, refl, sym, ap, subst, ◌∙◌, arith}
-use Rattle.std.proofs.lemmas.Bool.{cases_eq, cases_lt, eqb-true}
-use Rattle.std.proofs.lemmas.List.{get_or-set_same, get_or-set_other}
-use Rattle.std.proofs.lemmas.Option.{same_Some, slice_get_within}
-use Rattle.std.proofs.Math.ListN.{set}
-use Rattle.history_book.specs.Isolation.{Wrote}
-use Rattle.history_book.specs.declared.item.Item.{Item}
-use Rattle.history_book.specs.declared.item.Item.TheVariants.{Placed, Write}
+use Rattle.si_judge.proofs.Names.{vec_len, ◌≡◌, ◌<◌, ◌+◌, ◌==◌, ◌⊎◌, ℕ, true, List, Option, Some, None, MatchOption}
+use Rattle.si_judge.proofs.Names.{is_some, length, get_or, slice_get, inl, inr, refl, sym, ap, subst, ◌∙◌, arith}
+use Rattle.si_judge.proofs.Names.{cases_eq, cases_lt, eqb-true, get_or-set_same, get_or-set_other, same_Some}
+use Rattle.si_judge.proofs.Names.{slice_get_within, set, Wrote, Item, Placed, Write, OverlapsPlaced, Overlapping}
+use Rattle.si_judge.proofs.Names.{writes, Passes, any_writes, and_parts, both_at, Commit, Commits, commit_of, commit_at}
+use Rattle.si_judge.proofs.Names.{HasCommits, IsWriter, AreApart, TakeTurns, IsTold, IsNext, IsTurn, writer_at}
 use Rattle.isolation_rules.specs.declared.verdict.Rule.TheVariants as rule
-use Rattle.isolation_rules.specs.ApartPairs.{OverlapsPlaced, Overlapping, writes}
-use Rattle.isolation_rules.specs.Judged.{Passes}
-use Rattle.isolation_rules.proofs.KeyLemmas.{any_writes, and_parts}
-use Rattle.isolation_rules.proofs.PlaceLemmas.{both_at}
-use Rattle.si_judge.specs.declared.commits.Commit.{Commit}
 use Rattle.si_judge.specs.declared.turns.Writer.{Writer}
 use Rattle.si_judge.specs.declared.turns.Turns.{Turns}
-use Rattle.si_judge.specs.Commits.{Commits, commit_of, commit_at, HasCommits}
 use Rattle.si_judge.specs.Follows.{MayFollow, IsUpTo}
-use Rattle.si_judge.specs.Turns.{IsWriter, AreApart, TakeTurns, IsTold, IsNext, IsTurn, writer_at}
 use Rattle.si_judge.proofs.OverlapIndexLemmas.{any_at}
 
 pub turns_none : (h : List Item) (commits : Commits) (last : List (Option Writer)) → TakeTurns h 0 commits last

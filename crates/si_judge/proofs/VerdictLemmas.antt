@@ -1,19 +1,11 @@
 -- The rules that are kept, and isolation.
-use Rattle.std.proofs.Common.{◌≡◌, ◌<◌, ℕ, List, Option, IfSome, take, refl, subst, arith}
-use Rattle.std.proofs.lemmas.Option.{slice_get_within}
-use Rattle.history_book.specs.Members.{AtEach}
-use Rattle.history_book.specs.Isolation.{RightRead, Isolated}
-use Rattle.history_book.specs.declared.item.Item.{Item}
-use Rattle.isolation_rules.specs.declared.verdict.Rule.{Rule}
+use Rattle.si_judge.proofs.Names.{◌≡◌, ◌<◌, ℕ, List, Option, IfSome, take, refl, subst, arith, slice_get_within, AtEach}
+use Rattle.si_judge.proofs.Names.{RightRead, Isolated, Item, Rule, AnswersAt, BreaksRead, IsKept, IsEarlierKept}
+use Rattle.si_judge.proofs.Names.{IsJudged, AllRight, turn, one_at, stamped_kept, kept_stamped, all_kept}
 use Rattle.isolation_rules.specs.declared.verdict.Rule.TheVariants as rule
 use Rattle.isolation_rules.specs.declared.verdict.Verdict.{Verdict}
 use Rattle.isolation_rules.specs.declared.verdict.Verdict.TheVariants as verdict
-use Rattle.isolation_rules.specs.ReadPairs.{AnswersAt, BreaksRead}
-use Rattle.isolation_rules.specs.Judged.{IsKept, IsEarlierKept, IsJudged, AllRight, turn}
-use Rattle.isolation_rules.proofs.PlaceLemmas.{one_at}
-use Rattle.isolation_rules.proofs.StampedLaw.{stamped_kept, kept_stamped}
 use Rattle.isolation_rules.proofs.FreshLaw.{fresh_kept, kept_fresh}
-use Rattle.isolation_rules.proofs.WalkLemmas.{all_kept}
 use Rattle.si_judge.proofs.ApartLaw.{apart_kept, kept_apart}
 
 pub before_apart : (h : List Item) → IsKept rule.Stamped h → IsEarlierKept rule.Apart h

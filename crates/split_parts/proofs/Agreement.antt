@@ -1,34 +1,21 @@
 -- Parts that agree may make their event, and the call that it asks of a store is one that was counted.
-use Rattle.std.proofs.Common.{◌≡◌, ℕ, zero, suc, ◌≤◌, Bool, List, [], ◌∷◌, slice_get, Option, Some, None, refl, arith}
+use Rattle.split_parts.proofs.Names.{◌≡◌, ℕ, zero, suc, ◌≤◌, Bool, List, [], ◌∷◌, Option, Some, None, refl, arith, All}
+use Rattle.split_parts.proofs.Names.{slice_index_or, Store, Cause, SessionEntry, begin_refusal, work_refusal}
+use Rattle.split_parts.proofs.Names.{InstanceEntry, held_of, Client, is_reading, Waits, WaitsFor, WaitsAt, take_asks}
+use Rattle.split_parts.proofs.Names.{renew_asks, extend_asks, put_asks, commit_asks, to_place, open_asks, write_asks}
+use Rattle.split_parts.proofs.Names.{write_refused, epoch_asks, fetch_asks, fetch_refused, heal_asks, offer_asks}
+use Rattle.split_parts.proofs.Names.{offer_of, asks_at_post, asks_at_client, CanMake, timed_by, asked_of, Agrees}
+use Rattle.split_parts.proofs.Names.{CallsFit, HasAsked, HasAskedIf, HasAskedAt, store_by, Parts, filled}
+use Rattle.std.proofs.Common.{slice_get}
 use Rattle.std.specs.Option.{option_or}
-use Rattle.std.specs.Prelude.{All, slice_index_or}
 use Rattle.std.proofs.lemmas.List.Elements.{All-head, All-tail}
-use Rattle.stamp_base.specs.declared.stores.Store.{Store}
 use Rattle.stamp_base.specs.declared.stores.Store.TheVariants as store
-use Rattle.history_book.specs.declared.cause.Cause.{Cause}
 use Rattle.system_parts.specs.declared.session.State as state
-use Rattle.system_parts.specs.SessionSteps.{SessionEntry, begin_refusal, work_refusal}
 use Rattle.system_parts.specs.declared.instance.Held.{Held}
 use Rattle.system_parts.specs.declared.instance.Request.{Request}
 use Rattle.system_parts.specs.declared.instance.Request.TheVariants.{Begin, Commit}
-use Rattle.system_parts.specs.Instance.{InstanceEntry, held_of}
-use Rattle.machine.specs.State.{Client}
-use Rattle.machine.specs.Clients.{is_reading}
-use Rattle.machine.specs.Calls.{Waits, WaitsFor, WaitsAt}
-use Rattle.machine.specs.Events.Take.{take_asks}
-use Rattle.machine.specs.Events.Renew.{renew_asks}
-use Rattle.machine.specs.Events.Extend.{extend_asks}
-use Rattle.machine.specs.Events.Put.{put_asks, commit_asks, to_place}
-use Rattle.machine.specs.Events.Write.{open_asks, write_asks, write_refused}
-use Rattle.machine.specs.Events.Fetch.{epoch_asks, fetch_asks, fetch_refused}
-use Rattle.machine.specs.Events.Heal.{heal_asks, offer_asks, offer_of}
-use Rattle.machine.specs.Machine.{asks_at_post, asks_at_client}
-use Rattle.cluster_core.specs.Required.{CanMake}
 use Rattle.split_parts.specs.declared.event.Event.{Event}
 use Rattle.split_parts.specs.declared.event.Event.TheVariants as event
-use Rattle.split_parts.specs.Acts.{timed_by, asked_of}
-use Rattle.split_parts.specs.Agrees.{Agrees, CallsFit, HasAsked, HasAskedIf, HasAskedAt, store_by}
-use Rattle.split_parts.specs.Parts.{Parts, filled}
 
 -- ---- states
 begins_free : (s : state.State) → begin_refusal s ≡ None → s ≡ state.TheVariants.Free

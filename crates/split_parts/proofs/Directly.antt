@@ -1,44 +1,26 @@
 -- An event that is made of the lent parts themselves.
 use Rattle.std.specs.FinMap as map
-use Rattle.std.proofs.Common.{◌≡◌, ℕ, zero, suc, ◌<◌, ◌≤◌, nat_lt, Bool, true, false, List, [], ◌∷◌, ◌++◌, length, replicate, slice_set, Option, Some, None, Result, Ok, Err, refl, sym, ap, ◌∙◌, subst, arith}
-use Rattle.std.specs.Prelude.{if◌then◌else◌, slice_get, slice_index_or, IfSome, IsSome, IsSomeAnd, IsErr}
-use Rattle.std.proofs.lemmas.List.{get_or-set_same}
-use Rattle.port_io.specs.declared.weather.Fate.{Fate}
+use Rattle.split_parts.proofs.Names.{◌≡◌, ℕ, zero, suc, ◌<◌, ◌≤◌, nat_lt, Bool, true, false, List, [], ◌∷◌, ◌++◌}
+use Rattle.split_parts.proofs.Names.{length, replicate, slice_set, Option, Some, None, Result, Ok, Err, refl, sym, ap}
+use Rattle.split_parts.proofs.Names.{◌∙◌, subst, arith, if◌then◌else◌, slice_get, slice_index_or, IfSome, IsSome}
+use Rattle.split_parts.proofs.Names.{IsSomeAnd, IsErr, get_or-set_same, Fate, CallsFit, HasNode, HasSession, Store}
+use Rattle.split_parts.proofs.Names.{Item, HasOnly, IsBare, Row, Event, Client, State, opening, Effect, Stop, Refuses}
+use Rattle.split_parts.proofs.Names.{Faults, write_asks, write_refused, SetupNumbers, fetch_asks, fetch_on, heal_asks}
+use Rattle.split_parts.proofs.Names.{heal_at, heal_on, offer_of, put_asks, next_of, step_asks, step_on, work_of, Pairs}
+use Rattle.split_parts.proofs.Names.{IsWaitedFor, MayBegin, MayCommit, MayHeal, MayMakeStep, MayWrite, begin_refusal}
+use Rattle.split_parts.proofs.Names.{handed_commit, work_refusal, Cause, InstanceEntry, HoldsNone, KeepsShadowNext}
+use Rattle.split_parts.proofs.Names.{MayStep, WaitsAt, is_reading, ClientAt, PostAt, Step, step_by, asks_at_client}
+use Rattle.split_parts.proofs.Names.{asks_at_post, at_client, at_post, on_table, with_client, asks, stepped, at_both}
+use Rattle.split_parts.proofs.Names.{with_post, on_ask, of_session, of_cells, of_stores, Makes, Leaves, fate_ahead}
+use Rattle.split_parts.proofs.Names.{Stopped, Refused, StoreFault, NoMemory, Acts, asked_of, noted, stopped_of, HasAll}
+use Rattle.split_parts.proofs.Names.{HasPost, lent_effect, on_cells, on_node, on_session, on_stores, MakesOfCells}
+use Rattle.split_parts.proofs.Names.{MakesOfNode, MakesOfSession, MakesOfTable, StepsOfSession, on_marks, on_rows, Ends}
+use Rattle.split_parts.proofs.Names.{called_after, client_lent, post_by, session_at, Parts, Session, Node, Marks}
+use Rattle.split_parts.proofs.Names.{CellRows, called, client_or, fate_of, filled, given_client, lent_rows, given_from}
+use Rattle.split_parts.proofs.Names.{given_pairs, given_rows, given_sessions, lent_clients, setup_of, Acted}
 use Rattle.port_io.specs.declared.weather.Fate.TheVariants.{Works, FailsApplied, FailsUnchanged}
-use Rattle.split_parts.specs.Agrees.{CallsFit, HasNode, HasSession}
-use Rattle.stamp_base.specs.declared.stores.Store.{Store}
-use Rattle.history_book.specs.declared.item.Item.{Item}
-use Rattle.system_parts.specs.Rows.{HasOnly, IsBare, Row}
-use Rattle.machine.specs.declared.event.Event.{Event}
-use Rattle.machine.specs.State.{Client, State, opening}
-use Rattle.machine.specs.Effect.{Effect, Stop, Refuses, Faults}
 use Rattle.machine.specs.declared.event.Event.TheVariants as event
-use Rattle.machine.specs.Events.Write.{write_asks, write_refused}
-use Rattle.stamp_base.specs.SetupNumbers.{SetupNumbers}
-use Rattle.machine.specs.Events.Fetch.{fetch_asks, fetch_on}
-use Rattle.machine.specs.Events.Heal.{heal_asks, heal_at, heal_on, offer_of}
-use Rattle.machine.specs.Events.Put.{put_asks}
-use Rattle.machine.specs.Events.Step.{next_of, step_asks, step_on, work_of}
-use Rattle.system_parts.specs.Pairs.{Pairs}
-use Rattle.cluster_core.specs.Required.{IsWaitedFor, MayBegin, MayCommit, MayHeal, MayMakeStep, MayWrite}
-use Rattle.system_parts.specs.SessionSteps.{begin_refusal, handed_commit, work_refusal}
-use Rattle.history_book.specs.declared.cause.Cause.{Cause}
-use Rattle.system_parts.specs.Instance.{InstanceEntry}
-use Rattle.machine.specs.Calls.{HoldsNone, KeepsShadowNext, MayStep, WaitsAt}
 use Rattle.event_parts.specs.Served.{HasRoomIf}
-use Rattle.machine.specs.Clients.{is_reading}
-use Rattle.isolation_laws.specs.Words.{ClientAt}
-use Rattle.cause_laws.specs.RequestCalls.{PostAt}
-use Rattle.machine.specs.Machine.{Step, step_by, asks_at_client, asks_at_post, at_client, at_post, on_table, with_client, asks, stepped, at_both, with_post, on_ask, on_client as of_session, on_cells as of_cells, on_stores as of_stores}
-use Rattle.event_parts.specs.Made.{Makes, Leaves, fate_ahead}
-use Rattle.event_parts.specs.declared.stopped.Stopped.{Stopped}
-use Rattle.event_parts.specs.declared.stopped.Stopped.TheVariants.{Refused, StoreFault, NoMemory}
-use Rattle.split_parts.specs.Acts.{Acts, asked_of, noted, stopped_of}
-use Rattle.split_parts.specs.Direct.{HasAll, HasPost, lent_effect, on_cells, on_node, on_session, on_stores, MakesOfCells, MakesOfNode, MakesOfSession, MakesOfTable, StepsOfSession, on_marks, on_rows}
-use Rattle.split_parts.specs.Making.{Ends, called_after}
-use Rattle.split_parts.specs.Lookups.{client_lent, post_by, session_at}
-use Rattle.split_parts.specs.Parts.{Parts, Session, Node, Marks, CellRows, called, client_or, fate_of, filled, given_client, lent_rows, given_from, given_pairs, given_rows, given_sessions, lent_clients, setup_of}
-use Rattle.split_parts.specs.declared.acting.Acted.{Acted}
 use Rattle.split_parts.proofs.FoundParts.{client_there, own_there, post_there}
 use Rattle.split_parts.proofs.Giving.{given_back, given_fit}
 use Rattle.split_parts.proofs.Handing.{sessions_back}

@@ -1,25 +1,13 @@
 -- The engine that lent parts fill up makes their event, and gives them back as the step leaves them.
-use Rattle.std.proofs.Common.{◌≡◌, [], ◌++◌, length, Option, Some, None, Result, Ok, Err, sym, ap, ◌∙◌, subst}
-use Rattle.std.specs.Prelude.{IfSome, IsErr, OnErr}
-use Rattle.stamp_base.specs.SetupNumbers.{SetupNumbers}
-use Rattle.stamp_base.specs.declared.stores.Store.{Store}
+use Rattle.split_parts.proofs.Names.{◌≡◌, [], ◌++◌, length, Option, Some, None, Result, Ok, Err, sym, ap, ◌∙◌, subst}
+use Rattle.split_parts.proofs.Names.{IfSome, IsErr, OnErr, SetupNumbers, Store, Fate, Event, State, opening, rules_of}
+use Rattle.split_parts.proofs.Names.{Step, asks, stepped, Leasing, Stopped, Refused, StoreFault, NoMemory, CanMake}
+use Rattle.split_parts.proofs.Names.{Acts, asked_of, noted, step_of, stopped_of, CallsFit, Ends, called_after, Parts}
+use Rattle.split_parts.proofs.Names.{Record, LeasesBySetup, called, fate_of, filled, given_from, master_called}
+use Rattle.split_parts.proofs.Names.{setup_of, with_lent, Acted}
 use Rattle.stamp_base.specs.declared.stores.Store.TheVariants as store
-use Rattle.port_io.specs.declared.weather.Fate.{Fate}
-use Rattle.machine.specs.declared.event.Event.{Event}
-use Rattle.machine.specs.State.{State, opening}
-use Rattle.machine.specs.Events.Take.{rules_of}
-use Rattle.machine.specs.Machine.{Step, asks, stepped}
 use Rattle.machine.proofs.PartsKept.{leaves_parts}
-use Rattle.system_parts.specs.Record.{Leasing}
-use Rattle.event_parts.specs.declared.stopped.Stopped.{Stopped}
-use Rattle.event_parts.specs.declared.stopped.Stopped.TheVariants.{Refused, StoreFault, NoMemory}
-use Rattle.cluster_core.specs.Required.{CanMake}
 use Rattle.cluster_core.specs.ClusterModel.{ClusterModel, MakesStep}
-use Rattle.split_parts.specs.Acts.{Acts, asked_of, noted, step_of, stopped_of}
-use Rattle.split_parts.specs.Agrees.{CallsFit}
-use Rattle.split_parts.specs.Making.{Ends, called_after}
-use Rattle.split_parts.specs.Parts.{Parts, Record, LeasesBySetup, called, fate_of, filled, given_from, master_called, setup_of, with_lent}
-use Rattle.split_parts.specs.declared.acting.Acted.{Acted}
 use Rattle.split_parts.proofs.Giving.{given_back, given_called, given_fate, given_fit, given_leases, given_twice}
 
 -- ---- what the engine is filled up with

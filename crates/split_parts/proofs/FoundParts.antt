@@ -1,20 +1,15 @@
 -- For split_stores too.
 -- What is found in the filled state where a part is lent, and what follows for facts of what is found there.
-use Rattle.std.proofs.Common.{◌≡◌, ℕ, zero, suc, ◌<◌, ◌≤◌, ◌↔◌, Bool, true, false, nat_lt, List, [], ◌∷◌, length, replicate, slice_get, slice_set, Option, Some, None, refl, sym, ap, ◌∙◌, subst, arith}
-use Rattle.std.specs.Prelude.{option_map, slice_index_or, IfSome, IsSomeAnd, IsTrue, if◌then◌else◌}
+use Rattle.split_parts.proofs.Names.{◌≡◌, ℕ, zero, suc, ◌<◌, ◌≤◌, ◌↔◌, Bool, true, false, nat_lt, List, [], ◌∷◌, length}
+use Rattle.split_parts.proofs.Names.{replicate, slice_set, Option, Some, None, refl, sym, ap, ◌∙◌, subst, arith}
+use Rattle.split_parts.proofs.Names.{option_map, slice_index_or, IfSome, IsSomeAnd, IsTrue, if◌then◌else◌, looked}
+use Rattle.split_parts.proofs.Names.{Sweeping, sweep_ask, InstanceEntry, Client, client_new, KeepsShadowNext, ClientAt}
+use Rattle.split_parts.proofs.Names.{PostAt, HasNode, IsAsked, client_lent, post_by, session_at, Node, Parts, Session}
+use Rattle.split_parts.proofs.Names.{client_or, filled, lent_clients, lent_nodes, setup_of}
+use Rattle.std.proofs.Common.{slice_get}
 use Rattle.std.proofs.lemmas.Option.{same_Some}
-use Rattle.system_parts.specs.Rows.{looked}
 use Rattle.system_parts.specs.declared.asks.Ask.{Ask}
 use Rattle.system_parts.specs.declared.asks.Ask.TheVariants as ask
-use Rattle.system_parts.specs.Sweep.{Sweeping, sweep_ask}
-use Rattle.system_parts.specs.Instance.{InstanceEntry}
-use Rattle.machine.specs.State.{Client, client_new}
-use Rattle.machine.specs.Calls.{KeepsShadowNext}
-use Rattle.isolation_laws.specs.Words.{ClientAt}
-use Rattle.cause_laws.specs.RequestCalls.{PostAt}
-use Rattle.split_parts.specs.Agrees.{HasNode, IsAsked}
-use Rattle.split_parts.specs.Lookups.{client_lent, post_by, session_at}
-use Rattle.split_parts.specs.Parts.{Node, Parts, Session, client_or, filled, lent_clients, lent_nodes, setup_of}
 
 -- ---- sessions
 client_first : (s : Option Session) (d c : Client) → option_map (λ (own : Session). own.client) s ≡ Some c → Some (client_or s d) ≡ Some c

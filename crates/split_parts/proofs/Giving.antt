@@ -1,16 +1,12 @@
 -- Parts that are given from a state, and what giving leaves alone.
-use Rattle.std.proofs.Common.{◌≡◌, ℕ, zero, suc, List, [], ◌∷◌, length, slice_set, Option, Some, None, refl, ap, arith}
-use Rattle.std.specs.Prelude.{◌<◌, ◌^◌, slice_index_or, IfSome}
-use Rattle.stamp_base.specs.declared.stores.Store.{Store}
+use Rattle.split_parts.proofs.Names.{◌≡◌, ℕ, zero, suc, List, [], ◌∷◌, length, slice_set, Option, Some, None, refl, ap}
+use Rattle.split_parts.proofs.Names.{arith, ◌^◌, slice_index_or, IfSome, Store, PlannedFault, Row, Pairs, MasterRecord}
+use Rattle.split_parts.proofs.Names.{Leasing, InstanceEntry, State, CallsFit, Parts, Node, CellRows, Marks, Record}
+use Rattle.split_parts.proofs.Names.{or_else, given, given_node, given_rows, given_pairs, given_master, given_from}
+use Rattle.split_parts.proofs.Names.{lent_nodes, lent_rows, lent_pairs, lent_master, with_lent, called, cells_called}
+use Rattle.split_parts.proofs.Names.{table_called, master_called, fate_of, cells_fate, table_fate, master_fate}
+use Rattle.std.specs.Prelude.{◌<◌}
 use Rattle.stamp_base.specs.declared.stores.Store.TheVariants as store
-use Rattle.port_io.specs.Planned.{PlannedFault}
-use Rattle.system_parts.specs.Rows.{Row}
-use Rattle.system_parts.specs.Pairs.{Pairs}
-use Rattle.system_parts.specs.Record.{MasterRecord, Leasing}
-use Rattle.system_parts.specs.Instance.{InstanceEntry}
-use Rattle.machine.specs.State.{State}
-use Rattle.split_parts.specs.Agrees.{CallsFit}
-use Rattle.split_parts.specs.Parts.{Parts, Node, CellRows, Marks, Record, or_else, given, given_node, given_rows, given_pairs, given_master, given_from, lent_nodes, lent_rows, lent_pairs, lent_master, with_lent, called, cells_called, table_called, master_called, fate_of, cells_fate, table_fate, master_fate}
 use Rattle.split_parts.proofs.Handing.{sessions_back, sessions_twice}
 
 -- ---- a part that is given from the state that has it is as it was

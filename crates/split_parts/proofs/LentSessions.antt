@@ -1,11 +1,10 @@
 -- For split_stores too.
 -- Sessions that are lent one by one: which are there. Serves `Lent::with_next_session`, and split_stores, where they are locked.
-use Rattle.std.proofs.Common.{◌≡◌, ℕ, zero, suc, ◌+◌, ◌<◌, List, length, None, Option, Some, refl, sym, ap, ◌∙◌, subst, arith, inl, inr, ◌⊎◌, ⊎_elim}
-use Rattle.std.specs.Prelude.{IsSome, slice_index_or, slice_set}
-use Rattle.std.proofs.lemmas.List.{get_or-set_same, get_or-set_other, length-set}
+use Rattle.split_parts.proofs.Names.{◌≡◌, ℕ, zero, suc, ◌+◌, ◌<◌, List, length, None, Option, Some, refl, sym, ap, ◌∙◌}
+use Rattle.split_parts.proofs.Names.{subst, arith, inl, inr, ◌⊎◌, ⊎_elim, IsSome, slice_index_or, get_or-set_same}
+use Rattle.split_parts.proofs.Names.{get_or-set_other, length-set, LendsBelow, LendsSession, no_parts, Parts, Session}
+use Rattle.std.specs.Prelude.{slice_set}
 use Rattle.script_data.specs.Data.{ScriptData}
-use Rattle.split_parts.specs.Lending.{LendsBelow, LendsSession, no_parts}
-use Rattle.split_parts.specs.Parts.{Parts, Session}
 
 pub has_set : (sessions : List (Option Session)) (s : ℕ) (c : Session) → s < length sessions → IsSome (slice_index_or (slice_set sessions s (Some c)) s None)
 has_set sessions s c there = subst IsSome (sym (get_or-set_same sessions s (Some c) None there)) refl

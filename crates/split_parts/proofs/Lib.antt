@@ -1,3 +1,4 @@
+mod Names
 mod Handing
 mod Giving
 mod Agreement

@@ -1,13 +1,7 @@
 -- A tick and a note, which touch no part of the state.
-use Rattle.std.proofs.Common.{◌≡◌, [], ◌∷◌, Option, Some, None, sym, ap, ◌∙◌}
-use Rattle.history_book.specs.declared.item.Item.{Item}
-use Rattle.machine.specs.declared.event.Event.{Event}
+use Rattle.split_parts.proofs.Names.{◌≡◌, [], ◌∷◌, Option, Some, None, sym, ap, ◌∙◌, Item, Event, opening, Acts, noted}
+use Rattle.split_parts.proofs.Names.{item_noted, Parts, setup_of, Acted}
 use Rattle.machine.specs.declared.event.Event.TheVariants as event
-use Rattle.machine.specs.State.{opening}
-use Rattle.split_parts.specs.Acts.{Acts, noted}
-use Rattle.split_parts.specs.Direct.{item_noted}
-use Rattle.split_parts.specs.Parts.{Parts, setup_of}
-use Rattle.split_parts.specs.declared.acting.Acted.{Acted}
 use Rattle.split_parts.proofs.Giving.{given_back}
 
 of_some : {T : Type 0} → Option T → T → T

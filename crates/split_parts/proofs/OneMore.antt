@@ -1,8 +1,7 @@
 -- One session after the other is swapped with the engine's.
-use Rattle.std.proofs.Common.{◌≡◌, ℕ, ◌+◌, ◌<◌, List, length, slice_set, Option, Some, None, refl, ap, ◌∙◌, arith}
-use Rattle.std.specs.Prelude.{slice_index_or}
-use Rattle.machine.specs.State.{Client, State}
-use Rattle.split_parts.specs.Parts.{Session, given_client, given_sessions, lent_clients}
+use Rattle.split_parts.proofs.Names.{◌≡◌, ℕ, ◌+◌, ◌<◌, List, length, slice_set, Option, Some, None, refl, ap, ◌∙◌}
+use Rattle.split_parts.proofs.Names.{arith, slice_index_or, Client, State, Session, given_client, given_sessions}
+use Rattle.split_parts.proofs.Names.{lent_clients}
 use Rattle.split_parts.specs.Swaps.{client_at, client_in}
 use Rattle.split_parts.proofs.Handing.{clients_in, one_client, one_session}
 

@@ -1,24 +1,10 @@
 -- An event of the lent node and the lent master record is one of all lent parts.
-use Rattle.std.proofs.Common.{◌≡◌, ℕ, ◌<◌, List, slice_set, Option, Some, None, Result, refl, sym, ap, ◌∙◌, subst}
-use Rattle.std.specs.Prelude.{slice_get, IfSome, IsSome}
-use Rattle.stamp_base.specs.SetupNumbers.{SetupNumbers}
-use Rattle.stamp_base.specs.declared.stores.Store.{Store}
-use Rattle.port_io.specs.declared.weather.Fate.{Fate}
-use Rattle.history_book.specs.declared.item.Item.{Item}
-use Rattle.system_parts.specs.Instance.{InstanceEntry}
-use Rattle.system_parts.specs.Record.{MasterRecord}
-use Rattle.machine.specs.declared.event.Event.{Event}
-use Rattle.machine.specs.State.{State, opening}
-use Rattle.machine.specs.Effect.{Effect}
-use Rattle.machine.specs.Events.Extend.{extend_asks}
-use Rattle.machine.specs.Events.Renew.{renew_asks}
-use Rattle.machine.specs.Machine.{asks_at_post, at_post, on_record as of_record, step_by, stepped, with_post}
-use Rattle.event_parts.specs.Made.{Makes}
-use Rattle.event_parts.specs.declared.stopped.Stopped.{Stopped}
-use Rattle.cluster_core.specs.Required.{Covers, MayExtend}
-use Rattle.split_parts.specs.Direct.{HasPost, MakesOfRecord, lent_effect, on_kept}
-use Rattle.split_parts.specs.Lookups.{post_by}
-use Rattle.split_parts.specs.Parts.{Node, Parts, Record, filled, lent_master, setup_of}
+use Rattle.split_parts.proofs.Names.{◌≡◌, ℕ, ◌<◌, List, slice_set, Option, Some, None, Result, refl, sym, ap, ◌∙◌}
+use Rattle.split_parts.proofs.Names.{subst, slice_get, IfSome, IsSome, SetupNumbers, Store, Fate, Item, InstanceEntry}
+use Rattle.split_parts.proofs.Names.{MasterRecord, Event, State, opening, Effect, extend_asks, renew_asks, asks_at_post}
+use Rattle.split_parts.proofs.Names.{at_post, of_record, step_by, stepped, with_post, Makes, Stopped, Covers, MayExtend}
+use Rattle.split_parts.proofs.Names.{HasPost, MakesOfRecord, lent_effect, on_kept, post_by, Node, Parts, Record, filled}
+use Rattle.split_parts.proofs.Names.{lent_master, setup_of}
 use Rattle.split_parts.proofs.Directly.{Direct, IsDirect, direct_by, has_node, makes_directly, node_lent, post_in, post_is, posts_over, some_of}
 use Rattle.split_parts.proofs.FoundParts.{post_there}
 use Rattle.split_parts.proofs.Giving.{given_back}

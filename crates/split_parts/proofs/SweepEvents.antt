@@ -1,25 +1,12 @@
 -- An event of the lent janitor is one of all lent parts.
-use Rattle.std.proofs.Common.{◌≡◌, ℕ, ◌<◌, List, [], Option, Some, None, Result, refl, sym, ap, ◌∙◌, subst}
-use Rattle.std.specs.Prelude.{IfSome, slice_get, IsSome}
-use Rattle.port_io.specs.declared.weather.Fate.{Fate}
-use Rattle.history_book.specs.declared.item.Item.{Item}
-use Rattle.system_parts.specs.Instance.{InstanceEntry}
-use Rattle.system_parts.specs.Pairs.{Pairs}
-use Rattle.system_parts.specs.Rows.{Row}
-use Rattle.system_parts.specs.Sweep.{Sweeping, sweep_ask}
-use Rattle.machine.specs.declared.event.Event.{Event}
+use Rattle.split_parts.proofs.Names.{◌≡◌, ℕ, ◌<◌, List, [], Option, Some, None, Result, refl, sym, ap, ◌∙◌, subst}
+use Rattle.split_parts.proofs.Names.{IfSome, slice_get, IsSome, Fate, Item, InstanceEntry, Pairs, Row, Sweeping}
+use Rattle.split_parts.proofs.Names.{sweep_ask, Event, State, opening, Effect, SweepParts, sweep_step_asks}
+use Rattle.split_parts.proofs.Names.{sweep_step_on, KeepsShadowNext, MaySweep, at_post, of_sweep, of_swept, step_by}
+use Rattle.split_parts.proofs.Names.{stepped, Makes, fate_ahead, Stopped, asked_of, HasPost, MakesOfJanitor}
+use Rattle.split_parts.proofs.Names.{MakesOfStores, lent_effect, on_janitor, on_lent, CellRows, Marks, Node, Parts}
+use Rattle.split_parts.proofs.Names.{fate_of, filled, given_pairs, given_rows, lent_rows, or_else, setup_of}
 use Rattle.machine.specs.declared.event.Event.TheVariants as event
-use Rattle.machine.specs.State.{State, opening}
-use Rattle.machine.specs.Effect.{Effect}
-use Rattle.machine.specs.Events.SweepStep.{SweepParts, sweep_step_asks, sweep_step_on}
-use Rattle.machine.specs.Calls.{KeepsShadowNext}
-use Rattle.cluster_core.specs.Required.{MaySweep}
-use Rattle.machine.specs.Machine.{at_post, on_sweep as of_sweep, on_swept as of_swept, step_by, stepped}
-use Rattle.event_parts.specs.Made.{Makes, fate_ahead}
-use Rattle.event_parts.specs.declared.stopped.Stopped.{Stopped}
-use Rattle.split_parts.specs.Acts.{asked_of}
-use Rattle.split_parts.specs.Direct.{HasPost, MakesOfJanitor, MakesOfStores, lent_effect, on_janitor, on_lent}
-use Rattle.split_parts.specs.Parts.{CellRows, Marks, Node, Parts, fate_of, filled, given_pairs, given_rows, lent_rows, or_else, setup_of}
 use Rattle.split_parts.proofs.Directly.{Direct, IsDirect, ahead_is, direct_by, makes_directly, node_lent, post_is, some_of}
 use Rattle.split_parts.proofs.FoundParts.{post_there}
 use Rattle.split_parts.proofs.Giving.{given_back}

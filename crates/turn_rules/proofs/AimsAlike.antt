@@ -1,22 +1,15 @@
 -- For run_board and grant_laws too.
 -- At which node a share is aimed decides no more than whom a line asks: whether the line makes an
 -- event, waits or is passed is the same by any clocks.
-use Rattle.std.proofs.Common.{◌≡◌, ℕ, Bool, true, false, cond, List, Option, Some, None, refl, sym, ◌∙◌, ap}
-use Rattle.history_book.specs.declared.item.Actor.{Actor}
-use Rattle.history_book.specs.declared.item.Actor.TheVariants.{Clock, Node, Session, Janitor}
-use Rattle.system_parts.specs.declared.instance.Place.{Place}
-use Rattle.machine.specs.declared.event.Event.{Event}
-use Rattle.script_data.specs.declared.line.Verb.{Verb}
+use Rattle.turn_rules.proofs.Names.{◌≡◌, ℕ, Bool, true, false, cond, List, Option, Some, None, refl, sym, ◌∙◌, ap}
+use Rattle.turn_rules.proofs.Names.{Actor, Clock, Node, Session, Janitor, Place, Event, Verb, Point, Opens, Drives}
+use Rattle.turn_rules.proofs.Names.{Extends, Finishes, Reads, Steps, Over, View, Clocks, is_served, places, name_opens}
+use Rattle.turn_rules.proofs.Names.{finish_next, placing_next, idle_next, extend_next, read_next, steps_next}
+use Rattle.turn_rules.proofs.Names.{collect_next, drive_next, serves, clock_opens, node_opens, session_opens}
+use Rattle.turn_rules.proofs.Names.{session_next, janitor_next, opens_alone, next, NextAction, Makes, Waits, Passes}
+use Rattle.turn_rules.proofs.Names.{made_next, drive_ahead, collect_ahead, own_opens, own_next, is_passed}
 use Rattle.script_data.specs.declared.line.Verb.TheVariants as verb
-use Rattle.command_semantics.specs.declared.point.Point.{Point}
-use Rattle.command_semantics.specs.declared.point.Point.TheVariants.{Opens, Drives, Extends, Finishes, Reads, Steps, Over}
-use Rattle.command_semantics.specs.declared.point.View.{View}
-use Rattle.command_semantics.specs.Next.{Clocks, is_served, places, name_opens, finish_next, placing_next, idle_next, extend_next, read_next, steps_next, collect_next, drive_next, serves, clock_opens, node_opens, session_opens, session_next, janitor_next, opens_alone, next}
-use Rattle.turn_rules.specs.declared.ahead.NextAction.{NextAction}
-use Rattle.turn_rules.specs.declared.ahead.NextAction.TheVariants.{Makes, Waits, Passes}
 use Rattle.turn_rules.specs.declared.ahead.Why.{Why}
-use Rattle.turn_rules.specs.Waiting.{made_next, drive_ahead, collect_ahead, own_opens, own_next}
-use Rattle.turn_rules.specs.Seats.{is_passed}
 
 -- ---- events that are next, or none
 abbrev BothOrNone : Option Event → Option Event → Type 0

@@ -1,25 +1,12 @@
 -- For run_board too.
 -- Each actor of the system has a seat, whichever turns are made; so an actor without one has no line.
-use Rattle.std.proofs.Common.{◌≡◌, ℕ, zero, suc, ◌<◌, Bool, true, false, cond, ◌&&◌, List, [], ◌∷◌, ◌++◌, Option, Some, None, inl, inr, refl, sym, ◌∙◌, ap, subst, arith}
-use Rattle.std.specs.Prelude.{filter, fold}
-use Rattle.std.specs.Option.{option_map}
-use Rattle.std.proofs.lemmas.Bool.Decides.{eqb_tells}
-use Rattle.std.proofs.lemmas.Option.{same_Some, none-some}
-use Rattle.stamp_base.specs.SetupNumbers.{SetupNumbers}
-use Rattle.history_book.specs.declared.item.Actor.{Actor}
-use Rattle.history_book.specs.declared.item.Actor.TheVariants.{Clock, Node, Session, Janitor}
-use Rattle.machine.specs.declared.event.Event.{Event}
-use Rattle.script_data.specs.declared.line.Line.{Line}
-use Rattle.script_data.specs.Data.{ScriptData}
-use Rattle.command_semantics.specs.declared.point.Point.TheVariants.{Opens}
-use Rattle.command_semantics.specs.Answers.{same_actor, has_opening, is_of, asks_some, Answered}
-use Rattle.command_semantics.specs.Laws.{ActorFits, AreLinesOf}
-use Rattle.command_semantics.proofs.ScriptWalks.{actor_same, same_itself}
-use Rattle.turn_rules.specs.declared.seat.Seat.{Seat}
-use Rattle.turn_rules.specs.declared.turn.Turn.{Turn}
-use Rattle.turn_rules.specs.Seats.{first_seat, seats_of, first_seats, lines_of}
-use Rattle.turn_rules.specs.Carried.{Carried, seat_of, event_of, seat_passed, all_passed, turned_by, turned, at_first}
-use Rattle.turn_rules.specs.Laws.{IsAnsweredTo}
+use Rattle.turn_rules.proofs.Names.{◌≡◌, ℕ, zero, suc, ◌<◌, Bool, true, false, cond, ◌&&◌, List, [], ◌∷◌, ◌++◌, Option}
+use Rattle.turn_rules.proofs.Names.{Some, None, inl, inr, refl, sym, ◌∙◌, ap, subst, arith, filter, fold, option_map}
+use Rattle.turn_rules.proofs.Names.{eqb_tells, same_Some, none-some, SetupNumbers, Actor, Clock, Node, Session, Janitor}
+use Rattle.turn_rules.proofs.Names.{Event, Line, ScriptData, Opens, same_actor, has_opening, is_of, asks_some, Answered}
+use Rattle.turn_rules.proofs.Names.{ActorFits, AreLinesOf, actor_same, same_itself, Seat, Turn, first_seat, seats_of}
+use Rattle.turn_rules.proofs.Names.{first_seats, lines_of, Carried, seat_of, event_of, seat_passed, all_passed}
+use Rattle.turn_rules.proofs.Names.{turned_by, turned, at_first, IsAnsweredTo}
 use Rattle.turn_rules.proofs.SeatLists.{find_true, filter_both}
 use Rattle.turn_rules.proofs.SeatsOn.{seat_after, passed_seat, turned_seat}
 use Rattle.turn_rules.proofs.SoFar.{IsAt}

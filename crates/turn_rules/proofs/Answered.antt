@@ -1,30 +1,13 @@
 -- Whichever turns are made, the lines that an actor has passed are answered, and whole turns answer every line.
-use Rattle.std.proofs.Common.{◌≡◌, ℕ, List, [], ◌∷◌, Option, Some, None, inl, inr, refl, sym, ◌∙◌, ap, subst}
-use Rattle.std.specs.Prelude.{filter, All}
-use Rattle.std.proofs.lemmas.List.{append-nil}
-use Rattle.std.proofs.lemmas.Option.{none-some}
-use Rattle.stamp_base.specs.SetupNumbers.{AreInRange}
-use Rattle.history_book.specs.declared.item.Actor.{Actor}
-use Rattle.history_book.specs.declared.item.Item.{Item}
-use Rattle.machine.specs.declared.event.Doing.{Doing}
+use Rattle.turn_rules.proofs.Names.{◌≡◌, ℕ, List, [], ◌∷◌, Option, Some, None, inl, inr, refl, sym, ◌∙◌, ap, subst}
+use Rattle.turn_rules.proofs.Names.{filter, All, append-nil, none-some, AreInRange, Actor, Item, Doing, doing_of, Line}
+use Rattle.turn_rules.proofs.Names.{ScriptData, Point, Opens, Drives, Extends, Finishes, Reads, Steps, Over, same_actor}
+use Rattle.turn_rules.proofs.Names.{is_of, asks_some, Answered, AreLinesOf, IsPlayable, read_next, view_of}
+use Rattle.turn_rules.proofs.Names.{read_has_next, walks_end, Seat, Turn, lines_of, lines_left, Carried, seat_of}
+use Rattle.turn_rules.proofs.Names.{all_passed, at_first, carried, carried_items, AreWhole, IsAnsweredTo, unanswered}
+use Rattle.turn_rules.proofs.Names.{OwesRead, IsAnsweredSoFar, TurnsAnswerSoFar, TurnsAnswer}
 use Rattle.machine.specs.declared.event.Doing.TheVariants as doing
 use Rattle.machine.specs.declared.event.Event.TheVariants as event
-use Rattle.machine.specs.Readers.{doing_of}
-use Rattle.script_data.specs.declared.line.Line.{Line}
-use Rattle.script_data.specs.Data.{ScriptData}
-use Rattle.command_semantics.specs.declared.point.Point.{Point}
-use Rattle.command_semantics.specs.declared.point.Point.TheVariants.{Opens, Drives, Extends, Finishes, Reads, Steps, Over}
-use Rattle.command_semantics.specs.Answers.{same_actor, is_of, asks_some, Answered}
-use Rattle.command_semantics.specs.Laws.{AreLinesOf, IsPlayable}
-use Rattle.command_semantics.specs.Next.{read_next}
-use Rattle.command_semantics.specs.Views.{view_of}
-use Rattle.command_semantics.proofs.ReadSteps.{read_has_next}
-use Rattle.command_semantics.proofs.Walks.{walks_end}
-use Rattle.turn_rules.specs.declared.seat.Seat.{Seat}
-use Rattle.turn_rules.specs.declared.turn.Turn.{Turn}
-use Rattle.turn_rules.specs.Seats.{lines_of, lines_left}
-use Rattle.turn_rules.specs.Carried.{Carried, seat_of, all_passed, at_first, carried, carried_items, AreWhole}
-use Rattle.turn_rules.specs.Laws.{IsAnsweredTo, unanswered, OwesRead, IsAnsweredSoFar, TurnsAnswerSoFar, TurnsAnswer}
 use Rattle.turn_rules.proofs.AllSeats.{at_opening, has_seat, no_lines}
 use Rattle.turn_rules.proofs.Facts.{facts_at_first, later_ticks}
 use Rattle.turn_rules.proofs.SeatLists.{Place, find_place, drop_get}

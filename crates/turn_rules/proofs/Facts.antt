@@ -1,35 +1,14 @@
 -- For run_board and grant_laws too.
 -- Whichever turns are made, all facts hold, and the clock has not ticked further than its lines say.
-use Rattle.std.proofs.Common.{◌≡◌, ℕ, suc, ◌+◌, ◌≤◌, Bool, true, false, cond, List, [], ◌∷◌, Option, Some, None, refl, sym, ◌∙◌, ap, subst, arith}
-use Rattle.std.specs.Prelude.{filter, fold, drop}
-use Rattle.std.specs.Option.{option_map}
-use Rattle.stamp_base.specs.SetupNumbers.{AreInRange}
-use Rattle.history_book.specs.declared.item.Actor.{Actor}
-use Rattle.history_book.specs.declared.item.Actor.TheVariants.{Clock, Node, Session, Janitor}
-use Rattle.machine.specs.declared.event.Event.{Event}
-use Rattle.machine.specs.Machine.{Step}
-use Rattle.script_data.specs.declared.line.Line.{Line}
-use Rattle.script_data.specs.Data.{ScriptData}
-use Rattle.command_semantics.specs.declared.point.Point.{Point}
-use Rattle.command_semantics.specs.declared.point.Point.TheVariants.{Opens}
-use Rattle.command_semantics.specs.Answers.{same_actor}
-use Rattle.script_data.specs.Ticks.{ticks_of}
-use Rattle.command_semantics.specs.Laws.{IsPlayable, IsReached}
-use Rattle.command_semantics.specs.Runs.{clocks_of, step_of, played}
-use Rattle.command_semantics.specs.Views.{view_of}
-use Rattle.command_semantics.proofs.Takes.{TakesFit, takes_at_first}
-use Rattle.command_semantics.proofs.AlwaysFit.{Fit, fit_at_first}
-use Rattle.command_semantics.proofs.Ending.{opening_reached}
-use Rattle.command_semantics.proofs.LaterEvents.{IsLater}
-use Rattle.command_semantics.proofs.OwnLines.{follows_later}
-use Rattle.command_semantics.proofs.ScriptWalks.{actor_same}
-use Rattle.command_semantics.proofs.Timing.{tick_ahead, Timed}
-use Rattle.turn_rules.specs.declared.seat.Seat.{Seat}
-use Rattle.turn_rules.specs.declared.turn.Turn.{Turn}
+use Rattle.turn_rules.proofs.Names.{◌≡◌, ℕ, suc, ◌+◌, ◌≤◌, Bool, true, false, cond, List, [], ◌∷◌, Option, Some, None}
+use Rattle.turn_rules.proofs.Names.{refl, sym, ◌∙◌, ap, subst, arith, filter, fold, drop, option_map, AreInRange, Actor}
+use Rattle.turn_rules.proofs.Names.{Clock, Node, Session, Janitor, Event, Step, Line, ScriptData, Point, Opens}
+use Rattle.turn_rules.proofs.Names.{same_actor, ticks_of, IsPlayable, IsReached, clocks_of, step_of, played, view_of}
+use Rattle.turn_rules.proofs.Names.{TakesFit, takes_at_first, Fit, fit_at_first, opening_reached, IsLater}
+use Rattle.turn_rules.proofs.Names.{follows_later, actor_same, tick_ahead, Timed, Seat, Turn, lines_of, lines_left}
+use Rattle.turn_rules.proofs.Names.{with_event_of, Carried, seat_of, event_of, moved, with_event, seat_passed}
+use Rattle.turn_rules.proofs.Names.{all_passed, turned_by, turned, at_first, unanswered, TurnsKeepFacts}
 use Rattle.turn_rules.specs.declared.turn.Turn.TheVariants as turn
-use Rattle.turn_rules.specs.Seats.{lines_of, lines_left, with_event_of}
-use Rattle.turn_rules.specs.Carried.{Carried, seat_of, event_of, moved, with_event, seat_passed, all_passed, turned_by, turned, at_first}
-use Rattle.turn_rules.specs.Laws.{unanswered, TurnsKeepFacts}
 use Rattle.turn_rules.proofs.MadeEvents.{Made, event_made}
 use Rattle.turn_rules.proofs.OwnTimes.{own_tick}
 use Rattle.turn_rules.proofs.OwnTurns.{OwnTurn, own_turn, turn_timed, StageTurn, stage_turn}

@@ -1,3 +1,4 @@
+mod Names
 mod OwnEvents
 pub mod SeatLists
 pub mod StillReading

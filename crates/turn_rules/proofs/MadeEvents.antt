@@ -1,18 +1,9 @@
 -- One event that comes at its time: what was played after it is reached.
-use Rattle.std.proofs.Common.{◌≡◌, ℕ, ◌+◌, ◌≤◌, ◌^◌, sym, ◌∙◌, subst, arith}
-use Rattle.std.specs.Prelude.{slice_index_or}
-use Rattle.stamp_base.specs.SetupNumbers.{SetupNumbers}
-use Rattle.port_io.specs.declared.weather.Fate.{Fate}
-use Rattle.machine.specs.declared.event.Event.{Event}
-use Rattle.machine.specs.Machine.{stepped, reading_of, seen_after, IsSteadyAt}
-use Rattle.machine.proofs.PartsKept.{seen_up, leaves_parts}
-use Rattle.script_data.specs.Data.{ScriptData}
+use Rattle.turn_rules.proofs.Names.{◌≡◌, ℕ, ◌+◌, ◌≤◌, ◌^◌, sym, ◌∙◌, subst, arith, slice_index_or, SetupNumbers, Fate}
+use Rattle.turn_rules.proofs.Names.{Event, stepped, reading_of, seen_after, IsSteadyAt, seen_up, leaves_parts}
+use Rattle.turn_rules.proofs.Names.{ScriptData, IsReached, Played, fate_of, clocks_of, played, Fit, fit_stays, TakesFit}
+use Rattle.turn_rules.proofs.Names.{takes_stay, Timed, InTime, in_time}
 use Rattle.isolation_laws.proofs.AlwaysHolds.{facts_stay}
-use Rattle.command_semantics.specs.Laws.{IsReached}
-use Rattle.command_semantics.specs.Runs.{Played, fate_of, clocks_of, played}
-use Rattle.command_semantics.proofs.AlwaysFit.{Fit, fit_stays}
-use Rattle.command_semantics.proofs.Takes.{TakesFit, takes_stay}
-use Rattle.command_semantics.proofs.Timing.{Timed, InTime, in_time}
 
 -- what was played after it
 pub record Made (script : ScriptData) (p : Played) (tick : ℕ) (e : Event) : Type 0 where

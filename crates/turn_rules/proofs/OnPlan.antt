@@ -1,31 +1,14 @@
 -- Whichever turns are made, the history keeps to the script's plan, and the clock ticks as its lines say.
-use Rattle.std.proofs.Common.{◌≡◌, ℕ, suc, ◌≤◌, List, [], ◌∷◌, ◌++◌, Option, Some, None, refl, sym, ◌∙◌, ap, subst, arith}
-use Rattle.std.specs.Prelude.{fold, drop, unwrap_or}
-use Rattle.std.specs.Option.{option_map}
-use Rattle.history_book.specs.declared.item.Actor.{Actor}
-use Rattle.history_book.specs.declared.item.Actor.TheVariants.{Clock, Node, Session, Janitor}
-use Rattle.machine.specs.declared.event.Event.{Event}
+use Rattle.turn_rules.proofs.Names.{◌≡◌, ℕ, suc, ◌≤◌, List, [], ◌∷◌, ◌++◌, Option, Some, None, refl, sym, ◌∙◌, ap}
+use Rattle.turn_rules.proofs.Names.{subst, arith, fold, drop, unwrap_or, option_map, Actor, Clock, Node, Session}
+use Rattle.turn_rules.proofs.Names.{Janitor, Event, Step, Line, ScriptData, same_actor, IsPlayable, reading_at}
+use Rattle.turn_rules.proofs.Names.{with_tick, ticks_in, clocks_of, step_of, follows_later, actor_same, tick_ahead}
+use Rattle.turn_rules.proofs.Names.{EventsStayPlanned, LinesReadClocks, ReadsClocks, ticks_with, tick_at, Seat, Turn}
+use Rattle.turn_rules.proofs.Names.{lines_of, lines_left, with_event_of, Carried, seat_of, event_of, moved, with_event}
+use Rattle.turn_rules.proofs.Names.{seat_passed, all_passed, turned_by, turned, unanswered, ticks_ahead, IsPlannedSoFar}
 use Rattle.machine.specs.declared.event.Event.TheVariants as event
-use Rattle.machine.specs.Machine.{Step}
-use Rattle.script_data.specs.declared.line.Line.{Line}
-use Rattle.script_data.specs.Data.{ScriptData}
-use Rattle.command_semantics.specs.Answers.{same_actor}
-use Rattle.command_semantics.specs.Laws.{IsPlayable}
-use Rattle.command_semantics.specs.Next.{reading_at}
-use Rattle.command_semantics.specs.Planned.{with_tick, ticks_in}
-use Rattle.command_semantics.specs.Runs.{clocks_of, step_of}
-use Rattle.command_semantics.proofs.OwnLines.{follows_later}
-use Rattle.command_semantics.proofs.ScriptWalks.{actor_same}
-use Rattle.command_semantics.proofs.Timing.{tick_ahead}
-use Rattle.command_semantics.specs.PlannedLaws.{EventsStayPlanned, LinesReadClocks}
 use Rattle.command_semantics.specs.Orders.{IsTold, EventsStayTold}
-use Rattle.command_semantics.specs.SoFar.{ReadsClocks, ticks_with, tick_at}
-use Rattle.turn_rules.specs.declared.seat.Seat.{Seat}
-use Rattle.turn_rules.specs.declared.turn.Turn.{Turn}
 use Rattle.turn_rules.specs.declared.turn.Turn.TheVariants as turn
-use Rattle.turn_rules.specs.Seats.{lines_of, lines_left, with_event_of}
-use Rattle.turn_rules.specs.Carried.{Carried, seat_of, event_of, moved, with_event, seat_passed, all_passed, turned_by, turned}
-use Rattle.turn_rules.specs.Laws.{unanswered, ticks_ahead, IsPlannedSoFar}
 use Rattle.turn_rules.proofs.Facts.{Facts, facts_turned, later_ticks, clock_ticks, ticks_left}
 use Rattle.turn_rules.proofs.OwnTurns.{OwnTurn, own_turn}
 use Rattle.turn_rules.proofs.PlanTicks.{turn_reads, stage_reads, IsOther, other_tick, clock_tick, first_ticks, ticks_moved, passing_ahead}

@@ -1,31 +1,14 @@
 -- The events of an actor's own turns: each is the next one of its line in file order, or the first of a completion that a
 -- collect goes on with. So each lowers what is left of its line.
-use Rattle.std.proofs.Common.{◌≡◌, ℕ, ◌<◌, Bool, true, false, cond, List, Option, Some, None, ◌⊎◌, inl, inr, refl, sym, ◌∙◌, ap, subst, arith}
-use Rattle.std.proofs.lemmas.Option.{none-some}
-use Rattle.port_io.specs.declared.weather.Fate.{Fate}
-use Rattle.history_book.specs.declared.item.Actor.{Actor}
-use Rattle.history_book.specs.declared.item.Actor.TheVariants.{Clock, Node, Session, Janitor}
-use Rattle.history_book.specs.declared.item.Item.{Item}
-use Rattle.system_parts.specs.declared.instance.Place.{Place}
-use Rattle.machine.specs.declared.event.Event.{Event}
-use Rattle.machine.specs.State.{State}
-use Rattle.machine.specs.Machine.{stepped}
-use Rattle.script_data.specs.declared.line.Verb.{Verb}
+use Rattle.turn_rules.proofs.Names.{◌≡◌, ℕ, ◌<◌, Bool, true, false, cond, List, Option, Some, None, ◌⊎◌, inl, inr, refl}
+use Rattle.turn_rules.proofs.Names.{sym, ◌∙◌, ap, subst, arith, none-some, Fate, Actor, Clock, Node, Session, Janitor}
+use Rattle.turn_rules.proofs.Names.{Item, Place, Event, State, stepped, Verb, ReachedInvariant, Point, Opens, Drives}
+use Rattle.turn_rules.proofs.Names.{Extends, Finishes, Reads, Steps, Over, View, halt_of, follows}
+use Rattle.turn_rules.proofs.Names.{EventsLowerWhatIsLeft, Clocks, is_served, places, placing_next, drive_next}
+use Rattle.turn_rules.proofs.Names.{idle_next, collect_next, next, view_of, Waits, Passes, Reply, Name, made_next}
+use Rattle.turn_rules.proofs.Names.{drive_ahead, collect_ahead, own_opens, own_next, made_by, OwnEventsLowerWhatIsLeft}
 use Rattle.script_data.specs.declared.line.Verb.TheVariants as verb
-use Rattle.isolation_laws.specs.Sound.{ReachedInvariant}
-use Rattle.command_semantics.specs.declared.point.Point.{Point}
-use Rattle.command_semantics.specs.declared.point.Point.TheVariants.{Opens, Drives, Extends, Finishes, Reads, Steps, Over}
-use Rattle.command_semantics.specs.declared.point.View.{View}
-use Rattle.command_semantics.specs.Interruptions.{halt_of, follows}
-use Rattle.command_semantics.specs.Laws.{EventsLowerWhatIsLeft}
 use Rattle.command_semantics.specs.Left.{drive_left, left}
-use Rattle.command_semantics.specs.Next.{Clocks, is_served, places, placing_next, drive_next, idle_next, collect_next, next}
-use Rattle.command_semantics.specs.Views.{view_of}
-use Rattle.turn_rules.specs.declared.ahead.NextAction.TheVariants.{Waits, Passes}
-use Rattle.turn_rules.specs.declared.ahead.Why.TheVariants.{Reply, Name}
-use Rattle.turn_rules.specs.Waiting.{made_next, drive_ahead, collect_ahead, own_opens, own_next}
-use Rattle.turn_rules.specs.Carried.{made_by}
-use Rattle.turn_rules.specs.Laws.{OwnEventsLowerWhatIsLeft}
 
 -- the next event of the line in file order, or what a collect goes on with
 abbrev pub IsNextOf : Clocks → Actor → Verb → Point → View → Event → Type 0

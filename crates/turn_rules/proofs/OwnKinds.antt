@@ -1,25 +1,14 @@
 -- What an own event is that opens no line: a step of the session, its heal or its abort, or the janitor's.
-use Rattle.std.proofs.Common.{◌≡◌, ℕ, Bool, true, false, cond, Option, Some, None, refl}
-use Rattle.history_book.specs.declared.item.Actor.{Actor}
-use Rattle.history_book.specs.declared.item.Actor.TheVariants.{Clock, Node, Session, Janitor}
-use Rattle.system_parts.specs.declared.instance.Place.{Place}
-use Rattle.machine.specs.declared.event.Doing.{Doing}
+use Rattle.turn_rules.proofs.Names.{◌≡◌, ℕ, Bool, true, false, cond, Option, Some, None, refl, Actor, Clock, Node}
+use Rattle.turn_rules.proofs.Names.{Session, Janitor, Place, Doing, Event, Verb, Point, Opens, Drives, Extends}
+use Rattle.turn_rules.proofs.Names.{Finishes, Reads, Steps, Over, View, clock_opening, node_opening, session_opening}
+use Rattle.turn_rules.proofs.Names.{name_opening, has_opening, Clocks, is_served, finish_next, places, placing_next}
+use Rattle.turn_rules.proofs.Names.{idle_next, read_next, steps_next, sweep_next, IsLater, NextAction, Makes, Waits}
+use Rattle.turn_rules.proofs.Names.{Passes, Reply, made_next, drive_ahead, collect_ahead, own_opens, own_next}
+use Rattle.turn_rules.proofs.Names.{IsForThreads}
 use Rattle.machine.specs.declared.event.Doing.TheVariants as doing
-use Rattle.machine.specs.declared.event.Event.{Event}
 use Rattle.machine.specs.declared.event.Event.TheVariants as event
-use Rattle.script_data.specs.declared.line.Verb.{Verb}
 use Rattle.script_data.specs.declared.line.Verb.TheVariants as verb
-use Rattle.command_semantics.specs.declared.point.Point.{Point}
-use Rattle.command_semantics.specs.declared.point.Point.TheVariants.{Opens, Drives, Extends, Finishes, Reads, Steps, Over}
-use Rattle.command_semantics.specs.declared.point.View.{View}
-use Rattle.command_semantics.specs.Answers.{clock_opening, node_opening, session_opening, name_opening, has_opening}
-use Rattle.command_semantics.specs.Next.{Clocks, is_served, finish_next, places, placing_next, idle_next, read_next, steps_next, sweep_next}
-use Rattle.command_semantics.proofs.LaterEvents.{IsLater}
-use Rattle.turn_rules.specs.declared.ahead.NextAction.{NextAction}
-use Rattle.turn_rules.specs.declared.ahead.NextAction.TheVariants.{Makes, Waits, Passes}
-use Rattle.turn_rules.specs.declared.ahead.Why.TheVariants.{Reply}
-use Rattle.turn_rules.specs.Waiting.{made_next, drive_ahead, collect_ahead, own_opens, own_next}
-use Rattle.turn_rules.specs.Told.{IsForThreads}
 
 -- ---- the kinds
 abbrev pub OwnKind : Actor → Event → Type 0

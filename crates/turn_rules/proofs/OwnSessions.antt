@@ -1,19 +1,14 @@
 -- For grant_laws too.
 -- The events of an actor's own turns are of no other session.
-use Rattle.std.proofs.Common.{◌≡◌, ℕ, Bool, true, false, cond, Option, Some, None, inl, inr, sym, ap, subst}
-use Rattle.history_book.specs.declared.item.Actor.{Actor}
-use Rattle.history_book.specs.declared.item.Actor.TheVariants.{Clock, Node, Session, Janitor}
-use Rattle.system_parts.specs.declared.instance.Place.{Place}
+use Rattle.turn_rules.proofs.Names.{◌≡◌, ℕ, Bool, true, false, cond, Option, Some, None, inl, inr, sym, ap, subst}
+use Rattle.turn_rules.proofs.Names.{Actor, Clock, Node, Session, Janitor, Place, Doing, Event, Verb, Point, Opens}
+use Rattle.turn_rules.proofs.Names.{Drives, Extends, Finishes, Reads, Steps, Over, View, Clocks, serves, is_served}
+use Rattle.turn_rules.proofs.Names.{finish_next, places, placing_next, drive_next, extend_next, idle_next, collect_next}
+use Rattle.turn_rules.proofs.Names.{read_next, steps_next, sweep_next, clock_opens, node_opens, session_opens}
+use Rattle.turn_rules.proofs.Names.{janitor_opens, session_next, janitor_next, opens_alone, next}
 use Rattle.system_parts.specs.declared.instance.Place.TheVariants as place
-use Rattle.machine.specs.declared.event.Doing.{Doing}
 use Rattle.machine.specs.declared.event.Doing.TheVariants as doing
-use Rattle.machine.specs.declared.event.Event.{Event}
-use Rattle.script_data.specs.declared.line.Verb.{Verb}
 use Rattle.script_data.specs.declared.line.Verb.TheVariants as verb
-use Rattle.command_semantics.specs.declared.point.Point.{Point}
-use Rattle.command_semantics.specs.declared.point.Point.TheVariants.{Opens, Drives, Extends, Finishes, Reads, Steps, Over}
-use Rattle.command_semantics.specs.declared.point.View.{View}
-use Rattle.command_semantics.specs.Next.{Clocks, serves, is_served, finish_next, places, placing_next, drive_next, extend_next, idle_next, collect_next, read_next, steps_next, sweep_next, clock_opens, node_opens, session_opens, janitor_opens, session_next, janitor_next, opens_alone, next}
 use Rattle.turn_rules.proofs.OwnEvents.{IsNextOf}
 use Rattle.turn_rules.proofs.StillReading.{IsNotOf}
 

@@ -1,20 +1,10 @@
 -- For run_board and grant_laws too.
 -- The events of own turns come at their time, and so do those of stages; only the clock's own line ticks.
-use Rattle.std.proofs.Common.{◌≡◌, ℕ, List, Some, inl, inr, refl, sym, ◌∙◌, ap, subst}
-use Rattle.std.proofs.lemmas.Option.{none-some}
-use Rattle.history_book.specs.declared.item.Actor.{Actor}
-use Rattle.history_book.specs.declared.item.Actor.TheVariants.{Clock, Node, Session, Janitor}
-use Rattle.machine.specs.declared.event.Event.{Event}
+use Rattle.turn_rules.proofs.Names.{◌≡◌, ℕ, List, Some, inl, inr, refl, sym, ◌∙◌, ap, subst, none-some, Actor, Clock}
+use Rattle.turn_rules.proofs.Names.{Node, Session, Janitor, Event, Verb, Point, Opens, Drives, View, tick_of, clocks}
+use Rattle.turn_rules.proofs.Names.{Clocks, next, tick_ahead, Timed, event_timed}
 use Rattle.machine.specs.declared.event.Event.TheVariants as event
-use Rattle.script_data.specs.declared.line.Verb.{Verb}
 use Rattle.script_data.specs.declared.line.Verb.TheVariants as verb
-use Rattle.command_semantics.specs.declared.point.Point.{Point}
-use Rattle.command_semantics.specs.declared.point.Point.TheVariants.{Opens, Drives}
-use Rattle.command_semantics.specs.declared.point.View.{View}
-use Rattle.script_data.specs.Ticks.{tick_of}
-use Rattle.command_semantics.specs.Clocks.{clocks}
-use Rattle.command_semantics.specs.Next.{Clocks, next}
-use Rattle.command_semantics.proofs.Timing.{tick_ahead, Timed, event_timed}
 use Rattle.turn_rules.proofs.OwnEvents.{IsNextOf}
 
 -- ---- a tick is only the clock's

@@ -1,33 +1,14 @@
 -- Each event of an own turn appends an item, or opens a sweep.
-use Rattle.std.proofs.Common.{◌≡◌, ℕ, zero, suc, ◌<◌, Bool, true, false, List, [], ◌∷◌, Some, inl, inr, refl, sym, subst}
-use Rattle.std.specs.Prelude.{slice_get}
-use Rattle.std.proofs.lemmas.Option.{same_Some, none-some}
-use Rattle.history_book.specs.declared.item.Actor.{Actor}
-use Rattle.history_book.specs.declared.item.Actor.TheVariants.{Session, Janitor}
-use Rattle.history_book.specs.declared.item.Item.{Item}
-use Rattle.machine.specs.declared.event.Event.{Event}
+use Rattle.turn_rules.proofs.Names.{◌≡◌, ℕ, zero, suc, ◌<◌, Bool, true, false, List, [], ◌∷◌, Some, inl, inr, refl, sym}
+use Rattle.turn_rules.proofs.Names.{subst, slice_get, same_Some, none-some, Actor, Session, Janitor, Item, Event}
+use Rattle.turn_rules.proofs.Names.{Client, Line, ScriptData, ReachedInvariant, ClientAt, Point, Opens, same_actor}
+use Rattle.turn_rules.proofs.Names.{has_opening, IsAnswer, asks_some, ActorFits, Played, fate_of, step_of, view_of, Fit}
+use Rattle.turn_rules.proofs.Names.{found, IsLater, NextAction, Makes, Waits, Passes, Carried, aimed_clocks}
+use Rattle.turn_rules.proofs.Names.{name_posted, made_by, all_passed, at_first, carried, IsTold, IsForThreads}
+use Rattle.turn_rules.proofs.Names.{AreForThreads, OwnTurnsAreTold, own_next}
 use Rattle.machine.specs.declared.event.Event.TheVariants as event
-use Rattle.machine.specs.State.{Client}
-use Rattle.script_data.specs.declared.line.Line.{Line}
-use Rattle.script_data.specs.Data.{ScriptData}
-use Rattle.isolation_laws.specs.Sound.{ReachedInvariant}
-use Rattle.isolation_laws.specs.Words.{ClientAt}
-use Rattle.command_semantics.specs.declared.point.Point.{Point}
-use Rattle.command_semantics.specs.declared.point.Point.TheVariants.{Opens}
-use Rattle.command_semantics.specs.Answers.{same_actor, has_opening, IsAnswer, asks_some}
-use Rattle.command_semantics.specs.Laws.{ActorFits}
-use Rattle.command_semantics.specs.Runs.{Played, fate_of, step_of}
-use Rattle.command_semantics.specs.Views.{view_of}
-use Rattle.command_semantics.proofs.AlwaysFit.{Fit, found}
-use Rattle.command_semantics.proofs.LaterEvents.{IsLater}
 use Rattle.command_semantics.proofs.OpenedLines.{line_answered}
 use Rattle.command_semantics.proofs.OpeningItems.{Begins}
-use Rattle.turn_rules.specs.declared.ahead.NextAction.{NextAction}
-use Rattle.turn_rules.specs.declared.ahead.NextAction.TheVariants.{Makes, Waits, Passes}
-use Rattle.turn_rules.specs.Carried.{Carried, aimed_clocks, name_posted, made_by, all_passed, at_first, carried}
-use Rattle.turn_rules.specs.Lawful.{IsTold}
-use Rattle.turn_rules.specs.Told.{IsForThreads, AreForThreads, OwnTurnsAreTold}
-use Rattle.turn_rules.specs.Waiting.{own_next}
 use Rattle.turn_rules.proofs.Facts.{Facts, facts_at_first, facts_all}
 use Rattle.turn_rules.proofs.OwnEvents.{IsNextOf}
 use Rattle.turn_rules.proofs.OwnKinds.{OwnKind, NextActionKind, later_kind, opens_kind}

@@ -1,28 +1,13 @@
 -- For run_board and grant_laws too.
 -- What makes an event: a line of the actor's seat, or a stage.
-use Rattle.std.proofs.Common.{◌≡◌, ℕ, zero, suc, List, [], ◌∷◌, Option, Some, None, refl, sym, ◌∙◌, subst}
-use Rattle.std.specs.Prelude.{slice_get}
-use Rattle.std.proofs.lemmas.Option.{same_Some, none-some}
-use Rattle.stamp_base.specs.SetupNumbers.{SetupNumbers}
-use Rattle.history_book.specs.declared.item.Actor.{Actor}
-use Rattle.machine.specs.declared.event.Event.{Event}
+use Rattle.turn_rules.proofs.Names.{◌≡◌, ℕ, zero, suc, List, [], ◌∷◌, Option, Some, None, refl, sym, ◌∙◌, subst}
+use Rattle.turn_rules.proofs.Names.{slice_get, same_Some, none-some, SetupNumbers, Actor, Event, Line, ScriptData}
+use Rattle.turn_rules.proofs.Names.{same_actor, ActorFits, VerbFits, AreLinesOf, last_master, reading_at, clocks_of}
+use Rattle.turn_rules.proofs.Names.{view_of, OpensNone, actor_same, Timed, tick_ahead, Seat, Turn, present_line}
+use Rattle.turn_rules.proofs.Names.{ahead_of, Carried, aimed_node, aimed_clocks, name_posted, ahead_at, ahead_in}
+use Rattle.turn_rules.proofs.Names.{seat_of, made_by, event_of}
 use Rattle.machine.specs.declared.event.Event.TheVariants as event
-use Rattle.script_data.specs.declared.line.Line.{Line}
-use Rattle.script_data.specs.Data.{ScriptData}
-use Rattle.command_semantics.specs.Answers.{same_actor}
-use Rattle.command_semantics.specs.Laws.{ActorFits, VerbFits, AreLinesOf}
-use Rattle.command_semantics.specs.Master.{last_master}
-use Rattle.command_semantics.specs.Next.{reading_at}
-use Rattle.command_semantics.specs.Runs.{clocks_of}
-use Rattle.command_semantics.specs.Views.{view_of}
-use Rattle.command_semantics.proofs.PlainEvents.{OpensNone}
-use Rattle.command_semantics.proofs.ScriptWalks.{actor_same}
-use Rattle.command_semantics.proofs.Timing.{Timed, tick_ahead}
-use Rattle.turn_rules.specs.declared.seat.Seat.{Seat}
-use Rattle.turn_rules.specs.declared.turn.Turn.{Turn}
 use Rattle.turn_rules.specs.declared.turn.Turn.TheVariants as turn
-use Rattle.turn_rules.specs.Seats.{present_line, ahead_of}
-use Rattle.turn_rules.specs.Carried.{Carried, aimed_node, aimed_clocks, name_posted, ahead_at, ahead_in, seat_of, made_by, event_of}
 use Rattle.turn_rules.proofs.OwnEvents.{IsNextOf, own_is_next}
 use Rattle.turn_rules.proofs.OwnTimes.{own_tick, own_timed, timed_anyhow}
 use Rattle.turn_rules.proofs.SeatLists.{find_true, Filtered, filtered}

@@ -1,43 +1,16 @@
 -- What an event leaves of an actor's walk: one of its own line takes it further, and one of another leaves it; and a line with
 -- nothing left to do is answered.
-use Rattle.std.proofs.Common.{◌≡◌, ℕ, ◌<◌, Bool, true, false, cond, ◌&&◌, List, [], ◌∷◌, ◌++◌, Option, Some, None, inl, inr, refl, sym, ◌∙◌, ap, subst}
-use Rattle.std.proofs.lemmas.Option.{none-some}
-use Rattle.port_io.specs.declared.weather.Fate.{Fate}
-use Rattle.history_book.specs.declared.item.Actor.{Actor}
-use Rattle.history_book.specs.declared.item.Actor.TheVariants.{Clock, Node, Session, Janitor}
-use Rattle.history_book.specs.declared.item.Item.{Item}
-use Rattle.machine.specs.declared.event.Event.{Event}
+use Rattle.turn_rules.proofs.Names.{◌≡◌, ℕ, ◌<◌, Bool, true, false, cond, ◌&&◌, List, [], ◌∷◌, ◌++◌, Option, Some, None}
+use Rattle.turn_rules.proofs.Names.{inl, inr, refl, sym, ◌∙◌, ap, subst, none-some, Fate, Actor, Clock, Node, Session}
+use Rattle.turn_rules.proofs.Names.{Janitor, Item, Event, Stop, Step, stepped, doing_of, State, Line, Target, Verb}
+use Rattle.turn_rules.proofs.Names.{ReachedInvariant, Point, Opens, Drives, Reads, View, same_actor, has_opening, is_of}
+use Rattle.turn_rules.proofs.Names.{IsAnswer, asks_some, halt_of, follows, ActorFits, VerbFits, Clocks, target_node}
+use Rattle.turn_rules.proofs.Names.{read_next, next, view_of, Fit, IsLater, any_not, follows_later, later_plain}
+use Rattle.turn_rules.proofs.Names.{opens_line, opens_some, read_next_is, ReadsKey, EndsOrReads, read_goes_on}
+use Rattle.turn_rules.proofs.Names.{read_has_next, same_itself, AllNot, Waits, Passes, Name, made_by, IsAnsweredTo}
+use Rattle.turn_rules.proofs.Names.{made_next, own_opens, own_next}
 use Rattle.machine.specs.declared.event.Event.TheVariants as event
-use Rattle.machine.specs.Effect.{Stop}
-use Rattle.machine.specs.Machine.{Step, stepped}
-use Rattle.machine.specs.Readers.{doing_of}
-use Rattle.machine.specs.State.{State}
-use Rattle.script_data.specs.declared.line.Line.{Line}
-use Rattle.script_data.specs.declared.line.Target.{Target}
-use Rattle.script_data.specs.declared.line.Verb.{Verb}
 use Rattle.script_data.specs.declared.line.Verb.TheVariants as verb
-use Rattle.isolation_laws.specs.Sound.{ReachedInvariant}
-use Rattle.command_semantics.specs.declared.point.Point.{Point}
-use Rattle.command_semantics.specs.declared.point.Point.TheVariants.{Opens, Drives, Reads}
-use Rattle.command_semantics.specs.declared.point.View.{View}
-use Rattle.command_semantics.specs.Answers.{same_actor, has_opening, is_of, IsAnswer, asks_some}
-use Rattle.command_semantics.specs.Interruptions.{halt_of, follows}
-use Rattle.command_semantics.specs.Laws.{ActorFits, VerbFits}
-use Rattle.command_semantics.specs.Next.{Clocks, target_node, read_next, next}
-use Rattle.command_semantics.specs.Views.{view_of}
-use Rattle.command_semantics.proofs.AlwaysFit.{Fit}
-use Rattle.command_semantics.proofs.LaterEvents.{IsLater}
-use Rattle.command_semantics.proofs.LineWalks.{any_not}
-use Rattle.command_semantics.proofs.OwnLines.{follows_later, later_plain, opens_line, opens_some, read_next_is}
-use Rattle.command_semantics.proofs.ReadLines.{ReadsKey, EndsOrReads}
-use Rattle.command_semantics.proofs.ReadSteps.{read_goes_on, read_has_next}
-use Rattle.command_semantics.proofs.ScriptWalks.{same_itself}
-use Rattle.command_semantics.proofs.Walks.{AllNot}
-use Rattle.turn_rules.specs.declared.ahead.NextAction.TheVariants.{Waits, Passes}
-use Rattle.turn_rules.specs.declared.ahead.Why.TheVariants.{Name}
-use Rattle.turn_rules.specs.Carried.{made_by}
-use Rattle.turn_rules.specs.Laws.{IsAnsweredTo}
-use Rattle.turn_rules.specs.Waiting.{made_next, own_opens, own_next}
 use Rattle.turn_rules.proofs.OwnEvents.{IsNextOf, made_is}
 use Rattle.turn_rules.proofs.WalksOn.{answered_past, answered_skip, answered_line, answered_begun, answered_read, ReadUnderWay, Present, StandsSo}
 

@@ -1,12 +1,7 @@
 -- The loop that passes lines comes to the seat of the definition.
-use Rattle.std.proofs.Common.{◌≡◌, ℕ, suc, ◌+◌, ◌<◌, ◌≤◌, Bool, true, false, cond, List, [], ◌∷◌, refl, sym, ◌∙◌, ap, subst, arith, length, zero}
-use Rattle.std.specs.Prelude.{drop, slice_index_or}
-use Rattle.std.proofs.lemmas.Option.{same_Some, slice_get_read}
-use Rattle.script_data.specs.declared.line.Line.{Line}
-use Rattle.command_semantics.specs.declared.point.View.{View}
-use Rattle.command_semantics.specs.Next.{Clocks}
-use Rattle.turn_rules.specs.declared.seat.Seat.{Seat}
-use Rattle.turn_rules.specs.Seats.{with_next_line, ahead_of, is_passed, passed}
+use Rattle.turn_rules.proofs.Names.{◌≡◌, ℕ, suc, ◌+◌, ◌<◌, ◌≤◌, Bool, true, false, cond, List, [], ◌∷◌, refl, sym, ◌∙◌}
+use Rattle.turn_rules.proofs.Names.{ap, subst, arith, length, zero, drop, slice_index_or, same_Some, slice_get_read}
+use Rattle.turn_rules.proofs.Names.{Line, View, Clocks, Seat, with_next_line, ahead_of, is_passed, passed}
 use Rattle.turn_rules.proofs.SeatLists.{get_drop}
 
 -- what is passed from the seat on is what was to be passed

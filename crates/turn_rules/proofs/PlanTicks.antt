@@ -1,34 +1,14 @@
 -- The ticks of own events, and that passing lines passes none.
-use Rattle.std.proofs.Common.{◌≡◌, ℕ, ◌≤◌, Bool, true, false, List, [], ◌∷◌, ◌++◌, append_assoc, Option, Some, None, inl, inr, refl, sym, ◌∙◌, ap, subst, arith}
-use Rattle.std.specs.Prelude.{unwrap_or}
-use Rattle.std.proofs.lemmas.Option.{same_Some}
-use Rattle.history_book.specs.declared.item.Actor.{Actor}
-use Rattle.history_book.specs.declared.item.Actor.TheVariants.{Clock, Node, Session, Janitor}
-use Rattle.machine.specs.declared.event.Event.{Event}
+use Rattle.turn_rules.proofs.Names.{◌≡◌, ℕ, ◌≤◌, Bool, true, false, List, [], ◌∷◌, ◌++◌, append_assoc, Option, Some}
+use Rattle.turn_rules.proofs.Names.{None, inl, inr, refl, sym, ◌∙◌, ap, subst, arith, unwrap_or, same_Some, Actor}
+use Rattle.turn_rules.proofs.Names.{Clock, Node, Session, Janitor, Event, Line, Verb, ScriptData, Point, Opens, Drives}
+use Rattle.turn_rules.proofs.Names.{Extends, Finishes, Reads, Steps, Over, View, same_actor, clocks, last_master}
+use Rattle.turn_rules.proofs.Names.{Clocks, tick_by, with_tick, ticks_in, clocks_of, view_of, tick_ahead}
+use Rattle.turn_rules.proofs.Names.{LinesReadClocks, ReadsClocks, ticks_with, tick_at, Passes, Seat, lines_of}
+use Rattle.turn_rules.proofs.Names.{lines_left, ahead_of, own_opens, Carried, aimed_node, aimed_clocks, seat_passed}
+use Rattle.turn_rules.proofs.Names.{unanswered, ticks_ahead}
 use Rattle.machine.specs.declared.event.Event.TheVariants as event
-use Rattle.script_data.specs.declared.line.Line.{Line}
-use Rattle.script_data.specs.declared.line.Verb.{Verb}
 use Rattle.script_data.specs.declared.line.Verb.TheVariants as verb
-use Rattle.script_data.specs.Data.{ScriptData}
-use Rattle.command_semantics.specs.declared.point.Point.{Point}
-use Rattle.command_semantics.specs.declared.point.Point.TheVariants.{Opens, Drives, Extends, Finishes, Reads, Steps, Over}
-use Rattle.command_semantics.specs.declared.point.View.{View}
-use Rattle.command_semantics.specs.Answers.{same_actor}
-use Rattle.command_semantics.specs.Clocks.{clocks}
-use Rattle.command_semantics.specs.Master.{last_master}
-use Rattle.command_semantics.specs.Next.{Clocks}
-use Rattle.command_semantics.specs.Planned.{tick_by, with_tick, ticks_in}
-use Rattle.command_semantics.specs.Runs.{clocks_of}
-use Rattle.command_semantics.specs.Views.{view_of}
-use Rattle.command_semantics.proofs.Timing.{tick_ahead}
-use Rattle.command_semantics.specs.PlannedLaws.{LinesReadClocks}
-use Rattle.command_semantics.specs.SoFar.{ReadsClocks, ticks_with, tick_at}
-use Rattle.turn_rules.specs.declared.ahead.NextAction.TheVariants.{Passes}
-use Rattle.turn_rules.specs.declared.seat.Seat.{Seat}
-use Rattle.turn_rules.specs.Seats.{lines_of, lines_left, ahead_of}
-use Rattle.turn_rules.specs.Waiting.{own_opens}
-use Rattle.turn_rules.specs.Carried.{Carried, aimed_node, aimed_clocks, seat_passed}
-use Rattle.turn_rules.specs.Laws.{unanswered, ticks_ahead}
 use Rattle.turn_rules.proofs.OwnEvents.{IsNextOf}
 use Rattle.turn_rules.proofs.OwnTurns.{present_own, OwnTurn}
 use Rattle.turn_rules.proofs.SeatLists.{drop_get}

@@ -1,36 +1,25 @@
 -- A decision and an answer that append nothing change nothing: their request was told before that it has to wait.
-use Rattle.std.proofs.Common.{◌≡◌, ℕ, zero, suc, ◌+◌, ◌==◌, Bool, true, false, cond, List, [], ◌∷◌, ◌++◌, Option, Some, None, Result, Ok, Err, refl, sym, ◌∙◌, ap, subst}
-use Rattle.std.specs.Prelude.{slice_get, slice_set, slice_index_or}
-use Rattle.std.proofs.lemmas.List.{append-nil}
-use Rattle.std.proofs.lemmas.Option.{none-some}
-use Rattle.history_book.specs.declared.cause.Cause.{Cause}
+use Rattle.turn_rules.proofs.Names.{◌≡◌, ℕ, zero, suc, ◌+◌, ◌==◌, Bool, true, false, cond, List, [], ◌∷◌, ◌++◌, Option}
+use Rattle.turn_rules.proofs.Names.{Some, None, Result, Ok, Err, refl, sym, ◌∙◌, ap, subst, slice_get, slice_set}
+use Rattle.turn_rules.proofs.Names.{slice_index_or, append-nil, none-some, Cause, Item, Held, Request, Begin, Commit}
+use Rattle.turn_rules.proofs.Names.{InstanceEntry, held_of, with_request, stamps_of_held, least_unsettled}
+use Rattle.turn_rules.proofs.Names.{not_yet_of_held, InstanceStep, IsStop, out_of_stamps, decide_drawn, verdict_by}
+use Rattle.turn_rules.proofs.Names.{answer_begin, answer_if_ready, answer_held, instance_answer, Event, Client, State}
+use Rattle.turn_rules.proofs.Names.{Effect, Step, step_by, with_post, with_client, at_both, stepped, answer_by}
+use Rattle.turn_rules.proofs.Names.{answer_request, answer_on, both_verdict, both_if_accepted, both_held, decide_both}
+use Rattle.turn_rules.proofs.Names.{decide_by, decide_request, decide_on, ScriptData, ReachedInvariant, Played, fate_of}
+use Rattle.turn_rules.proofs.Names.{QuietTurnsChangeNothing}
 use Rattle.history_book.specs.declared.cause.Cause.TheVariants as cause
-use Rattle.history_book.specs.declared.item.Item.{Item}
 use Rattle.system_parts.specs.declared.buckets.Verdict.{Verdict}
 use Rattle.system_parts.specs.declared.buckets.Verdict.TheVariants.{Free, Conflict, Hidden}
 use Rattle.system_parts.specs.declared.instance.Decided.{Decided}
-use Rattle.system_parts.specs.declared.instance.Held.{Held}
 use Rattle.system_parts.specs.declared.instance.Progress.{Progress}
 use Rattle.system_parts.specs.declared.instance.Progress.TheVariants.{Asked, Accepted, Drawn, Settled, Handed}
 use Rattle.system_parts.specs.declared.instance.Reply.{Reply}
 use Rattle.system_parts.specs.declared.instance.Reply.TheVariants as reply
-use Rattle.system_parts.specs.declared.instance.Request.{Request}
-use Rattle.system_parts.specs.declared.instance.Request.TheVariants.{Begin, Commit}
-use Rattle.system_parts.specs.Instance.{InstanceEntry, held_of, with_request, stamps_of_held, least_unsettled, not_yet_of_held}
-use Rattle.system_parts.specs.InstanceSteps.{InstanceStep, IsStop, out_of_stamps, decide_drawn, decide_by as verdict_by, answer_begin, answer_if_ready, answer_held, instance_answer}
-use Rattle.machine.specs.declared.event.Event.{Event}
 use Rattle.machine.specs.declared.event.Event.TheVariants as event
-use Rattle.machine.specs.State.{Client, State}
-use Rattle.machine.specs.Effect.{Effect}
-use Rattle.machine.specs.Machine.{Step, step_by, with_post, with_client, at_both, stepped}
-use Rattle.machine.specs.Events.Answer.{answer_by, answer_request, answer_on}
-use Rattle.machine.specs.Events.Decide.{both_verdict, both_if_accepted, both_held, decide_both, decide_by, decide_request, decide_on}
 use Rattle.machine.proofs.Refusals.{same_both}
-use Rattle.script_data.specs.Data.{ScriptData}
 use Rattle.machine.specs.Fits.{StopOf}
-use Rattle.isolation_laws.specs.Sound.{ReachedInvariant}
-use Rattle.command_semantics.specs.Runs.{Played, fate_of}
-use Rattle.turn_rules.specs.Told.{QuietTurnsChangeNothing}
 
 -- ---- a request that was told is put back as it was
 set_there : (xs : List (Option Held)) (s : ℕ) (held : Held) → slice_index_or xs s None ≡ Some held → slice_set xs s (Some held) ≡ xs

@@ -1,9 +1,8 @@
 -- For run_board and grant_laws too.
 -- Seats in their list, and the lines of a seat in the script.
-use Rattle.std.proofs.Common.{◌≡◌, ℕ, zero, suc, ◌+◌, ◌<◌, Bool, true, false, cond, List, [], ◌∷◌, Option, Some, refl, sym, ◌∙◌, ap, subst, arith, length}
-use Rattle.std.specs.Prelude.{map, find, filter, drop, slice_get, slice_index_or}
-use Rattle.std.specs.Option.{option_map}
-use Rattle.std.proofs.lemmas.Option.{same_Some, none-some}
+use Rattle.turn_rules.proofs.Names.{◌≡◌, ℕ, zero, suc, ◌+◌, ◌<◌, Bool, true, false, cond, List, [], ◌∷◌, Option, Some}
+use Rattle.turn_rules.proofs.Names.{refl, sym, ◌∙◌, ap, subst, arith, length, map, find, filter, drop, slice_get}
+use Rattle.turn_rules.proofs.Names.{slice_index_or, option_map, same_Some, none-some}
 
 -- ---- the first element that passes a test
 found_true : {X : Type 0} (test : X → Bool) (y x : X) (rest : Option X) → (rest ≡ Some x → test x ≡ true) → (here : Bool) → test y ≡ here → cond here (Some y) rest ≡ Some x → test x ≡ true

@@ -1,26 +1,12 @@
 -- For run_board and grant_laws too.
 -- What a seat keeps while it passes lines, and what a turn makes of the seats.
-use Rattle.std.proofs.Common.{◌≡◌, ℕ, Bool, true, false, cond, List, [], ◌∷◌, Option, Some, None, refl, sym, ◌∙◌, ap, subst}
-use Rattle.std.specs.Prelude.{map}
-use Rattle.std.specs.Option.{option_map}
-use Rattle.history_book.specs.declared.item.Actor.{Actor}
-use Rattle.machine.specs.declared.event.Event.{Event}
-use Rattle.machine.specs.Machine.{Step}
-use Rattle.script_data.specs.declared.line.Line.{Line}
-use Rattle.script_data.specs.Data.{ScriptData}
-use Rattle.command_semantics.specs.declared.point.View.{View}
-use Rattle.command_semantics.specs.Answers.{same_actor}
-use Rattle.command_semantics.specs.Next.{Clocks}
-use Rattle.command_semantics.specs.Runs.{clocks_of, step_of}
-use Rattle.command_semantics.specs.Views.{view_of}
-use Rattle.command_semantics.proofs.ScriptWalks.{same_itself}
-use Rattle.turn_rules.specs.declared.ahead.NextAction.{NextAction}
-use Rattle.turn_rules.specs.declared.ahead.NextAction.TheVariants.{Makes, Waits, Passes}
-use Rattle.turn_rules.specs.declared.seat.Seat.{Seat}
-use Rattle.turn_rules.specs.declared.turn.Turn.{Turn}
+use Rattle.turn_rules.proofs.Names.{◌≡◌, ℕ, Bool, true, false, cond, List, [], ◌∷◌, Option, Some, None, refl, sym, ◌∙◌}
+use Rattle.turn_rules.proofs.Names.{ap, subst, map, option_map, Actor, Event, Step, Line, ScriptData, View, same_actor}
+use Rattle.turn_rules.proofs.Names.{Clocks, clocks_of, step_of, view_of, same_itself, NextAction, Makes, Waits, Passes}
+use Rattle.turn_rules.proofs.Names.{Seat, Turn, lines_of, lines_left, present_line, with_next_line, ahead_of, is_passed}
+use Rattle.turn_rules.proofs.Names.{passed, with_event_of, with_event_at, Carried, seat_of, moved, with_event}
+use Rattle.turn_rules.proofs.Names.{seat_passed, all_passed}
 use Rattle.turn_rules.specs.declared.turn.Turn.TheVariants as turn
-use Rattle.turn_rules.specs.Seats.{lines_of, lines_left, present_line, with_next_line, ahead_of, is_passed, passed, with_event_of, with_event_at}
-use Rattle.turn_rules.specs.Carried.{Carried, seat_of, moved, with_event, seat_passed, all_passed}
 use Rattle.turn_rules.proofs.SeatLists.{find_map, drop_next}
 
 -- ---- passing

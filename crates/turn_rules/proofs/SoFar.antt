@@ -1,37 +1,14 @@
 -- Whichever turns are made, each actor's lines are answered up to its seat.
-use Rattle.std.proofs.Common.{◌≡◌, ℕ, suc, Bool, true, false, cond, List, [], ◌∷◌, ◌++◌, Option, Some, None, inl, inr, refl, sym, ◌∙◌, ap, subst}
-use Rattle.std.specs.Prelude.{drop, fold}
-use Rattle.std.specs.Option.{option_map}
-use Rattle.stamp_base.specs.SetupNumbers.{SetupNumbers}
-use Rattle.history_book.specs.declared.item.Actor.{Actor}
-use Rattle.history_book.specs.declared.item.Actor.TheVariants.{Session}
-use Rattle.history_book.specs.declared.item.Item.{Item}
-use Rattle.machine.specs.declared.event.Event.{Event}
-use Rattle.machine.specs.Machine.{Step}
-use Rattle.machine.specs.State.{State}
-use Rattle.script_data.specs.declared.line.Line.{Line}
-use Rattle.script_data.specs.declared.line.Target.{Target}
+use Rattle.turn_rules.proofs.Names.{◌≡◌, ℕ, suc, Bool, true, false, cond, List, [], ◌∷◌, ◌++◌, Option, Some, None, inl}
+use Rattle.turn_rules.proofs.Names.{inr, refl, sym, ◌∙◌, ap, subst, drop, fold, option_map, SetupNumbers, Actor}
+use Rattle.turn_rules.proofs.Names.{Session, Item, Event, Step, State, Line, Target, ScriptData, same_actor, asks_some}
+use Rattle.turn_rules.proofs.Names.{ActorFits, VerbFits, AreLinesOf, IsPlayable, has_take, target_node, fate_of}
+use Rattle.turn_rules.proofs.Names.{clocks_of, step_of, view_of, Drives, any_not, events_plain, ReadsKey, actor_same}
+use Rattle.turn_rules.proofs.Names.{same_itself, some_fits, AllNot, plain_not, Seat, Turn, lines_of, lines_left}
+use Rattle.turn_rules.proofs.Names.{with_event_of, Carried, aimed_node, aimed_clocks, seat_of, event_of, moved}
+use Rattle.turn_rules.proofs.Names.{with_event, seat_passed, all_passed, turned_by, turned, IsAnsweredTo}
 use Rattle.script_data.specs.declared.line.Target.TheVariants as target
-use Rattle.script_data.specs.Data.{ScriptData}
-use Rattle.command_semantics.specs.Answers.{same_actor, asks_some}
-use Rattle.command_semantics.specs.Laws.{ActorFits, VerbFits, AreLinesOf, IsPlayable}
-use Rattle.command_semantics.specs.Master.{has_take}
-use Rattle.command_semantics.specs.Next.{target_node}
-use Rattle.command_semantics.specs.Runs.{fate_of, clocks_of, step_of}
-use Rattle.command_semantics.specs.Views.{view_of}
-use Rattle.command_semantics.specs.declared.point.Point.TheVariants.{Drives}
-use Rattle.command_semantics.proofs.LineWalks.{any_not}
-use Rattle.command_semantics.proofs.PlainEvents.{events_plain}
-use Rattle.command_semantics.proofs.ReadLines.{ReadsKey}
-use Rattle.command_semantics.proofs.ScriptWalks.{actor_same, same_itself}
-use Rattle.command_semantics.proofs.Takes.{some_fits}
-use Rattle.command_semantics.proofs.Walks.{AllNot, plain_not}
-use Rattle.turn_rules.specs.declared.seat.Seat.{Seat}
-use Rattle.turn_rules.specs.declared.turn.Turn.{Turn}
 use Rattle.turn_rules.specs.declared.turn.Turn.TheVariants as turn
-use Rattle.turn_rules.specs.Seats.{lines_of, lines_left, with_event_of}
-use Rattle.turn_rules.specs.Carried.{Carried, aimed_node, aimed_clocks, seat_of, event_of, moved, with_event, seat_passed, all_passed, turned_by, turned}
-use Rattle.turn_rules.specs.Laws.{IsAnsweredTo}
 use Rattle.turn_rules.proofs.Facts.{Facts, facts_turned}
 use Rattle.turn_rules.proofs.OwnEvents.{IsNextOf}
 use Rattle.turn_rules.proofs.OwnSessions.{not_of}

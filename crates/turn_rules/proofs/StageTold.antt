@@ -1,40 +1,20 @@
 -- An acceptance, a put and an extension that a stage can make append an item each.
-use Rattle.std.proofs.Common.{◌≡◌, ℕ, List, Option, Some, None, Result, Ok, Err, refl, sym, subst}
-use Rattle.std.specs.Prelude.{slice_get}
-use Rattle.std.proofs.lemmas.Option.{same_Some}
-use Rattle.stamp_base.specs.declared.stores.Mark.{Mark}
-use Rattle.port_io.specs.declared.weather.Fate.{Fate}
-use Rattle.port_io.specs.declared.weather.Fate.TheVariants.{Works, FailsUnchanged, FailsApplied}
-use Rattle.history_book.specs.declared.cause.Cause.{Cause}
+use Rattle.turn_rules.proofs.Names.{◌≡◌, ℕ, List, Option, Some, None, Result, Ok, Err, refl, sym, subst, slice_get}
+use Rattle.turn_rules.proofs.Names.{same_Some, Mark, Fate, Works, FailsUnchanged, FailsApplied, Cause, Item, Pairs}
+use Rattle.turn_rules.proofs.Names.{mark_of, Held, Place, Request, InstanceEntry, held_of, instance_accept, Event}
+use Rattle.turn_rules.proofs.Names.{Client, State, Step, at_post, at_both, place_of, accept_by, accept_request}
+use Rattle.turn_rules.proofs.Names.{accept_on, ScriptData, ReachedInvariant, held_by, reading_at, Played, fate_of}
+use Rattle.turn_rules.proofs.Names.{clocks_of, LacksStamps, IsTold, StageTurnsAreTold}
 use Rattle.history_book.specs.declared.cause.Cause.TheVariants as cause
-use Rattle.history_book.specs.declared.item.Item.{Item}
 use Rattle.system_parts.specs.declared.record.ExtendRefused.{ExtendRefused}
 use Rattle.system_parts.specs.declared.record.ExtendRefused.TheVariants.{StoreFault, Replaced, Spent}
-use Rattle.system_parts.specs.Pairs.{Pairs, mark_of}
 use Rattle.system_parts.specs.Record.{MasterRecord}
-use Rattle.system_parts.specs.declared.instance.Held.{Held}
-use Rattle.system_parts.specs.declared.instance.Place.{Place}
 use Rattle.system_parts.specs.declared.instance.Place.TheVariants as place
-use Rattle.system_parts.specs.declared.instance.Request.{Request}
-use Rattle.system_parts.specs.Instance.{InstanceEntry, held_of}
-use Rattle.system_parts.specs.InstanceSteps.{instance_accept}
-use Rattle.machine.specs.declared.event.Event.{Event}
 use Rattle.machine.specs.declared.event.Event.TheVariants as event
-use Rattle.machine.specs.State.{Client, State}
-use Rattle.machine.specs.Machine.{Step, at_post, at_both}
-use Rattle.machine.specs.Readers.{place_of}
-use Rattle.machine.specs.Events.Accept.{accept_by, accept_request, accept_on}
 use Rattle.machine.specs.Events.Extend.{extend_by, extend_on}
 use Rattle.machine.specs.Events.Put.{to_place, put_by, put_commit, put_on}
-use Rattle.script_data.specs.Data.{ScriptData}
-use Rattle.isolation_laws.specs.Sound.{ReachedInvariant}
-use Rattle.machine.proofs.Lookups.{held_by}
-use Rattle.command_semantics.specs.Next.{reading_at}
-use Rattle.command_semantics.specs.Runs.{Played, fate_of, clocks_of}
 use Rattle.command_semantics.proofs.Holders.{Served, is_served_at}
 use Rattle.turn_rules.specs.declared.turn.Turn.TheVariants as turn
-use Rattle.turn_rules.specs.Lawful.{LacksStamps, IsTold}
-use Rattle.turn_rules.specs.Told.{StageTurnsAreTold}
 use Rattle.turn_rules.proofs.OwnTold.{told_by}
 use Rattle.turn_rules.proofs.ToldEvents.{Appends, last_appends}
 

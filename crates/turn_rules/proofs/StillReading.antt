@@ -1,34 +1,19 @@
 -- For grant_laws too.
 -- A session whose transaction is open, or that is to place its commit, has no request in flight. So an event
 -- that is not its own leaves its client as it was, and a read under way goes on.
-use Rattle.std.proofs.Common.{◌≡◌, ◌⊎◌, ℕ, zero, suc, false, List, [], ◌∷◌, Option, Some, None, inl, inr, refl, sym, ◌∙◌, ap, subst}
-use Rattle.std.specs.Prelude.{slice_get, slice_set, slice_index_or}
-use Rattle.std.proofs.lemmas.Bool.Decides.{eqb_tells}
-use Rattle.port_io.specs.declared.weather.Fate.{Fate}
-use Rattle.history_book.specs.declared.item.Item.{Item}
-use Rattle.system_parts.specs.declared.session.State.{State as SessionState}
+use Rattle.turn_rules.proofs.Names.{◌≡◌, ◌⊎◌, ℕ, zero, suc, false, List, [], ◌∷◌, Option, Some, None, inl, inr, refl}
+use Rattle.turn_rules.proofs.Names.{sym, ◌∙◌, ap, subst, slice_get, slice_set, slice_index_or, eqb_tells, Fate, Item}
+use Rattle.turn_rules.proofs.Names.{SessionState, Held, Request, Begin, Commit, InstanceEntry, held_of, stamps_of_held}
+use Rattle.turn_rules.proofs.Names.{Event, Client, State, Step, with_reading, at_client, at_both, stepped, held_at}
+use Rattle.turn_rules.proofs.Names.{accept_request, accept_on, answer_request, answer_on, crashed_client}
+use Rattle.turn_rules.proofs.Names.{crashed_clients, crash_on, decide_request, decide_on, leaves_parts}
+use Rattle.turn_rules.proofs.Names.{ReachedInvariant, InstanceAt, ClientAt, set_found, set_other, one_client, held_by}
+use Rattle.turn_rules.proofs.Names.{ReadsKey}
 use Rattle.system_parts.specs.declared.session.State.TheVariants as phase
-use Rattle.system_parts.specs.declared.instance.Held.{Held}
-use Rattle.system_parts.specs.declared.instance.Request.{Request}
-use Rattle.system_parts.specs.declared.instance.Request.TheVariants.{Begin, Commit}
-use Rattle.system_parts.specs.Instance.{InstanceEntry, held_of, stamps_of_held}
-use Rattle.machine.specs.declared.event.Event.{Event}
 use Rattle.machine.specs.declared.event.Event.TheVariants as event
-use Rattle.machine.specs.State.{Client, State}
-use Rattle.machine.specs.Machine.{Step, with_reading, at_client, at_both, stepped}
-use Rattle.machine.specs.Readers.{held_at}
-use Rattle.machine.specs.Events.Accept.{accept_request, accept_on}
-use Rattle.machine.specs.Events.Answer.{answer_request, answer_on}
-use Rattle.machine.specs.Events.Crash.{crashed_client, crashed_clients, crash_on}
-use Rattle.machine.specs.Events.Decide.{decide_request, decide_on}
 use Rattle.machine.specs.Laws.{touches_clients}
 use Rattle.machine.proofs.LookedUp.{of_post, of_client, of_both}
-use Rattle.machine.proofs.PartsKept.{leaves_parts}
 use Rattle.isolation_laws.specs.Requests.{WaitsFor}
-use Rattle.isolation_laws.specs.Sound.{ReachedInvariant}
-use Rattle.isolation_laws.specs.Words.{InstanceAt, ClientAt}
-use Rattle.machine.proofs.Lookups.{set_found, set_other, one_client, held_by}
-use Rattle.command_semantics.proofs.ReadLines.{ReadsKey}
 
 -- ---- no request of an open transaction, or of a commit that was handed over, is in flight
 abbrev pub IsUnasked : SessionState → Type 0

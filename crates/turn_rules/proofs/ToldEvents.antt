@@ -1,38 +1,28 @@
 -- Steps of sessions, heals, aborts and steps of a sweep append an item each.
-use Rattle.std.proofs.Common.{◌≡◌, ℕ, Bool, true, false, List, [], ◌∷◌, ◌++◌, Option, Some, None, inl, inr, refl, sym, ◌∙◌, ap, subst}
-use Rattle.stamp_base.specs.declared.stores.Mark.{Mark}
-use Rattle.port_io.specs.declared.weather.Fate.{Fate}
-use Rattle.port_io.specs.declared.weather.Fate.TheVariants.{Works, FailsUnchanged, FailsApplied}
-use Rattle.history_book.specs.declared.cause.Cause.{Cause}
-use Rattle.history_book.specs.declared.item.Actor.{Actor}
-use Rattle.history_book.specs.declared.item.Actor.TheVariants.{Session, Janitor}
-use Rattle.history_book.specs.declared.item.Item.{Item}
+use Rattle.turn_rules.proofs.Names.{◌≡◌, ℕ, Bool, true, false, List, [], ◌∷◌, ◌++◌, Option, Some, None, inl, inr, refl}
+use Rattle.turn_rules.proofs.Names.{sym, ◌∙◌, ap, subst, Mark, Fate, Works, FailsUnchanged, FailsApplied, Cause, Actor}
+use Rattle.turn_rules.proofs.Names.{Session, Janitor, Item, Row, Pairs, mark_of, SessionState, UnderWay, Settles}
+use Rattle.turn_rules.proofs.Names.{Completes, Client, State, Step, at_client, with_client, stepped, machine_step_by}
+use Rattle.turn_rules.proofs.Names.{kept_items, ReachedInvariant, ClientAt}
 use Rattle.history_book.specs.declared.item.Item.TheVariants.{Placed}
-use Rattle.system_parts.specs.Rows.{Row}
-use Rattle.system_parts.specs.Pairs.{Pairs, mark_of}
 use Rattle.system_parts.specs.declared.asks.Ask.{Ask}
 use Rattle.system_parts.specs.declared.asks.Ask.TheVariants as ask
 use Rattle.system_parts.specs.declared.asks.Told.{Told}
-use Rattle.system_parts.specs.declared.session.State.{State as SessionState}
 use Rattle.system_parts.specs.declared.session.State.TheVariants as phase
 use Rattle.system_parts.specs.KeyRead.{Reading, read_ask}
 use Rattle.system_parts.specs.Resolve.{Settling, settle_ask}
 use Rattle.system_parts.specs.SessionSteps.{work_refusal, step_refusal, handed_commit}
 use Rattle.system_parts.specs.Sweep.{Sweeping, sweep_ask}
 use Rattle.machine.specs.declared.event.Event.TheVariants as event
-use Rattle.machine.specs.State.{UnderWay, Reads, Settles, Completes, Client, State}
+use Rattle.machine.specs.State.{Reads}
 use Rattle.machine.specs.Clients.{is_reading}
-use Rattle.machine.specs.Machine.{Step, at_client, with_client, stepped, step_by as machine_step_by}
 use Rattle.machine.specs.StoreSteps.{Met, mark_kept, told_by, met}
-use Rattle.machine.specs.Effect.{kept_items}
 use Rattle.machine.specs.Events.Abort.{abort_by, abort_on}
 use Rattle.machine.specs.Events.Heal.{heal_by, heal_at, heal_on, offer_of}
 use Rattle.machine.specs.Events.Fetch.{client_put_fresh}
 use Rattle.machine.specs.Events.Place.{place_by}
 use Rattle.machine.specs.Events.Step.{work_by, work_of, read_by, settle_by, complete_by, step_by, step_at, step_on}
 use Rattle.machine.specs.Events.SweepStep.{sweep_by, sweep_lists, sweep_at, sweep_step_on}
-use Rattle.isolation_laws.specs.Sound.{ReachedInvariant}
-use Rattle.isolation_laws.specs.Words.{ClientAt}
 use Rattle.command_semantics.proofs.Stepping.{stores_step, step_is, unhanded, place_is}
 use Rattle.command_semantics.proofs.Working.{ReadWork, CompleteWork, HasWork, has_work}
 use Rattle.command_semantics.proofs.WorkItems.{HasNumber, starts}

@@ -1,23 +1,12 @@
 -- How an actor's lines are answered so far: the walk of the history along them, which items of others and of its own line
 -- take further.
-use Rattle.std.proofs.Common.{◌≡◌, ℕ, Bool, true, false, cond, List, [], ◌∷◌, ◌++◌, append_assoc, Option, Some, None, ◌⊎◌, inl, inr, refl, sym, subst}
-use Rattle.std.specs.Prelude.{filter}
-use Rattle.std.proofs.lemmas.List.{append-nil}
-use Rattle.history_book.specs.declared.item.Actor.{Actor}
-use Rattle.history_book.specs.declared.item.Actor.TheVariants.{Session}
-use Rattle.history_book.specs.declared.item.Item.{Item}
-use Rattle.machine.specs.State.{State}
-use Rattle.script_data.specs.declared.line.Line.{Line}
-use Rattle.script_data.specs.declared.line.Verb.{Verb}
+use Rattle.turn_rules.proofs.Names.{◌≡◌, ℕ, Bool, true, false, cond, List, [], ◌∷◌, ◌++◌, append_assoc, Option, Some}
+use Rattle.turn_rules.proofs.Names.{None, ◌⊎◌, inl, inr, refl, sym, subst, filter, append-nil, Actor, Session, Item}
+use Rattle.turn_rules.proofs.Names.{State, Line, Verb, Point, Opens, Reads, is_of, IsAnswer, read_begun, asks_some}
+use Rattle.turn_rules.proofs.Names.{Answered, IsLater, ReadsKey, AllNot, Paid, LineItems, shifted, walks_over}
+use Rattle.turn_rules.proofs.Names.{walks_read, walks_line, IsAnsweredTo}
 use Rattle.script_data.specs.declared.line.Verb.TheVariants as verb
-use Rattle.command_semantics.specs.declared.point.Point.{Point}
-use Rattle.command_semantics.specs.declared.point.Point.TheVariants.{Opens, Reads}
-use Rattle.command_semantics.specs.Answers.{is_of, IsAnswer, read_begun, asks_some, Answered}
 use Rattle.command_semantics.proofs.FetchLines.{ReadBegun}
-use Rattle.command_semantics.proofs.LaterEvents.{IsLater}
-use Rattle.command_semantics.proofs.ReadLines.{ReadsKey}
-use Rattle.command_semantics.proofs.Walks.{AllNot, Paid, LineItems, shifted, walks_over, walks_read, walks_line}
-use Rattle.turn_rules.specs.Laws.{IsAnsweredTo}
 
 -- ---- the walk
 -- over items that open no line, to a read that is owed

@@ -1,23 +1,11 @@
 -- Turns keep to the script's plan from the first on, and whole turns make the history that it plans.
-use Rattle.std.proofs.Common.{◌≡◌, ℕ, Bool, true, false, cond, List, [], ◌∷◌, ◌++◌, Option, Some, None, refl, sym, ◌∙◌, ap, subst}
-use Rattle.std.specs.Prelude.{filter, All}
-use Rattle.std.proofs.lemmas.List.{append-nil}
-use Rattle.stamp_base.specs.SetupNumbers.{AreInRange}
-use Rattle.history_book.specs.declared.item.Actor.{Actor}
-use Rattle.history_book.specs.declared.item.Actor.TheVariants.{Clock, Node, Session, Janitor}
-use Rattle.machine.specs.State.{opening}
-use Rattle.script_data.specs.declared.line.Line.{Line}
-use Rattle.script_data.specs.Data.{ScriptData}
+use Rattle.turn_rules.proofs.Names.{◌≡◌, ℕ, Bool, true, false, cond, List, [], ◌∷◌, ◌++◌, Option, Some, None, refl, sym}
+use Rattle.turn_rules.proofs.Names.{◌∙◌, ap, subst, filter, All, append-nil, AreInRange, Actor, Clock, Node, Session}
+use Rattle.turn_rules.proofs.Names.{Janitor, opening, Line, ScriptData, same_actor, tick_by, with_tick, ticks_in}
+use Rattle.turn_rules.proofs.Names.{opening_reached, PlannedAtFirst, PlannedInTheEnd, PlannedSoFar, Seat, first_seat}
+use Rattle.turn_rules.proofs.Names.{lines_of, lines_left, Carried, seat_of, all_passed, at_first, carried, unanswered}
+use Rattle.turn_rules.proofs.Names.{ticks_ahead, IsPlannedSoFar, TurnsArePlannedSoFar, TurnsArePlanned}
 use Rattle.cause_laws.specs.ShownInvariant.{ExplainedInvariant}
-use Rattle.command_semantics.specs.Answers.{same_actor}
-use Rattle.command_semantics.specs.Planned.{tick_by, with_tick, ticks_in}
-use Rattle.command_semantics.proofs.Ending.{opening_reached}
-use Rattle.command_semantics.specs.PlannedLaws.{PlannedAtFirst, PlannedInTheEnd}
-use Rattle.command_semantics.specs.SoFar.{PlannedSoFar}
-use Rattle.turn_rules.specs.declared.seat.Seat.{Seat}
-use Rattle.turn_rules.specs.Seats.{first_seat, lines_of, lines_left}
-use Rattle.turn_rules.specs.Carried.{Carried, seat_of, all_passed, at_first, carried}
-use Rattle.turn_rules.specs.Laws.{unanswered, ticks_ahead, IsPlannedSoFar, TurnsArePlannedSoFar, TurnsArePlanned}
 use Rattle.turn_rules.proofs.Answered.{none_unanswered, whole_seat}
 use Rattle.turn_rules.proofs.Facts.{facts_at_first}
 use Rattle.turn_rules.proofs.OnPlan.{PlanLaws, OnPlan, plan_all}

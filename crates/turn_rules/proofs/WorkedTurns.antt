@@ -1,17 +1,9 @@
 -- The worked turns, computed.
-use Rattle.std.proofs.Common.{◌≡◌, refl}
-use Rattle.std.specs.Prelude.{map}
+use Rattle.turn_rules.proofs.Names.{◌≡◌, refl, map, Node, Session, put_row, least_unsettled, crashed_clients}
+use Rattle.turn_rules.proofs.Names.{all_crashed_items, holder_from, Waits, Reply, Name, seats_of, passed, own_ahead}
+use Rattle.turn_rules.proofs.Names.{carried, carried_items}
 use Rattle.port_io.specs.Planned.{planned_fate}
-use Rattle.history_book.specs.declared.item.Actor.TheVariants.{Node, Session}
-use Rattle.system_parts.specs.Rows.{put_row}
 use Rattle.system_parts.specs.Buckets.{record_pairs, kept_commit, verdict}
-use Rattle.system_parts.specs.Instance.{least_unsettled}
-use Rattle.machine.specs.Events.Crash.{crashed_clients, all_crashed_items}
-use Rattle.machine.specs.Readers.{holder_from}
-use Rattle.turn_rules.specs.declared.ahead.NextAction.TheVariants.{Waits}
-use Rattle.turn_rules.specs.declared.ahead.Why.TheVariants.{Reply, Name}
-use Rattle.turn_rules.specs.Seats.{seats_of, passed}
-use Rattle.turn_rules.specs.Carried.{own_ahead, carried, carried_items}
 use Rattle.turn_rules.specs.WorkedTurns as worked
 
 pub begin_waits : own_ahead worked.script (carried worked.script worked.asked_turns) (Session 0) 0 ≡ Waits Reply

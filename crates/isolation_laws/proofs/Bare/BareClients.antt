@@ -1,32 +1,17 @@
 -- What a client may have left of cells stays, whatever becomes of it: only a completion takes some away.
-use Rattle.std.proofs.Common.{[], ◌≡◌, ℕ, zero, suc, true, List, ◌∷◌, Option, Some, None, ◌⊎◌, inl, inr, refl, sym, ◌∙◌, ap, subst}
-use Rattle.std.specs.Prelude.{slice_index_or, slice_set}
-use Rattle.std.proofs.lemmas.Bool.{cases_eq}
-use Rattle.std.proofs.lemmas.Option.{same_Some}
-use Rattle.history_book.specs.Members.{◌∈◌}
-use Rattle.system_parts.specs.declared.session.State.{State as SessionState}
+use Rattle.isolation_laws.proofs.Names.{[], ◌≡◌, ℕ, zero, suc, true, List, ◌∷◌, Option, Some, None, ◌⊎◌, inl, inr, refl}
+use Rattle.isolation_laws.proofs.Names.{sym, ◌∙◌, ap, subst, slice_index_or, slice_set, cases_eq, same_Some, ◌∈◌}
+use Rattle.isolation_laws.proofs.Names.{SessionState, SessionEntry, key_added, aborted_by, asked_state, Settling}
+use Rattle.isolation_laws.proofs.Names.{SettleTurn, Goes, Decides, ReadTurn, Asks, Answers, Held, Request, Commit}
+use Rattle.isolation_laws.proofs.Names.{Settled, UnderWay, Nothing, Client, undo_of, client_asked, client_begun}
+use Rattle.isolation_laws.proofs.Names.{client_freed, client_aborted, client_opened, client_handed, unless_gone}
+use Rattle.isolation_laws.proofs.Names.{unless_gone_by, after_refusal, after_loss, crashed_clients, client_read}
+use Rattle.isolation_laws.proofs.Names.{client_settled, client_wrote, ClientAt, WaitsFor, is_placing, MayHave, IsOf}
+use Rattle.isolation_laws.proofs.Names.{IsOwned, set_found, set_other, one_client, answered_client}
 use Rattle.system_parts.specs.declared.session.State.TheVariants as phase
 use Rattle.system_parts.specs.declared.resolve.Outcome.TheVariants as outcome
-use Rattle.system_parts.specs.SessionSteps.{SessionEntry, key_added, aborted_by, asked_state}
-use Rattle.system_parts.specs.Resolve.{Settling, SettleTurn, Goes, Decides}
-use Rattle.system_parts.specs.KeyRead.{ReadTurn, Asks, Answers}
-use Rattle.system_parts.specs.declared.instance.Held.{Held}
-use Rattle.system_parts.specs.declared.instance.Request.{Request}
-use Rattle.system_parts.specs.declared.instance.Request.TheVariants.{Begin, Commit}
-use Rattle.system_parts.specs.declared.instance.Settled.{Settled}
+use Rattle.system_parts.specs.declared.instance.Request.TheVariants.{Begin}
 use Rattle.system_parts.specs.declared.instance.Settled.TheVariants as how
-use Rattle.machine.specs.State.{UnderWay, Nothing, Client}
-use Rattle.machine.specs.Clients.{undo_of, client_asked, client_begun, client_freed, client_aborted, client_opened, client_handed, unless_gone, unless_gone_by, after_refusal}
-use Rattle.machine.specs.Events.Crash.{after_loss, crashed_clients}
-use Rattle.machine.specs.Events.Fetch.{client_read}
-use Rattle.machine.specs.Events.Step.{client_settled}
-use Rattle.machine.specs.Events.Write.{client_wrote}
-use Rattle.isolation_laws.specs.Words.{ClientAt}
-use Rattle.isolation_laws.specs.Requests.{WaitsFor}
-use Rattle.isolation_laws.specs.Pending.{is_placing}
-use Rattle.isolation_laws.specs.Bare.{MayHave, IsOf, IsOwned}
-use Rattle.machine.proofs.Lookups.{set_found, set_other, one_client}
-use Rattle.machine.specs.Outcome.OutcomesOfStamps.{answered_client}
 use Rattle.isolation_laws.proofs.Requests.ClientsOpen.{gone_cases}
 use Rattle.isolation_laws.proofs.Requests.WrittenKeys.{added_stays, added_in}
 use Rattle.isolation_laws.proofs.Stores.CompletionSteps.{in_none}

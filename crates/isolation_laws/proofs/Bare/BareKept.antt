@@ -1,30 +1,21 @@
 -- Each outcome keeps it that a cell without a shadow is of a session's transaction, or of one that was let go by a fault.
-use Rattle.std.proofs.Common.{[], ◌≡◌, ℕ, ◌+◌, ◌≤◌, Bool, true, cond, if◌then◌else◌, List, ◌∷◌, ◌++◌, None, Some, ◌⊎◌, inl, inr, refl, sym, ◌∙◌, ap, subst, arith}
-use Rattle.std.specs.Prelude.{slice_set}
-use Rattle.std.proofs.lemmas.Bool.{cases_eq}
+use Rattle.isolation_laws.proofs.Names.{[], ◌≡◌, ℕ, ◌+◌, ◌≤◌, Bool, true, cond, if◌then◌else◌, List, ◌∷◌, ◌++◌, None}
+use Rattle.isolation_laws.proofs.Names.{Some, ◌⊎◌, inl, inr, refl, sym, ◌∙◌, ap, subst, arith, slice_set, cases_eq}
+use Rattle.isolation_laws.proofs.Names.{same_Some, ◌∈◌, Item, Row, put_row, with_shadow, settle_ask, settle_turn}
+use Rattle.isolation_laws.proofs.Names.{Request, UnderWay, Client, State, client_freed, client_aborted, rows_after}
+use Rattle.isolation_laws.proofs.Names.{told_by, client_wrote, after_asks, ClientAt, WaitsFor, BareAt, IsOf, IsOwned}
+use Rattle.isolation_laws.proofs.Names.{AreOwned, IsolationInvariant, set_found, set_other, one_client, AtOpen}
+use Rattle.isolation_laws.proofs.Names.{WriteFailed, write_failed_state, fetched_client, fetched_turn, read_client}
+use Rattle.isolation_laws.proofs.Names.{read_turn, ReadDropped, CompletedOne, completed_state, Outcome, OfCrashed}
+use Rattle.isolation_laws.proofs.Names.{OfAskedBegin, OfAskedCommit, OfEnded, OfAnsweredBegin, OfAnsweredCommit}
+use Rattle.isolation_laws.proofs.Names.{OfHanded, OfOwnPlaced, OfOwnNotPlaced, OfEndedReadOnly, OfWrote, OfWriteFailed}
+use Rattle.isolation_laws.proofs.Names.{OfAborted, OfVanished, OfHealed, OfFetched, OfReadDropped, OfReadStepped}
+use Rattle.isolation_laws.proofs.Names.{OfOutcome, OfOutcomeFailed, OfCompleted, OfSwept, OfSweepFailed, left_by}
+use Rattle.isolation_laws.proofs.Names.{told_by_outcome}
 use Rattle.std.proofs.lemmas.List.Sums.{sum_by-append}
-use Rattle.std.proofs.lemmas.Option.{same_Some}
-use Rattle.history_book.specs.Members.{◌∈◌}
-use Rattle.history_book.specs.declared.item.Item.{Item}
-use Rattle.system_parts.specs.Rows.{Row, put_row, with_shadow}
 use Rattle.system_parts.specs.declared.asks.Ask.TheVariants.{Shadow}
 use Rattle.system_parts.specs.declared.session.State.TheVariants as phase
-use Rattle.system_parts.specs.Resolve.{settle_ask, settle_turn}
-use Rattle.system_parts.specs.declared.instance.Request.{Request}
-use Rattle.machine.specs.State.{UnderWay, Client, State}
-use Rattle.machine.specs.Clients.{client_freed, client_aborted}
-use Rattle.machine.specs.StoreSteps.{rows_after, told_by}
-use Rattle.machine.specs.Events.Write.{client_wrote}
-use Rattle.machine.specs.Events.Step.{after_asks}
-use Rattle.isolation_laws.specs.Words.{ClientAt}
-use Rattle.isolation_laws.specs.Requests.{WaitsFor}
 use Rattle.machine.specs.Faults.{is_fault, faults_in}
-use Rattle.isolation_laws.specs.Bare.{BareAt, IsOf, IsOwned, AreOwned}
-use Rattle.isolation_laws.specs.IsolationInvariant.{IsolationInvariant}
-use Rattle.machine.proofs.Lookups.{set_found, set_other, one_client}
-use Rattle.machine.specs.Outcome.OutcomesOfSessions.{AtOpen, WriteFailed, write_failed_state}
-use Rattle.machine.specs.Outcome.OutcomesOfWork.{fetched_client, fetched_turn, read_client, read_turn, ReadDropped, CompletedOne, completed_state}
-use Rattle.machine.specs.Outcome.Outcomes.{Outcome, OfCrashed, OfAskedBegin, OfAskedCommit, OfEnded, OfAnsweredBegin, OfAnsweredCommit, OfHanded, OfOwnPlaced, OfOwnNotPlaced, OfEndedReadOnly, OfWrote, OfWriteFailed, OfAborted, OfVanished, OfHealed, OfFetched, OfReadDropped, OfReadStepped, OfOutcome, OfOutcomeFailed, OfCompleted, OfSwept, OfSweepFailed, left_by, told_by_outcome}
 use Rattle.isolation_laws.proofs.Numbers.Placings.{is_placing_now}
 use Rattle.isolation_laws.proofs.Requests.RequestsOfNodes.{waits_for}
 use Rattle.isolation_laws.proofs.Stores.CellsMove.{put_cases}

@@ -1,26 +1,13 @@
 -- A step on the stores leaves no more cells without a shadow, and a write one more at most; where a completion makes a step, what it
 -- has come to is not bare any longer.
-use Rattle.std.proofs.Common.{[], ◌≡◌, ℕ, Bool, true, false, if◌then◌else◌, List, ◌∷◌, Option, Some, None, inl, inr, refl, sym, ◌∙◌, ap, subst}
-use Rattle.std.proofs.lemmas.Option.{same_Some, none-some}
-use Rattle.history_book.specs.Members.{◌∈◌}
-use Rattle.history_book.specs.Isolation.{last_write}
-use Rattle.history_book.specs.declared.item.Item.{Item}
-use Rattle.system_parts.specs.declared.rows.Cell.{Cell}
-use Rattle.system_parts.specs.Rows.{Row, looked, shadowed, without_bare, IsBare, AreOrdered}
-use Rattle.system_parts.proofs.RowLaws.{looked-without}
-use Rattle.system_parts.proofs.RowVersions.{without_bare_gone}
-use Rattle.system_parts.specs.declared.asks.Ask.{Ask}
+use Rattle.isolation_laws.proofs.Names.{[], ◌≡◌, ℕ, Bool, true, false, if◌then◌else◌, List, ◌∷◌, Option, Some, None}
+use Rattle.isolation_laws.proofs.Names.{inl, inr, refl, sym, ◌∙◌, ap, subst, same_Some, none-some, ◌∈◌, last_write}
+use Rattle.isolation_laws.proofs.Names.{Item, Cell, Row, looked, shadowed, without_bare, IsBare, AreOrdered}
+use Rattle.isolation_laws.proofs.Names.{looked-without, without_bare_gone, Ask, SessionState, finish_asks, undo_asks}
+use Rattle.isolation_laws.proofs.Names.{Completes, Client, State, rows_after, after_asks, ClientAt, IsFinish, MayHave}
+use Rattle.isolation_laws.proofs.Names.{BareAt, IsolationInvariant}
 use Rattle.system_parts.specs.declared.asks.Ask.TheVariants as ask
-use Rattle.system_parts.specs.declared.session.State.{State as SessionState}
 use Rattle.system_parts.specs.declared.session.State.TheVariants as phase
-use Rattle.system_parts.specs.Completion.{finish_asks, undo_asks}
-use Rattle.machine.specs.State.{Completes, Client, State}
-use Rattle.machine.specs.StoreSteps.{rows_after}
-use Rattle.machine.specs.Events.Step.{after_asks}
-use Rattle.isolation_laws.specs.Words.{ClientAt}
-use Rattle.isolation_laws.specs.UnderWay.{IsFinish}
-use Rattle.isolation_laws.specs.Bare.{MayHave, BareAt}
-use Rattle.isolation_laws.specs.IsolationInvariant.{IsolationInvariant}
 use Rattle.isolation_laws.proofs.Stores.CellsStay.{shadow_cases}
 use Rattle.isolation_laws.proofs.Stores.CellsMove.{bare_not_shadowed}
 use Rattle.isolation_laws.proofs.Stores.StoreMoves.{AskFits}

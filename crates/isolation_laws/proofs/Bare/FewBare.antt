@@ -1,23 +1,14 @@
 -- For grant_laws too.
 -- Of the cells of one key as many as there are sessions and faults have no shadow, at most: their versions differ, and each is the
 -- start of a session or a transaction that was let go.
-use Rattle.std.proofs.Common.{[], ◌≡◌, ℕ, zero, suc, ◌+◌, ◌≤◌, ◌<◌, ◌==◌, true, false, All, List, ◌∷◌, ◌++◌, map, length, length-append, not, is_some, Option, Some, None, inl, inr, refl, sym, ◌∙◌, ap, subst, arith}
-use Rattle.std.specs.Cmp.{IsEquivalence}
-use Rattle.std.specs.List.{IsDistinct, AllByRecursion, filter}
+use Rattle.isolation_laws.proofs.Names.{[], ◌≡◌, ℕ, zero, suc, ◌+◌, ◌≤◌, ◌<◌, ◌==◌, true, false, All, List, ◌∷◌, ◌++◌}
+use Rattle.isolation_laws.proofs.Names.{map, length, length-append, not, is_some, Option, Some, None, inl, inr, refl}
+use Rattle.isolation_laws.proofs.Names.{sym, ◌∙◌, ap, subst, arith, IsEquivalence, IsDistinct, AllByRecursion, filter}
+use Rattle.isolation_laws.proofs.Names.{cases_Bool, cases_eq, eq-eqb, ne_eqb, All-head, All-tail, length-map, ◌∈◌, Item}
+use Rattle.isolation_laws.proofs.Names.{in_front, in_back, Cell, looked, fetched, AreFalling, Client, State, ClientAt}
+use Rattle.isolation_laws.proofs.Names.{is_bare, BareCellsAreFew, IsolationInvariant}
 use Rattle.std.specs.Set.{is_member}
-use Rattle.std.proofs.lemmas.Bool.{cases_Bool, cases_eq, eq-eqb, ne_eqb}
-use Rattle.std.proofs.lemmas.List.Elements.{All-head, All-tail}
-use Rattle.std.proofs.lemmas.List.{length-map}
 use Rattle.std.proofs.lemmas.Map.Made.{length-le_from_is_member}
-use Rattle.history_book.specs.Members.{◌∈◌}
-use Rattle.history_book.specs.declared.item.Item.{Item}
-use Rattle.history_book.proofs.MemberLemmas.{in_front, in_back}
-use Rattle.system_parts.specs.declared.rows.Cell.{Cell}
-use Rattle.system_parts.specs.Rows.{looked, fetched, AreFalling}
-use Rattle.machine.specs.State.{Client, State}
-use Rattle.isolation_laws.specs.Words.{ClientAt}
-use Rattle.isolation_laws.specs.Bare.{is_bare, BareCellsAreFew}
-use Rattle.isolation_laws.specs.IsolationInvariant.{IsolationInvariant}
 use Rattle.isolation_laws.proofs.Reading.SeesFetched.{are_fetched}
 
 -- ---- members, by the test

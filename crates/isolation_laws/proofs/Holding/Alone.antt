@@ -1,22 +1,12 @@
 -- What each outcome leaves alone, with a frame or without: one record says it, and each group of facts is kept by it. For the tables over
 -- all outcomes, which name only those that change what their facts read.
-use Rattle.std.proofs.Common.{◌≡◌, ℕ, Bool, true, false, List, [], ◌∷◌, ◌++◌, append_assoc, Option, refl, sym, ◌∙◌, ap}
-use Rattle.history_book.specs.Isolation.{asks}
-use Rattle.history_book.specs.declared.item.Item.{Item}
-use Rattle.history_book.specs.declared.item.Item.TheVariants.{Draw, Write, Read}
-use Rattle.system_parts.specs.Instance.{InstanceEntry}
-use Rattle.machine.specs.State.{Client, State}
-use Rattle.machine.specs.Quiet.{AllQuiet}
-use Rattle.machine.specs.Outcome.Outcomes.{Outcome, OfGranted, OfRenewed, OfExtended, OfAskedBegin, OfAskedCommit, OfAccepted, OfDrew, OfPlaced, OfOwnPlaced, OfAnsweredBegin, OfWrote, OfFetched, OfReadStepped, OfSweepListed, left_by, told_by_outcome}
-use Rattle.isolation_laws.specs.Words.{written_keys}
-use Rattle.isolation_laws.specs.Numbers.{NumberFacts}
-use Rattle.isolation_laws.specs.Requests.{RequestFacts}
-use Rattle.isolation_laws.specs.Memory.{MemoryFacts}
-use Rattle.isolation_laws.specs.Cells.{CellFacts}
-use Rattle.isolation_laws.specs.Begins.{AreFreshBegins, AreSettledBelow}
-use Rattle.isolation_laws.specs.ReadSets.{AreReadSets}
-use Rattle.isolation_laws.specs.UnderWay.{UnderWayFacts}
-use Rattle.isolation_laws.specs.IsolationInvariant.{IsolationInvariant}
+use Rattle.isolation_laws.proofs.Names.{◌≡◌, ℕ, Bool, true, false, List, [], ◌∷◌, ◌++◌, append_assoc, Option, refl, sym}
+use Rattle.isolation_laws.proofs.Names.{◌∙◌, ap, asks, Item, Draw, Write, Read, InstanceEntry, Client, State, AllQuiet}
+use Rattle.isolation_laws.proofs.Names.{Outcome, OfGranted, OfRenewed, OfExtended, OfAskedBegin, OfAskedCommit}
+use Rattle.isolation_laws.proofs.Names.{OfAccepted, OfDrew, OfPlaced, OfOwnPlaced, OfAnsweredBegin, OfWrote, OfFetched}
+use Rattle.isolation_laws.proofs.Names.{OfReadStepped, OfSweepListed, left_by, told_by_outcome, written_keys}
+use Rattle.isolation_laws.proofs.Names.{NumberFacts, RequestFacts, MemoryFacts, CellFacts, AreFreshBegins}
+use Rattle.isolation_laws.proofs.Names.{AreSettledBelow, AreReadSets, UnderWayFacts, IsolationInvariant}
 use Rattle.isolation_laws.proofs.Pushed.{written_keys-quiet}
 use Rattle.isolation_laws.proofs.Memory.MemoryStays.{SameMemory, RecordsNothing, nothing_quiet, nothing_more, memory_same}
 use Rattle.isolation_laws.proofs.Requests.PendingAfter.{FewerPending}

@@ -1,23 +1,16 @@
 -- Which outcomes have a frame, and what it is of each.
 use Rattle.isolation_laws.proofs.Requests.ClientMoves.{reading_after}
-use Rattle.machine.specs.Outcome.Outcomes.{OfAborted, OfAnsweredCommit, OfCompleted, OfCrashed, OfEnded, OfEndedReadOnly, OfHealed, OfOutcome, OfOutcomeFailed, OfOwnNotPlaced, OfWriteFailed, Outcome, OfStill, OfGranted, OfRenewed, OfExtended, OfAskedBegin, OfAskedCommit, OfAccepted, OfDrew, OfPlaced, OfNotPlaced, OfAnsweredBegin, OfHanded, OfOwnPlaced, OfWrote, OfVanished, OfFetched, OfReadDropped, OfReadStepped, OfSweepOpened, OfSwept, OfSweepListed, OfSweepFailed, left_by, told_by_outcome}
-use Rattle.std.proofs.Common.{◌≡◌, ◌≤◌, ℕ, Bool, true, false, if◌then◌else◌, List, ◌++◌, [], refl, subst, arith}
-use Rattle.std.proofs.lemmas.List.Elements.{All-nil}
-use Rattle.history_book.specs.declared.item.Item.{Item}
-use Rattle.system_parts.specs.Rows.{with_shadow, Row}
-use Rattle.system_parts.specs.Pairs.{Pairs}
-use Rattle.system_parts.specs.declared.asks.Ask.{Ask}
-use Rattle.system_parts.specs.declared.resolve.SettlePoint.{SettlePoint}
+use Rattle.isolation_laws.proofs.Names.{OfAborted, OfAnsweredCommit, OfCompleted, OfCrashed, OfEnded, OfEndedReadOnly}
+use Rattle.isolation_laws.proofs.Names.{OfHealed, OfOutcome, OfOutcomeFailed, OfOwnNotPlaced, OfWriteFailed, Outcome}
+use Rattle.isolation_laws.proofs.Names.{OfStill, OfGranted, OfRenewed, OfExtended, OfAskedBegin, OfAskedCommit}
+use Rattle.isolation_laws.proofs.Names.{OfAccepted, OfDrew, OfPlaced, OfNotPlaced, OfAnsweredBegin, OfHanded}
+use Rattle.isolation_laws.proofs.Names.{OfOwnPlaced, OfWrote, OfVanished, OfFetched, OfReadDropped, OfReadStepped}
+use Rattle.isolation_laws.proofs.Names.{OfSweepOpened, OfSwept, OfSweepListed, OfSweepFailed, left_by, told_by_outcome}
+use Rattle.isolation_laws.proofs.Names.{◌≡◌, ◌≤◌, ℕ, Bool, true, false, if◌then◌else◌, List, ◌++◌, [], refl, subst}
+use Rattle.isolation_laws.proofs.Names.{arith, All-nil, Item, with_shadow, Row, Pairs, Ask, SettlePoint, Settling}
+use Rattle.isolation_laws.proofs.Names.{ask_at, settle_ask, Client, State, rows_after, pairs_after, Quiet, AllQuiet}
+use Rattle.isolation_laws.proofs.Names.{CellFacts, UnderWayFacts, IsolationInvariant, Healed, MayHaveMarked}
 use Rattle.system_parts.specs.declared.resolve.SettlePoint.TheVariants as point
-use Rattle.system_parts.specs.Resolve.{Settling, ask_at, settle_ask}
-use Rattle.machine.specs.State.{Client, State}
-use Rattle.machine.specs.StoreSteps.{rows_after, pairs_after}
-use Rattle.machine.specs.Quiet.{Quiet, AllQuiet}
-use Rattle.isolation_laws.specs.Cells.{CellFacts}
-use Rattle.isolation_laws.specs.UnderWay.{UnderWayFacts}
-use Rattle.isolation_laws.specs.IsolationInvariant.{IsolationInvariant}
-use Rattle.machine.specs.Outcome.OutcomesOfSessions.{Healed}
-use Rattle.machine.specs.Outcome.OutcomesOfWork.{MayHaveMarked}
 use Rattle.isolation_laws.proofs.Requests.PendingFewer.{fewer_settled}
 use Rattle.isolation_laws.proofs.Reading.ClientsReading.{FewerReading, same_reading, reading_handed, reading_vanished, reading_dropped}
 use Rattle.isolation_laws.proofs.Stores.Calm.{calm_quiet}

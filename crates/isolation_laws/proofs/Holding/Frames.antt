@@ -1,23 +1,9 @@
 -- The frame of an outcome that draws, places, opens and writes nothing: one record of what it leaves alone. For the one of all outcomes,
 -- `Alone`, and for the table of numbers.
-use Rattle.std.proofs.Common.{ℕ, ◌≤◌, List, ◌++◌, Option, Some, None, inl, refl}
-use Rattle.std.specs.Prelude.{slice_set}
-use Rattle.history_book.specs.declared.item.Item.{Item}
-use Rattle.system_parts.specs.Rows.{Row}
-use Rattle.system_parts.specs.Pairs.{Pairs}
-use Rattle.system_parts.specs.declared.instance.Settled.{Settled}
-use Rattle.system_parts.specs.Instance.{InstanceEntry}
-use Rattle.system_parts.specs.InstanceSteps.{without_request}
-use Rattle.machine.specs.State.{Client, State}
-use Rattle.isolation_laws.specs.Words.{InstanceAt}
-use Rattle.machine.specs.Quiet.{AllQuiet}
-use Rattle.isolation_laws.specs.Numbers.{NumberFacts}
-use Rattle.isolation_laws.specs.Requests.{RequestFacts}
-use Rattle.isolation_laws.specs.Cells.{CellFacts}
-use Rattle.isolation_laws.specs.UnderWay.{UnderWayFacts}
-use Rattle.isolation_laws.specs.IsolationInvariant.{IsolationInvariant}
-use Rattle.machine.specs.Outcome.OutcomesOfRecord.{AlikeNodes}
-use Rattle.machine.specs.Outcome.OutcomesOfStamps.{AtDrawn, settled_nodes}
+use Rattle.isolation_laws.proofs.Names.{ℕ, ◌≤◌, List, ◌++◌, Option, Some, None, inl, refl, slice_set, Item, Row, Pairs}
+use Rattle.isolation_laws.proofs.Names.{Settled, InstanceEntry, without_request, Client, State, InstanceAt, AllQuiet}
+use Rattle.isolation_laws.proofs.Names.{NumberFacts, RequestFacts, CellFacts, UnderWayFacts, IsolationInvariant}
+use Rattle.isolation_laws.proofs.Names.{AlikeNodes, AtDrawn, settled_nodes}
 use Rattle.isolation_laws.proofs.Numbers.NumbersStay.{SameNumbers, numbered_same, numbered_alike, numbered_ended, numbered_set, numbered}
 use Rattle.isolation_laws.proofs.Numbers.NumbersKept.{quiet_one}
 use Rattle.isolation_laws.proofs.Memory.MemoryStays.{SameMemory, remembered_same, remembered_alike, remembered_ended, remembered_set}

@@ -1,20 +1,12 @@
 -- For request_completion too.
 -- What an outcome appends, by its begins and its placed commits: no outcome has more than one of them, and most have none.
-use Rattle.std.proofs.Common.{◌≡◌, ℕ, true, false, List, [], ◌∷◌, ◌++◌, append_assoc, inl, inr, refl, sym, ◌∙◌, subst}
-use Rattle.std.proofs.lemmas.List.{append-nil}
-use Rattle.std.proofs.lemmas.List.Elements.{All-head, All-tail}
-use Rattle.history_book.specs.Members.{◌∈◌, AtEach}
-use Rattle.history_book.specs.Isolation.{Committed}
-use Rattle.history_book.specs.declared.item.Item.{Item}
+use Rattle.isolation_laws.proofs.Names.{◌≡◌, ℕ, true, false, List, [], ◌∷◌, ◌++◌, append_assoc, inl, inr, refl, sym}
+use Rattle.isolation_laws.proofs.Names.{◌∙◌, subst, append-nil, All-head, All-tail, ◌∈◌, AtEach, Committed, Item}
+use Rattle.isolation_laws.proofs.Names.{AtEach-push, State, Begun, AllQuiet, IsolationInvariant, AnsweredBegin}
+use Rattle.isolation_laws.proofs.Names.{answered_begin_items, Outcome, OfPlaced, OfOwnPlaced, OfAnsweredBegin}
+use Rattle.isolation_laws.proofs.Names.{told_by_outcome}
 use Rattle.history_book.specs.declared.item.Item.TheVariants as item
-use Rattle.history_book.proofs.MemberLemmas.{AtEach-push}
-use Rattle.machine.specs.State.{State}
-use Rattle.isolation_laws.specs.Words.{Begun}
-use Rattle.machine.specs.Quiet.{AllQuiet}
-use Rattle.isolation_laws.specs.IsolationInvariant.{IsolationInvariant}
 use Rattle.isolation_laws.proofs.Pushed.{in_append}
-use Rattle.machine.specs.Outcome.OutcomesOfStamps.{AnsweredBegin, answered_begin_items}
-use Rattle.machine.specs.Outcome.Outcomes.{Outcome, OfPlaced, OfOwnPlaced, OfAnsweredBegin, told_by_outcome}
 use Rattle.isolation_laws.proofs.Numbers.Placings.{PlacedPending, placed_item, by_its_node, by_its_session}
 use Rattle.isolation_laws.proofs.Holding.NoStamps.{is_stamp, NoStamp, NoStamps}
 use Rattle.isolation_laws.proofs.Holding.LeftAlone.{alone}

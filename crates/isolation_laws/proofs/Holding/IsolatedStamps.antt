@@ -1,17 +1,11 @@
 -- Every outcome keeps stamps distinct and begins fresh. Of commits that are placed each is apart, since those that are drawn are.
-use Rattle.std.proofs.Common.{◌≡◌, ◌≢◌, ℕ, ◌<◌, List, [], ◌∷◌, ◌++◌, append_assoc, Some, None, ◌⊎◌, inl, inr, refl, sym, subst}
-use Rattle.history_book.specs.Isolation.{Committed, Apart, NewStamps, Stamped, StartsAbove, Fresh}
-use Rattle.history_book.specs.declared.item.Item.{Item}
+use Rattle.isolation_laws.proofs.Names.{◌≡◌, ◌≢◌, ℕ, ◌<◌, List, [], ◌∷◌, ◌++◌, append_assoc, Some, None, ◌⊎◌, inl, inr}
+use Rattle.isolation_laws.proofs.Names.{refl, sym, subst, Committed, Apart, NewStamps, Stamped, StartsAbove, Fresh}
+use Rattle.isolation_laws.proofs.Names.{Item, in_push, in_old, AtEach-push, State, Begun, DrewCommit, AreNewDraws}
+use Rattle.isolation_laws.proofs.Names.{AreBegun, ArePlaced, DrawnApart, IsolationInvariant, AnsweredBegin}
+use Rattle.isolation_laws.proofs.Names.{answered_begin_items, Outcome, told_by_outcome}
 use Rattle.history_book.specs.declared.item.Item.TheVariants as item
-use Rattle.history_book.proofs.MemberLemmas.{in_push, in_old, AtEach-push}
-use Rattle.machine.specs.State.{State}
-use Rattle.isolation_laws.specs.Words.{Begun, DrewCommit}
-use Rattle.isolation_laws.specs.Numbers.{AreNewDraws, AreBegun, ArePlaced}
-use Rattle.isolation_laws.specs.Memory.{DrawnApart}
-use Rattle.isolation_laws.specs.IsolationInvariant.{IsolationInvariant}
 use Rattle.isolation_laws.proofs.OnceEach.{drawn_once, commit_above_start}
-use Rattle.machine.specs.Outcome.OutcomesOfStamps.{AnsweredBegin, answered_begin_items}
-use Rattle.machine.specs.Outcome.Outcomes.{Outcome, told_by_outcome}
 use Rattle.isolation_laws.proofs.Numbers.NumbersKept.{drew_start}
 use Rattle.isolation_laws.proofs.Numbers.NumbersOfAll.{numbers_kept}
 use Rattle.isolation_laws.proofs.Memory.MemoryKept.{memory_kept}

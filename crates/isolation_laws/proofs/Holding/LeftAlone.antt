@@ -1,34 +1,15 @@
 -- For cause_laws too.
 -- What each outcome leaves alone: a row for each that has no frame, and the frame of the others.
-use Rattle.std.proofs.Common.{◌≡◌, ℕ, ◌+◌, Bool, true, false, List, [], ◌∷◌, ◌++◌, Option, Some, inl, inr, max, refl, sym, ap, subst, arith}
-use Rattle.std.specs.Prelude.{slice_set}
-use Rattle.std.proofs.lemmas.List.Elements.{All-nil}
-use Rattle.history_book.specs.declared.item.Actor.TheVariants.{Janitor}
-use Rattle.history_book.specs.declared.item.StoreStep.TheVariants.{Keys}
-use Rattle.history_book.specs.declared.item.Item.{Item}
-use Rattle.history_book.specs.declared.item.Item.TheVariants.{AskBegin, Begin, Write, Placed, Step}
-use Rattle.system_parts.specs.Record.{renewed_until}
-use Rattle.system_parts.specs.KeyRead.{ReadTurn, settling_of}
-use Rattle.system_parts.specs.Pairs.{Pairs}
-use Rattle.system_parts.specs.declared.instance.Held.{Held}
-use Rattle.system_parts.specs.Instance.{InstanceEntry, with_request}
-use Rattle.system_parts.specs.InstanceSteps.{instance_renewed}
-use Rattle.machine.specs.State.{State}
-use Rattle.machine.specs.Events.Take.{rules_of}
-use Rattle.machine.specs.Quiet.{Quiet}
-use Rattle.machine.specs.Events.Decide.{draw_item}
-use Rattle.machine.specs.Events.Fetch.{read_items}
-use Rattle.machine.specs.Outcome.OutcomesOfRecord.{Renewed, renewed_nodes, Extended, extended_nodes}
-use Rattle.machine.specs.Outcome.OutcomesOfSessions.{WroteOne, wrote_items}
-use Rattle.machine.specs.Outcome.OutcomesOfWork.{fetched_turn, read_turn}
-use Rattle.machine.specs.Outcome.Outcomes.{Outcome, OfGranted, OfRenewed, OfExtended, OfAskedBegin, OfAskedCommit, OfAccepted, OfDrew, OfPlaced, OfOwnPlaced, OfAnsweredBegin, OfWrote, OfFetched, OfReadStepped, OfSweepListed, left_by, told_by_outcome}
-use Rattle.machine.proofs.Lookups.{instance_changed}
-use Rattle.machine.proofs.Orders.{max_left}
-use Rattle.isolation_laws.specs.Words.{InstanceAt, HasDrawn, epoch_or_none}
-use Rattle.isolation_laws.specs.Numbers.{NumberFacts}
-use Rattle.isolation_laws.specs.Cells.{CellFacts}
-use Rattle.isolation_laws.specs.UnderWay.{UnderWayFacts}
-use Rattle.isolation_laws.specs.IsolationInvariant.{IsolationInvariant}
+use Rattle.isolation_laws.proofs.Names.{◌≡◌, ℕ, ◌+◌, Bool, true, false, List, [], ◌∷◌, ◌++◌, Option, Some, inl, inr}
+use Rattle.isolation_laws.proofs.Names.{max, refl, sym, ap, subst, arith, slice_set, All-nil, Janitor, Keys, Item}
+use Rattle.isolation_laws.proofs.Names.{AskBegin, Begin, Write, Placed, Step, renewed_until, ReadTurn, settling_of}
+use Rattle.isolation_laws.proofs.Names.{Pairs, Held, InstanceEntry, with_request, instance_renewed, State, rules_of}
+use Rattle.isolation_laws.proofs.Names.{Quiet, draw_item, read_items, Renewed, renewed_nodes, Extended, extended_nodes}
+use Rattle.isolation_laws.proofs.Names.{WroteOne, wrote_items, fetched_turn, read_turn, Outcome, OfGranted, OfRenewed}
+use Rattle.isolation_laws.proofs.Names.{OfExtended, OfAskedBegin, OfAskedCommit, OfAccepted, OfDrew, OfPlaced}
+use Rattle.isolation_laws.proofs.Names.{OfOwnPlaced, OfAnsweredBegin, OfWrote, OfFetched, OfReadStepped, OfSweepListed}
+use Rattle.isolation_laws.proofs.Names.{left_by, told_by_outcome, instance_changed, max_left, InstanceAt, HasDrawn}
+use Rattle.isolation_laws.proofs.Names.{epoch_or_none, NumberFacts, CellFacts, UnderWayFacts, IsolationInvariant}
 use Rattle.isolation_laws.proofs.Memory.MemoryStays.{SameMemory, RecordsNothing, remembered_same, remembered_set, nothing_turn, nothing_write}
 use Rattle.isolation_laws.proofs.Numbers.NumbersStay.{SameNumbers, numbered_same, numbered_set, numbered}
 use Rattle.isolation_laws.proofs.Numbers.NumbersKept.{plain_one, quiet_one}

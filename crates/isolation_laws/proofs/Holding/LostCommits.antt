@@ -1,38 +1,20 @@
 -- A commit in flight is lost where its instance crashes, and where its put fails without effect.
 use Rattle.isolation_laws.proofs.Requests.ClientMoves.{at_work_after}
-use Rattle.machine.specs.Outcome.Outcomes.{OfCrashed}
-use Rattle.std.proofs.Common.{◌≡◌, ℕ, false, List, [], ◌∷◌, ◌++◌, Option, Some, inl, inr, refl, sym, ◌∙◌, ap, subst}
-use Rattle.std.proofs.lemmas.List.Elements.{All-cons}
-use Rattle.port_io.specs.declared.weather.Fate.{Fate}
-use Rattle.port_io.specs.declared.weather.Fate.TheVariants.{FailsUnchanged}
+use Rattle.isolation_laws.proofs.Names.{OfCrashed, ◌≡◌, ℕ, false, List, [], ◌∷◌, ◌++◌, Option, Some, inl, inr, refl}
+use Rattle.isolation_laws.proofs.Names.{sym, ◌∙◌, ap, subst, All-cons, Fate, FailsUnchanged, Node, Item, in_front}
+use Rattle.isolation_laws.proofs.Names.{Progress, Request, Commit, InstanceEntry, held_of, State, at_post, stepped}
+use Rattle.isolation_laws.proofs.Names.{all_crashed_items, crash_on, HeldBy, Has, InFlight, HeldPending, Pending}
+use Rattle.isolation_laws.proofs.Names.{IsPending, IsOpen, Live, Quiet, IsolationInvariant, ReachedInvariant, IsLost}
+use Rattle.isolation_laws.proofs.Names.{instance_ended, one_quiet, Crashed, crashed_state, AtDrawn, NotPlaced}
+use Rattle.isolation_laws.proofs.Names.{not_placed_state}
 use Rattle.stamp_base.specs.declared.stores.Store.TheVariants.{Table}
-use Rattle.history_book.specs.declared.item.Actor.TheVariants.{Node}
-use Rattle.history_book.specs.declared.item.Item.{Item}
 use Rattle.history_book.specs.declared.item.Item.TheVariants as item
-use Rattle.history_book.proofs.MemberLemmas.{in_front}
-use Rattle.system_parts.specs.declared.instance.Progress.{Progress}
 use Rattle.system_parts.specs.declared.instance.Progress.TheVariants as progress
-use Rattle.system_parts.specs.declared.instance.Request.{Request}
-use Rattle.system_parts.specs.declared.instance.Request.TheVariants.{Commit}
 use Rattle.system_parts.specs.declared.instance.Settled.TheVariants as how
-use Rattle.system_parts.specs.Instance.{InstanceEntry, held_of}
 use Rattle.machine.specs.declared.event.Event.TheVariants as event
-use Rattle.machine.specs.State.{State}
-use Rattle.machine.specs.Machine.{at_post, stepped}
-use Rattle.machine.specs.Events.Crash.{all_crashed_items, crash_on}
 use Rattle.machine.specs.Events.Put.{to_place_by, to_place, put_commit, put_on}
-use Rattle.isolation_laws.specs.Words.{HeldBy}
-use Rattle.isolation_laws.specs.Pending.{Has, InFlight, HeldPending, Pending, IsPending, IsOpen, Live}
-use Rattle.machine.specs.Quiet.{Quiet}
-use Rattle.isolation_laws.specs.IsolationInvariant.{IsolationInvariant}
-use Rattle.isolation_laws.specs.Sound.{ReachedInvariant}
-use Rattle.isolation_laws.specs.Laws.{IsLost}
-use Rattle.machine.proofs.Lookups.{instance_ended}
 use Rattle.isolation_laws.proofs.Pushed.{old_placed}
-use Rattle.machine.proofs.Outcome.QuietItems.{one_quiet}
 use Rattle.isolation_laws.proofs.Owners.{open_not_pending, pending_unplaced, has_held}
-use Rattle.machine.specs.Outcome.OutcomesOfRequests.{Crashed, crashed_state}
-use Rattle.machine.specs.Outcome.OutcomesOfStamps.{AtDrawn, NotPlaced, not_placed_state}
 use Rattle.isolation_laws.proofs.Numbers.NumbersKept.{open_begun}
 use Rattle.isolation_laws.proofs.Requests.PendingFewer.{StaysPut, pending_settled}
 use Rattle.isolation_laws.proofs.Requests.PendingAfter.{pending_in, pending_at}

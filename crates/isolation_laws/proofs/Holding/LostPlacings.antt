@@ -1,31 +1,18 @@
 -- A commit that its session is to place is lost where the placing fails without effect, and where the session vanishes.
-use Rattle.std.proofs.Common.{◌≡◌, ℕ, true, List, [], ◌∷◌, ◌++◌, Option, None, Some, inl, inr, refl, sym, ◌∙◌, ap, subst}
-use Rattle.std.specs.Prelude.{slice_set}
-use Rattle.port_io.specs.declared.weather.Fate.{Fate}
-use Rattle.port_io.specs.declared.weather.Fate.TheVariants.{FailsUnchanged}
+use Rattle.isolation_laws.proofs.Names.{◌≡◌, ℕ, true, List, [], ◌∷◌, ◌++◌, Option, None, Some, inl, inr, refl, sym, ◌∙◌}
+use Rattle.isolation_laws.proofs.Names.{ap, subst, slice_set, Fate, FailsUnchanged, Cause, Session, Item, in_front}
+use Rattle.isolation_laws.proofs.Names.{SessionState, step_refusal, vanish_refusal, handed_by, handed_commit, Client}
+use Rattle.isolation_laws.proofs.Names.{State, at_client, stepped, is_reading, client_opened, client_vanished, step_on}
+use Rattle.isolation_laws.proofs.Names.{step_by, step_due, InFlight, is_placing, PlacingAt, Live, AllQuiet}
+use Rattle.isolation_laws.proofs.Names.{IsolationInvariant, ReachedInvariant, IsLost, one_quiet, two_quiet}
 use Rattle.stamp_base.specs.declared.stores.Store.TheVariants.{Table}
-use Rattle.history_book.specs.declared.cause.Cause.{Cause}
 use Rattle.history_book.specs.declared.cause.Cause.TheVariants as cause
-use Rattle.history_book.specs.declared.item.Actor.TheVariants.{Session}
-use Rattle.history_book.specs.declared.item.Item.{Item}
 use Rattle.history_book.specs.declared.item.Item.TheVariants as item
-use Rattle.history_book.proofs.MemberLemmas.{in_front}
-use Rattle.system_parts.specs.declared.session.State.{State as SessionState}
 use Rattle.system_parts.specs.declared.session.State.TheVariants as phase
-use Rattle.system_parts.specs.SessionSteps.{step_refusal, vanish_refusal, handed_by, handed_commit}
 use Rattle.machine.specs.declared.event.Event.TheVariants as event
-use Rattle.machine.specs.State.{Client, State}
-use Rattle.machine.specs.Machine.{Step, at_client, stepped}
-use Rattle.machine.specs.Clients.{is_reading, client_opened, client_vanished}
-use Rattle.machine.specs.Events.Step.{step_on, step_by, step_due}
+use Rattle.machine.specs.Machine.{Step}
 use Rattle.machine.specs.Events.Vanish.{vanish_by, vanish_on}
-use Rattle.isolation_laws.specs.Pending.{InFlight, is_placing, PlacingAt, Live}
-use Rattle.machine.specs.Quiet.{AllQuiet}
-use Rattle.isolation_laws.specs.IsolationInvariant.{IsolationInvariant}
-use Rattle.isolation_laws.specs.Sound.{ReachedInvariant}
-use Rattle.isolation_laws.specs.Laws.{IsLost}
 use Rattle.isolation_laws.proofs.Pushed.{old_placed}
-use Rattle.machine.proofs.Outcome.QuietItems.{one_quiet, two_quiet}
 use Rattle.isolation_laws.proofs.Owners.{open_not_pending, pending_unplaced}
 use Rattle.isolation_laws.proofs.Numbers.NumbersKept.{open_begun}
 use Rattle.isolation_laws.proofs.Requests.ClientsOpen.{IsAtRest, FewerAtWork, fewer_set, outcome_rests, gone_rests}

@@ -1,13 +1,8 @@
 -- What is marked before it is placed, and what is neither open nor in flight, is never placed, whatever comes.
-use Rattle.std.proofs.Common.{ℕ, List, [], ◌∷◌, ◌++◌, append_assoc, sym, subst}
-use Rattle.std.proofs.lemmas.List.{append-nil}
-use Rattle.history_book.specs.declared.item.Item.{Item}
-use Rattle.machine.specs.State.{State}
-use Rattle.machine.specs.Machine.{Step, stepped, Move, state_after, items_after, AreSteady}
-use Rattle.isolation_laws.specs.IsolationInvariant.{IsolationInvariant}
-use Rattle.isolation_laws.specs.Sound.{ReachedInvariant}
-use Rattle.isolation_laws.specs.Laws.{IsMarkedFirst, IsLost}
-use Rattle.machine.specs.Outcome.Outcomes.{Outcome, left_by, told_by_outcome}
+use Rattle.isolation_laws.proofs.Names.{ℕ, List, [], ◌∷◌, ◌++◌, append_assoc, sym, subst, append-nil, Item, State}
+use Rattle.isolation_laws.proofs.Names.{stepped, Move, state_after, items_after, AreSteady, IsolationInvariant}
+use Rattle.isolation_laws.proofs.Names.{ReachedInvariant, IsMarkedFirst, IsLost, Outcome, left_by, told_by_outcome}
+use Rattle.machine.specs.Machine.{Step}
 use Rattle.isolation_laws.proofs.AlwaysHolds.{each_outcome, facts_stay, steady_now, steady_stays}
 use Rattle.isolation_laws.proofs.Holding.NeverPlaced.{marked_outcome, lost_outcome}
 

@@ -1,27 +1,15 @@
 -- An outcome places nothing that is marked before it is placed, and nothing that is neither open nor in flight.
-use Rattle.machine.specs.Outcome.Outcomes.{Outcome, OfPlaced, OfOwnPlaced, OfAnsweredBegin, OfReadDropped, OfReadStepped, OfOutcome, OfOutcomeFailed, OfCompleted, OfSwept, OfSweepFailed, left_by, told_by_outcome}
-use Rattle.std.proofs.Common.{◌≡◌, ℕ, List, [], ◌∷◌, ◌++◌, append_assoc, ◌⊎◌, inl, inr, refl, sym, ◌∙◌, ap, subst}
-use Rattle.std.proofs.lemmas.Option.{none-some}
-use Rattle.stamp_base.specs.declared.stores.Mark.TheVariants.{Invalid as InvalidMark}
-use Rattle.history_book.specs.Isolation.{Committed}
-use Rattle.history_book.specs.declared.item.Item.{Item}
-use Rattle.history_book.specs.declared.item.Item.TheVariants.{Begin, Placed}
-use Rattle.history_book.proofs.MemberLemmas.{in_front, in_push}
-use Rattle.system_parts.specs.KeyRead.{read_ask}
-use Rattle.system_parts.specs.Resolve.{settle_ask}
-use Rattle.system_parts.specs.Pairs.{mark_of}
-use Rattle.machine.specs.State.{State}
-use Rattle.machine.specs.StoreSteps.{pairs_after}
-use Rattle.isolation_laws.specs.Words.{Marked, Begun}
-use Rattle.isolation_laws.specs.Pending.{Live}
-use Rattle.isolation_laws.specs.IsolationInvariant.{IsolationInvariant}
-use Rattle.isolation_laws.specs.Laws.{IsMarkedFirst, IsLost}
+use Rattle.isolation_laws.proofs.Names.{Outcome, OfPlaced, OfOwnPlaced, OfAnsweredBegin, OfReadDropped, OfReadStepped}
+use Rattle.isolation_laws.proofs.Names.{OfOutcome, OfOutcomeFailed, OfCompleted, OfSwept, OfSweepFailed, left_by}
+use Rattle.isolation_laws.proofs.Names.{told_by_outcome, ◌≡◌, ℕ, List, [], ◌∷◌, ◌++◌, append_assoc, ◌⊎◌, inl, inr, refl}
+use Rattle.isolation_laws.proofs.Names.{sym, ◌∙◌, ap, subst, none-some, InvalidMark, Committed, Item, Begin, Placed}
+use Rattle.isolation_laws.proofs.Names.{in_front, in_push, read_ask, settle_ask, mark_of, State, pairs_after, Marked}
+use Rattle.isolation_laws.proofs.Names.{Begun, Live, IsolationInvariant, IsMarkedFirst, IsLost, AllQuiet}
 use Rattle.isolation_laws.proofs.Pushed.{old_placed}
 use Rattle.isolation_laws.proofs.Holding.IsolatedItems.{Stamping, StampsNone, StampsPlaced, StampsBegin, stamping, placed_old}
 use Rattle.isolation_laws.proofs.Stores.StoresStay.{MarksStay, marks_put, marks_after, marks_may, marks_if}
 use Rattle.isolation_laws.proofs.Stores.LiveAfter.{live_answered_begin}
 use Rattle.isolation_laws.proofs.Numbers.Placings.{PlacedPending, placed_item, placed_live}
-use Rattle.machine.specs.Quiet.{AllQuiet}
 use Rattle.isolation_laws.proofs.Requests.RequestsOfBegins.{start_unbegun}
 use Rattle.isolation_laws.proofs.Holding.LeftAlone.{alone}
 

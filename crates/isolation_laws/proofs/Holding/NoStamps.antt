@@ -1,14 +1,9 @@
 -- Items that are neither a begin nor a placed commit.
-use Rattle.std.proofs.Common.{◌≡◌, ℕ, Bool, true, false, List, [], ◌∷◌, refl, All}
-use Rattle.std.proofs.lemmas.List.Elements.{All-nil, All-cons, All-head, All-tail}
-use Rattle.history_book.specs.declared.item.Item.{Item}
+use Rattle.isolation_laws.proofs.Names.{◌≡◌, ℕ, Bool, true, false, List, [], ◌∷◌, refl, All, All-nil, All-cons}
+use Rattle.isolation_laws.proofs.Names.{All-head, All-tail, Item, ReadTurn, Asks, Answers, Request, Commit, draw_item}
+use Rattle.isolation_laws.proofs.Names.{read_items, found_of, Quiet, AllQuiet}
 use Rattle.history_book.specs.declared.item.Item.TheVariants as item
-use Rattle.system_parts.specs.KeyRead.{ReadTurn, Asks, Answers}
-use Rattle.system_parts.specs.declared.instance.Request.{Request}
-use Rattle.system_parts.specs.declared.instance.Request.TheVariants.{Begin, Commit}
-use Rattle.machine.specs.Events.Decide.{draw_item}
-use Rattle.machine.specs.Events.Fetch.{read_items, found_of}
-use Rattle.machine.specs.Quiet.{Quiet, AllQuiet}
+use Rattle.system_parts.specs.declared.instance.Request.TheVariants.{Begin}
 
 -- the item is a begin or a placed commit
 abbrev pub is_stamp : Item → Bool

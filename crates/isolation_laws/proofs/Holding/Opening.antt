@@ -1,23 +1,11 @@
 -- All that ties state and history holds in the opening state, of an empty history.
-use Rattle.std.proofs.Common.{arith, [], ◌≡◌, ℕ, true, false, Some, None, inl, inr, sym, ◌∙◌, ap, subst}
+use Rattle.isolation_laws.proofs.Names.{arith, [], ◌≡◌, ℕ, true, false, Some, None, inl, inr, sym, ◌∙◌, ap, subst}
+use Rattle.isolation_laws.proofs.Names.{nat_cmp, none-some, CommittedMark, SetupNumbers, AreInRange, NewStamps}
+use Rattle.isolation_laws.proofs.Names.{StartsAbove, RightRead, Isolated, Cell, looked, AreOrdered, Nothing, Reads}
+use Rattle.isolation_laws.proofs.Names.{Settles, Client, opening, AreOwned, HasRecord, Live, CellFacts, UnderWayFacts}
+use Rattle.isolation_laws.proofs.Names.{ReadFacts, IsTrueCache, KnownFacts, IsolationInvariant}
 use Rattle.std.specs.FinMap as map
-use Rattle.std.specs.Ordering.{nat_cmp}
-use Rattle.std.proofs.lemmas.Option.{none-some}
-use Rattle.stamp_base.specs.declared.stores.Mark.TheVariants.{Committed as CommittedMark}
-use Rattle.stamp_base.specs.SetupNumbers.{SetupNumbers, AreInRange}
-use Rattle.history_book.specs.Isolation.{NewStamps, StartsAbove, RightRead, Isolated}
-use Rattle.system_parts.specs.declared.rows.Cell.{Cell}
-use Rattle.system_parts.specs.Rows.{looked, AreOrdered}
 use Rattle.system_parts.specs.declared.session.State.TheVariants as phase
-use Rattle.machine.specs.State.{Nothing, Reads, Settles, Client, opening}
-use Rattle.isolation_laws.specs.Bare.{AreOwned}
-use Rattle.isolation_laws.specs.Words.{HasRecord}
-use Rattle.isolation_laws.specs.Pending.{Live}
-use Rattle.isolation_laws.specs.Cells.{CellFacts}
-use Rattle.isolation_laws.specs.UnderWay.{UnderWayFacts}
-use Rattle.isolation_laws.specs.Reads.{ReadFacts}
-use Rattle.isolation_laws.specs.Known.{IsTrueCache, KnownFacts}
-use Rattle.isolation_laws.specs.IsolationInvariant.{IsolationInvariant}
 use Rattle.isolation_laws.proofs.Inversions.InversionSound.{none_at}
 use Rattle.isolation_laws.proofs.Known.TrueCaches.{true_new}
 use Rattle.isolation_laws.proofs.Holding.OpeningSessions.{in_none, each_none, is_new, not_in, not_under_way, not_open, not_pending, opening_numbers, opening_requests, opening_memory, opening_begins}

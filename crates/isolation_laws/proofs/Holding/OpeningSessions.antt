@@ -1,17 +1,9 @@
 -- In the opening state no instance is there and no client works: numbers, sessions, requests, the conflict memory, begins.
-use Rattle.std.proofs.Common.{[], ◌≡◌, ℕ, true, IsTrue, List, ◌⊎◌, inl, inr, refl, sym, ◌∙◌, ap}
-use Rattle.stamp_base.specs.SetupNumbers.{SetupNumbers}
-use Rattle.history_book.specs.Members.{◌∈◌, AtEach}
-use Rattle.system_parts.specs.declared.session.State.{State as SessionState}
+use Rattle.isolation_laws.proofs.Names.{[], ◌≡◌, ℕ, true, IsTrue, List, ◌⊎◌, inl, inr, refl, sym, ◌∙◌, ap, SetupNumbers}
+use Rattle.isolation_laws.proofs.Names.{◌∈◌, AtEach, SessionState, has_transaction, UnderWay, Nothing, Client}
+use Rattle.isolation_laws.proofs.Names.{client_new, opening, ClientAt, OpenAt, InFlight, is_placing, Pending, IsNewDraw}
+use Rattle.isolation_laws.proofs.Names.{NumberFacts, HasAsked, RequestFacts, MemoryFacts, BeginFacts}
 use Rattle.system_parts.specs.declared.session.State.TheVariants as phase
-use Rattle.system_parts.specs.SessionSteps.{has_transaction}
-use Rattle.machine.specs.State.{UnderWay, Nothing, Client, client_new, opening}
-use Rattle.isolation_laws.specs.Words.{ClientAt, OpenAt}
-use Rattle.isolation_laws.specs.Pending.{InFlight, is_placing, Pending}
-use Rattle.isolation_laws.specs.Numbers.{IsNewDraw, NumberFacts}
-use Rattle.isolation_laws.specs.Requests.{HasAsked, RequestFacts}
-use Rattle.isolation_laws.specs.Memory.{MemoryFacts}
-use Rattle.isolation_laws.specs.Begins.{BeginFacts}
 use Rattle.isolation_laws.proofs.Inversions.InversionSound.{found_copy, none_at}
 use Rattle.isolation_laws.proofs.Requests.ClientsOpen.{free_rests}
 

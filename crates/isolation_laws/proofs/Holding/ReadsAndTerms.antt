@@ -1,15 +1,9 @@
 -- What reads give, where stamps lie, and whose lease stands.
-use Rattle.std.proofs.Common.{◌≡◌, ℕ, ◌<◌, List, ◌++◌, take, Option, Some, None, ◌⊎◌, inl, inr, refl, ap}
-use Rattle.std.proofs.lemmas.Option.{same_Some}
-use Rattle.history_book.specs.Isolation.{Committed, Visible, RightAnswer, Isolated, last_write}
-use Rattle.history_book.specs.declared.item.Found.{Found}
-use Rattle.history_book.specs.declared.item.Item.{Item}
-use Rattle.history_book.specs.declared.item.Item.TheVariants.{Read}
-use Rattle.stamp_base.specs.SetupNumbers.{SetupNumbers, AreInRange}
-use Rattle.machine.specs.State.{State}
-use Rattle.machine.specs.Machine.{Move, items_after, history_after, AreSteady, Steady}
-use Rattle.isolation_laws.specs.Sound.{ReachedInvariant}
-use Rattle.isolation_laws.specs.Laws.{Unplaced, IsMarkedFirst, IsLost, ReadsWhatCommits, DrawsKeepTerms, LeasesAreOfTheTerm}
+use Rattle.isolation_laws.proofs.Names.{◌≡◌, ℕ, ◌<◌, List, ◌++◌, take, Option, Some, None, ◌⊎◌, inl, inr, refl, ap}
+use Rattle.isolation_laws.proofs.Names.{same_Some, Committed, Visible, RightAnswer, Isolated, last_write, Found, Item}
+use Rattle.isolation_laws.proofs.Names.{Read, SetupNumbers, AreInRange, State, Move, items_after, history_after}
+use Rattle.isolation_laws.proofs.Names.{AreSteady, Steady, ReachedInvariant, Unplaced, IsMarkedFirst, IsLost}
+use Rattle.isolation_laws.proofs.Names.{ReadsWhatCommits, DrawsKeepTerms, LeasesAreOfTheTerm}
 use Rattle.isolation_laws.proofs.OnceEach.{place_of}
 use Rattle.isolation_laws.proofs.Owners.{accepts_now}
 use Rattle.isolation_laws.proofs.AlwaysHolds.{histories_are_isolated}

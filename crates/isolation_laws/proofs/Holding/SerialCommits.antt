@@ -1,15 +1,8 @@
 -- For cluster_core too.
 -- With strict reads every history is serial: what is placed was drawn, and what those that were drawn have read stood.
-use Rattle.std.proofs.Common.{◌≡◌, ℕ, ◌<◌, List, Some, take, ◌⊎◌, inl, inr, sym, arith}
-use Rattle.std.specs.Prelude.{slice_get}
+use Rattle.isolation_laws.proofs.Names.{◌≡◌, ℕ, ◌<◌, List, Some, take, ◌⊎◌, inl, inr, sym, arith, slice_get, Item, Read}
+use Rattle.isolation_laws.proofs.Names.{SerialIfStrict, State, ArePlaced, DrawnSerial, IsolationInvariant}
 use Rattle.history_book.specs.Serial.{StoodAtCommit, Serial}
-use Rattle.history_book.specs.declared.item.Item.{Item}
-use Rattle.history_book.specs.declared.item.Item.TheVariants.{Read}
-use Rattle.cause_rules.specs.Strict.{SerialIfStrict}
-use Rattle.machine.specs.State.{State}
-use Rattle.isolation_laws.specs.Numbers.{ArePlaced}
-use Rattle.isolation_laws.specs.Memory.{DrawnSerial}
-use Rattle.isolation_laws.specs.IsolationInvariant.{IsolationInvariant}
 
 -- a commit below the reader's start, or above its commit, is not between them
 not_between : (t c d : ℕ) → (c < t) ⊎ (d < c) → t < c → c < d → ⊥

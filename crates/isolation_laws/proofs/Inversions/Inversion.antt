@@ -1,15 +1,8 @@
 -- Where the facts hold the parts of a state fit together, and each event comes to one outcome.
 use Rattle.std.specs.Prelude.{List}
-use Rattle.port_io.specs.declared.weather.Fate.{Fate}
-use Rattle.history_book.specs.declared.item.Item.{Item}
-use Rattle.machine.specs.declared.event.Event.{Event}
-use Rattle.machine.specs.State.{State}
-use Rattle.machine.specs.Machine.{stepped, reading_of}
-use Rattle.machine.specs.Fits.{Fits}
-use Rattle.machine.specs.Outcome.Inverted.{ComesAt}
+use Rattle.isolation_laws.proofs.Names.{Fate, Item, Event, State, stepped, reading_of, Fits, ComesAt}
+use Rattle.isolation_laws.proofs.Names.{IsolationInvariant, Sound}
 use Rattle.machine.proofs.Inversions.Inversion.{comes_to as machine_comes_to}
-use Rattle.isolation_laws.specs.IsolationInvariant.{IsolationInvariant}
-use Rattle.isolation_laws.specs.Sound.{Sound}
 use Rattle.isolation_laws.proofs.Inversions.StepsFitting.{steps_fit}
 
 pub parts_fit : (w : State) (h : List Item) → IsolationInvariant w h → Sound w → Fits w

@@ -1,25 +1,13 @@
 -- For cause_laws and grant_laws too.
 -- Every outcome keeps what the inversion needs: kept refusals are the master record's, and an open sweep asks something.
-use Rattle.std.specs.Prelude.{IfSome, slice_get, replicate}
-use Rattle.port_io.specs.declared.weather.Fate.{Fate}
-use Rattle.history_book.specs.declared.cause.Cause.{Cause}
-use Rattle.system_parts.specs.InstanceSteps.{IsStop}
-use Rattle.machine.specs.declared.event.Event.{Event}
-use Rattle.machine.specs.Machine.{stepped}
+use Rattle.isolation_laws.proofs.Names.{slice_get, replicate, Fate, Cause, IsStop, Event, stepped, ◌≡◌, ℕ, ◌<◌, Option}
+use Rattle.isolation_laws.proofs.Names.{Some, None, refl, sym, ◌∙◌, ap, subst, same_Some, none-some, slice_get_within}
+use Rattle.isolation_laws.proofs.Names.{get_or_from_slice_get, get_or-replicate, length-replicate, SetupNumbers, Ask}
+use Rattle.isolation_laws.proofs.Names.{Sweeping, sweep_open, sweep_ask, InstanceEntry, State, opening, still_open}
+use Rattle.isolation_laws.proofs.Names.{sweep_left, InstanceAt, StopOf, AreStops, SweepAsks, Sound, Outcome}
+use Rattle.isolation_laws.proofs.Names.{OfSweepOpened, OfSwept, OfSweepListed, OfSweepFailed, left_by}
+use Rattle.std.specs.Prelude.{IfSome}
 use Rattle.machine.proofs.StopsKept.{stops_kept}
-use Rattle.std.proofs.Common.{◌≡◌, ℕ, ◌<◌, Option, Some, None, refl, sym, ◌∙◌, ap, subst}
-use Rattle.std.proofs.lemmas.Option.{same_Some, none-some, slice_get_within, get_or_from_slice_get}
-use Rattle.std.proofs.lemmas.List.{get_or-replicate, length-replicate}
-use Rattle.stamp_base.specs.SetupNumbers.{SetupNumbers}
-use Rattle.system_parts.specs.declared.asks.Ask.{Ask}
-use Rattle.system_parts.specs.Sweep.{Sweeping, sweep_open, sweep_ask}
-use Rattle.system_parts.specs.Instance.{InstanceEntry}
-use Rattle.machine.specs.State.{State, opening}
-use Rattle.machine.specs.Events.SweepStep.{still_open, sweep_left}
-use Rattle.isolation_laws.specs.Words.{InstanceAt}
-use Rattle.machine.specs.Fits.{StopOf, AreStops, SweepAsks}
-use Rattle.isolation_laws.specs.Sound.{Sound}
-use Rattle.machine.specs.Outcome.Outcomes.{Outcome, OfSweepOpened, OfSwept, OfSweepListed, OfSweepFailed, left_by}
 
 -- ---- kept refusals: those of an instance, as the machine's laws have them
 kept_stop : (stop : Option Cause) → StopOf stop → IfSome stop IsStop

@@ -1,26 +1,16 @@
 -- For cause_laws too.
 -- What a session has under way fits its state, and what stands in the table in the place of a commit that it places is a mark.
-use Rattle.std.proofs.Common.{◌≡◌, ℕ, Bool, true, false, IsTrue, if◌then◌else◌, List, [], ◌∷◌, Option, Some, None, ◌⊎◌, inl, inr, refl, sym, ◌∙◌, ap, subst}
-use Rattle.std.proofs.lemmas.Option.{same_Some, none-some}
-use Rattle.stamp_base.specs.declared.stores.Mark.{Mark}
-use Rattle.history_book.specs.declared.cause.Cause.TheVariants.{Idle}
-use Rattle.history_book.specs.declared.item.Item.{Item}
-use Rattle.system_parts.specs.Pairs.{mark_of}
-use Rattle.system_parts.specs.declared.asks.Ask.{Ask}
+use Rattle.isolation_laws.proofs.Names.{◌≡◌, ℕ, Bool, true, false, IsTrue, if◌then◌else◌, List, [], ◌∷◌, Option, Some}
+use Rattle.isolation_laws.proofs.Names.{None, ◌⊎◌, inl, inr, refl, sym, ◌∙◌, ap, subst, same_Some, none-some, Mark}
+use Rattle.isolation_laws.proofs.Names.{Idle, Item, mark_of, Ask, SessionState, finish_asks, undo_asks, first_ask}
+use Rattle.isolation_laws.proofs.Names.{Settling, own_settling, SessionEntry, step_refusal, has_transaction, handed_by}
+use Rattle.isolation_laws.proofs.Names.{handed_commit, UnderWay, Nothing, Reads, Settles, Completes, Client, State}
+use Rattle.isolation_laws.proofs.Names.{is_reading, is_reading_by, own_resolve, work_by, work_of, Places, NoList}
+use Rattle.isolation_laws.proofs.Names.{IsCompletion, IsWork, StepsFit, InFlight, is_placing, PlacingAt, Has}
+use Rattle.isolation_laws.proofs.Names.{IsolationInvariant}
 use Rattle.system_parts.specs.declared.asks.Ask.TheVariants as ask
-use Rattle.system_parts.specs.declared.session.State.{State as SessionState}
 use Rattle.system_parts.specs.declared.session.State.TheVariants as phase
-use Rattle.system_parts.specs.Completion.{finish_asks, undo_asks, first_ask}
-use Rattle.system_parts.specs.Resolve.{Settling, own_settling}
-use Rattle.system_parts.specs.SessionSteps.{SessionEntry, step_refusal, has_transaction, handed_by, handed_commit}
-use Rattle.machine.specs.State.{UnderWay, Nothing, Reads, Settles, Completes, Client, State}
-use Rattle.machine.specs.Clients.{is_reading, is_reading_by}
-use Rattle.machine.specs.Events.Step.{own_resolve, work_by, work_of}
 use Rattle.machine.specs.FoundAt.{ClientAt, Marked}
-use Rattle.machine.specs.Due.{Places}
-use Rattle.machine.specs.Fits.{NoList, IsCompletion, IsWork, StepsFit}
-use Rattle.isolation_laws.specs.Pending.{InFlight, is_placing, PlacingAt, Has}
-use Rattle.isolation_laws.specs.IsolationInvariant.{IsolationInvariant}
 use Rattle.isolation_laws.proofs.FoundMarks.{found_marked}
 
 -- ---- no completion lists keys

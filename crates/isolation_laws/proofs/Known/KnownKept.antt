@@ -1,27 +1,14 @@
 -- Every outcome keeps it so that what clients remember is true, and that the cells of their reads were written.
-use Rattle.machine.specs.Outcome.Outcomes.{Outcome, OfVanished, OfFetched, OfReadDropped, OfReadStepped, left_by, told_by_outcome}
-use Rattle.std.proofs.Common.{◌≡◌, ℕ, All, List, ◌∷◌, ◌++◌, inl, inr, refl, sym, ◌∙◌, ap, subst}
-use Rattle.std.specs.Prelude.{slice_set}
-use Rattle.std.proofs.lemmas.List.Elements.{All-weaker}
-use Rattle.history_book.specs.declared.item.Item.{Item}
-use Rattle.history_book.specs.declared.item.Item.TheVariants.{Placed}
-use Rattle.history_book.proofs.MemberLemmas.{in_front}
-use Rattle.system_parts.specs.declared.rows.Cell.{Cell}
-use Rattle.system_parts.specs.Rows.{fetched, front_of}
-use Rattle.system_parts.specs.Pairs.{Pairs}
-use Rattle.system_parts.specs.declared.known.Known.{Known}
+use Rattle.isolation_laws.proofs.Names.{Outcome, OfVanished, OfFetched, OfReadDropped, OfReadStepped, left_by}
+use Rattle.isolation_laws.proofs.Names.{told_by_outcome, ◌≡◌, ℕ, All, List, ◌∷◌, ◌++◌, inl, inr, refl, sym, ◌∙◌, ap}
+use Rattle.isolation_laws.proofs.Names.{subst, slice_set, All-weaker, Item, Placed, in_front, Cell, fetched, front_of}
+use Rattle.isolation_laws.proofs.Names.{Pairs, Known, Told, Cache, put_fresh, cache_learnt, learnt_by, Reading}
+use Rattle.isolation_laws.proofs.Names.{ReadTurn, Asks, Answers, read_ask, Reads, Client, State, pairs_after, told_by}
+use Rattle.isolation_laws.proofs.Names.{marks_every, client_read, ClientAt, IsTrueOf, IsTrueCache, AreKnown}
+use Rattle.isolation_laws.proofs.Names.{IsWrittenCell, AreWrittenCells, KnownFacts, IsolationInvariant, client_set}
+use Rattle.isolation_laws.proofs.Names.{fetched_recall, fetched_turn, fetched_client, fetched_items, read_recall}
+use Rattle.isolation_laws.proofs.Names.{read_turn, read_client, read_stepped_items}
 use Rattle.system_parts.specs.declared.known.Known.TheVariants as known
-use Rattle.system_parts.specs.declared.asks.Told.{Told}
-use Rattle.system_parts.specs.Cache.{Cache, put_fresh, cache_learnt, learnt_by}
-use Rattle.system_parts.specs.KeyRead.{Reading, ReadTurn, Asks, Answers, read_ask}
-use Rattle.machine.specs.State.{Reads, Client, State}
-use Rattle.machine.specs.StoreSteps.{pairs_after, told_by}
-use Rattle.machine.specs.Events.Fetch.{marks_every, client_read}
-use Rattle.isolation_laws.specs.Words.{ClientAt}
-use Rattle.isolation_laws.specs.Known.{IsTrueOf, IsTrueCache, AreKnown, IsWrittenCell, AreWrittenCells, KnownFacts}
-use Rattle.isolation_laws.specs.IsolationInvariant.{IsolationInvariant}
-use Rattle.machine.proofs.Lookups.{client_set}
-use Rattle.machine.specs.Outcome.OutcomesOfWork.{fetched_recall, fetched_turn, fetched_client, fetched_items, read_recall, read_turn, read_client, read_stepped_items}
 use Rattle.isolation_laws.proofs.Reading.ClientsReading.{FewerReading, nothing_reads}
 use Rattle.isolation_laws.proofs.Reading.FirstReads.{wrote_on}
 use Rattle.isolation_laws.proofs.Reading.KeptReads.{SameCaches, read_remembers, caches_keep}

@@ -1,23 +1,11 @@
 -- What a step of a read decides, and the client may remember, is true.
-use Rattle.std.proofs.Common.{◌≡◌, ℕ, Bool, true, false, All, List, ◌∷◌, Option, Some, IfSome, inl, inr, refl, sym, ◌∙◌, ap, arith}
-use Rattle.history_book.specs.Isolation.{Committed}
-use Rattle.history_book.specs.declared.item.Item.{Item}
-use Rattle.system_parts.specs.declared.rows.Cell.{Cell}
-use Rattle.system_parts.specs.Rows.{Row, looked}
-use Rattle.system_parts.specs.Pairs.{Pairs}
-use Rattle.system_parts.specs.declared.resolve.Outcome.TheVariants.{Committed as CommittedAt, Dead}
-use Rattle.system_parts.specs.declared.resolve.SettlePoint.{SettlePoint}
-use Rattle.system_parts.specs.declared.resolve.SettlePoint.TheVariants.{LastLook}
-use Rattle.system_parts.specs.Resolve.{SettleTurn, Goes, Decides, settle_turn_at, ask_at, after_last_look}
-use Rattle.system_parts.specs.KeyRead.{Reading, may_mark, read_ask}
-use Rattle.system_parts.specs.Cache.{dead_for_good, learnt_of, learnt_by}
-use Rattle.machine.specs.State.{State}
-use Rattle.machine.specs.StoreSteps.{pairs_after, told_by, told_cell, told_shadow}
-use Rattle.isolation_laws.specs.Words.{OpenAt, Marked, cell_with}
-use Rattle.isolation_laws.specs.UnderWay.{HasShadow}
-use Rattle.isolation_laws.specs.Reads.{IsResolvedTo, IsReading}
-use Rattle.isolation_laws.specs.Known.{IsTruePair, IsWrittenCell}
-use Rattle.isolation_laws.specs.IsolationInvariant.{IsolationInvariant}
+use Rattle.isolation_laws.proofs.Names.{◌≡◌, ℕ, Bool, true, false, All, List, ◌∷◌, Option, Some, IfSome, inl, inr, refl}
+use Rattle.isolation_laws.proofs.Names.{sym, ◌∙◌, ap, arith, Committed, Item, Cell, Row, looked, Pairs, CommittedAt}
+use Rattle.isolation_laws.proofs.Names.{Dead, SettlePoint, LastLook, SettleTurn, Goes, Decides, settle_turn_at, ask_at}
+use Rattle.isolation_laws.proofs.Names.{after_last_look, Reading, may_mark, read_ask, dead_for_good, learnt_of}
+use Rattle.isolation_laws.proofs.Names.{learnt_by, State, pairs_after, told_by, told_cell, told_shadow, OpenAt, Marked}
+use Rattle.isolation_laws.proofs.Names.{cell_with, HasShadow, IsResolvedTo, IsReading, IsTruePair, IsWrittenCell}
+use Rattle.isolation_laws.proofs.Names.{IsolationInvariant}
 use Rattle.isolation_laws.proofs.Stores.CellsStay.{no_record_marked}
 use Rattle.isolation_laws.proofs.Reading.ReadTurns.{Tells, tells_at}
 

@@ -1,15 +1,9 @@
 -- What is remembered stays true: where a decision is put in or learnt, where one is used, and over more marks and a longer history.
-use Rattle.std.proofs.Common.{ℕ, ◌==◌, List, Option, Some, None, IfSome, inl, inr, subst, arith}
-use Rattle.std.proofs.lemmas.Bool.{cases_Bool}
-use Rattle.std.proofs.lemmas.Option.{same_Some}
-use Rattle.history_book.specs.declared.item.Item.{Item}
-use Rattle.history_book.specs.declared.item.Item.TheVariants.{Placed}
-use Rattle.system_parts.specs.Pairs.{Pairs}
-use Rattle.system_parts.specs.declared.known.Known.{Known}
+use Rattle.isolation_laws.proofs.Names.{ℕ, ◌==◌, List, Option, Some, None, IfSome, inl, inr, subst, arith, cases_Bool}
+use Rattle.isolation_laws.proofs.Names.{same_Some, Item, Placed, Pairs, Known, Cache, cache_new, used, fresh_put}
+use Rattle.isolation_laws.proofs.Names.{put_fresh, cache_learnt, used_there, put_there, IsTrueOf, IsTruePair}
+use Rattle.isolation_laws.proofs.Names.{IsTrueCache}
 use Rattle.system_parts.specs.declared.known.Known.TheVariants as known
-use Rattle.system_parts.specs.Cache.{Cache, cache_new, used, fresh_put, put_fresh, cache_learnt}
-use Rattle.system_parts.proofs.CacheLemmas.{used_there, put_there}
-use Rattle.isolation_laws.specs.Known.{IsTrueOf, IsTruePair, IsTrueCache}
 use Rattle.isolation_laws.proofs.Stores.StoresStay.{MarksStay}
 use Rattle.isolation_laws.proofs.Stores.Calm.{Calm}
 

@@ -1,25 +1,12 @@
 -- The cells that a read comes to: their versions wrote the key, or are over.
-use Rattle.std.proofs.Common.{◌≡◌, ℕ, ◌==◌, ◌||◌, nat_lt, is_some, Bool, All, List, [], ◌∷◌, Option, Some, None, inl, inr, refl, sym, ◌∙◌, ap, subst}
-use Rattle.std.proofs.lemmas.Bool.{cases_Bool}
-use Rattle.std.proofs.lemmas.Option.{none-some}
-use Rattle.std.proofs.lemmas.List.Elements.{All-tail}
-use Rattle.history_book.specs.Isolation.{last_write}
-use Rattle.history_book.specs.declared.item.Item.{Item}
-use Rattle.system_parts.specs.declared.rows.Cell.{Cell}
-use Rattle.system_parts.specs.Rows.{looked, fetched, front_of}
-use Rattle.system_parts.proofs.RowFetches.{front-all}
-use Rattle.system_parts.specs.declared.asks.Told.{Told}
-use Rattle.system_parts.specs.declared.key_read.Answer.{Answer}
-use Rattle.system_parts.specs.declared.resolve.Outcome.TheVariants.{Committed as CommittedAt, Dead}
-use Rattle.system_parts.specs.Resolve.{SettleTurn, Goes, Decides, settle_turn}
-use Rattle.system_parts.specs.KeyRead.{Reading, ReadTurn, Asks, Answers, found_none, found_cell, found_by, is_passed, after_passed, turn_at, settling_of, read_over, read_by}
-use Rattle.system_parts.specs.Cache.{Cache}
-use Rattle.system_parts.specs.Recalled.{outcome_known, recalled_over, recalled_told}
-use Rattle.system_parts.proofs.RecalledLemmas.{AnyCache, Recalls, come_to, over_holds, told_holds}
-use Rattle.machine.specs.State.{State}
-use Rattle.isolation_laws.specs.Words.{cell_with}
-use Rattle.isolation_laws.specs.Known.{IsWrittenCell}
-use Rattle.isolation_laws.specs.IsolationInvariant.{IsolationInvariant}
+use Rattle.isolation_laws.proofs.Names.{◌≡◌, ℕ, ◌==◌, ◌||◌, nat_lt, is_some, Bool, All, List, [], ◌∷◌, Option, Some}
+use Rattle.isolation_laws.proofs.Names.{None, inl, inr, refl, sym, ◌∙◌, ap, subst, cases_Bool, none-some, All-tail}
+use Rattle.isolation_laws.proofs.Names.{last_write, Item, Cell, looked, fetched, front_of, front-all, Told, Answer}
+use Rattle.isolation_laws.proofs.Names.{CommittedAt, Dead, SettleTurn, Goes, Decides, settle_turn, Reading, ReadTurn}
+use Rattle.isolation_laws.proofs.Names.{Asks, Answers, found_none, found_cell, found_by, is_passed, after_passed}
+use Rattle.isolation_laws.proofs.Names.{turn_at, settling_of, read_over, read_by, Cache, outcome_known, recalled_over}
+use Rattle.isolation_laws.proofs.Names.{recalled_told, AnyCache, Recalls, come_to, over_holds, told_holds, State}
+use Rattle.isolation_laws.proofs.Names.{cell_with, IsWrittenCell, IsolationInvariant}
 use Rattle.isolation_laws.proofs.Reading.SeesFetched.{are_fetched}
 
 -- ---- a turn that goes on is over cells such as these

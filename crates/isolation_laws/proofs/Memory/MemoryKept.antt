@@ -1,19 +1,13 @@
 -- Every outcome keeps the facts on the conflict memory.
-use Rattle.std.proofs.Common.{◌≡◌, ℕ, ◌+◌, Bool, true, false, List, [], ◌++◌, Some, inl, inr, refl, sym, ◌∙◌, ap, arith}
-use Rattle.history_book.specs.declared.item.Item.{Item}
-use Rattle.system_parts.specs.Buckets.{contents}
-use Rattle.machine.specs.State.{State}
-use Rattle.isolation_laws.specs.Words.{recorded}
-use Rattle.isolation_laws.specs.Memory.{AreOfForm, AreRecorded, MemoryFacts}
-use Rattle.isolation_laws.specs.IsolationInvariant.{IsolationInvariant}
-use Rattle.machine.proofs.Lookups.{instance_changed}
+use Rattle.isolation_laws.proofs.Names.{◌≡◌, ℕ, ◌+◌, Bool, true, false, List, [], ◌++◌, Some, inl, inr, refl, sym, ◌∙◌}
+use Rattle.isolation_laws.proofs.Names.{ap, arith, Item, contents, State, recorded, AreOfForm, AreRecorded, MemoryFacts}
+use Rattle.isolation_laws.proofs.Names.{IsolationInvariant, instance_changed, Granted, granted_nodes, granted_state}
+use Rattle.isolation_laws.proofs.Names.{Outcome, OfGranted, OfDrew, left_by, told_by_outcome}
 use Rattle.isolation_laws.proofs.Memory.RecordedCommits.{recorded_none}
 use Rattle.isolation_laws.proofs.Memory.MemoryStays.{remembered_same, nothing_quiet, memory_same}
 use Rattle.isolation_laws.proofs.Memory.SerialDraws.{memory_drew}
 use Rattle.isolation_laws.proofs.Holding.Alone.{memory_alone}
 use Rattle.isolation_laws.proofs.Holding.LeftAlone.{alone}
-use Rattle.machine.specs.Outcome.OutcomesOfRecord.{Granted, granted_nodes, granted_state}
-use Rattle.machine.specs.Outcome.Outcomes.{Outcome, OfGranted, OfDrew, left_by, told_by_outcome}
 
 -- ---- a new instance
 -- it begins with empty buckets, and nothing was drawn in its term

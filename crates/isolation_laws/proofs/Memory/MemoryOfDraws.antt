@@ -1,27 +1,15 @@
 -- The conflict memory where a stamp is drawn: its instance records the keys, and a free verdict keeps commits of one key
 -- apart.
-use Rattle.std.proofs.Common.{◌≡◌, ◌≢◌, ℕ, ◌+◌, ◌<◌, ◌≤◌, List, [], ◌++◌, Option, Some, None, ◌⊎◌, inl, inr, refl, sym, ◌∙◌, ap, subst, arith, Contains}
-use Rattle.std.specs.Option.{IsSomeAnd, option_or}
-use Rattle.std.proofs.lemmas.Bool.{cases_eq}
-use Rattle.std.proofs.lemmas.List.{append-nil}
-use Rattle.std.proofs.lemmas.Option.{same_Some, none-some}
-use Rattle.history_book.specs.Isolation.{Wrote, last_write}
-use Rattle.history_book.specs.declared.item.Item.{Item}
-use Rattle.history_book.specs.declared.item.Item.TheVariants.{Draw, Write}
-use Rattle.history_book.proofs.HistoryLemmas.{last_write-push}
+use Rattle.isolation_laws.proofs.Names.{◌≡◌, ◌≢◌, ℕ, ◌+◌, ◌<◌, ◌≤◌, List, [], ◌++◌, Option, Some, None, ◌⊎◌, inl, inr}
+use Rattle.isolation_laws.proofs.Names.{refl, sym, ◌∙◌, ap, subst, arith, Contains, IsSomeAnd, option_or, cases_eq}
+use Rattle.isolation_laws.proofs.Names.{append-nil, same_Some, none-some, Wrote, last_write, Item, Draw, Write}
+use Rattle.isolation_laws.proofs.Names.{last_write-push, Request, BeginRequest, Commit, contents, last_commit, verdict}
+use Rattle.isolation_laws.proofs.Names.{record_pairs, IsShown, pairs_by, request_verdict, last_commit_greatest, State}
+use Rattle.isolation_laws.proofs.Names.{DrewCommit, written_keys, recorded, recorded_by, AreRecorded, DrawnApart}
+use Rattle.isolation_laws.proofs.Names.{IsolationInvariant, Drew, drew_state, drew_items, three_ways}
 use Rattle.system_parts.specs.declared.buckets.Verdict.{Verdict}
 use Rattle.system_parts.specs.declared.buckets.Verdict.TheVariants.{Free}
-use Rattle.system_parts.specs.declared.instance.Request.{Request}
-use Rattle.system_parts.specs.declared.instance.Request.TheVariants.{Begin as BeginRequest, Commit}
-use Rattle.system_parts.specs.Buckets.{contents, last_commit, verdict, record_pairs, IsShown}
-use Rattle.system_parts.specs.InstanceSteps.{pairs_by, request_verdict}
 use Rattle.system_parts.proofs.BucketVerdicts.{verdict_shown, record_pairs-append}
-use Rattle.system_parts.proofs.LastCommits.{last_commit_greatest}
-use Rattle.machine.specs.State.{State}
-use Rattle.isolation_laws.specs.Words.{DrewCommit, written_keys, recorded, recorded_by}
-use Rattle.isolation_laws.specs.Memory.{AreRecorded, DrawnApart}
-use Rattle.isolation_laws.specs.IsolationInvariant.{IsolationInvariant}
-use Rattle.machine.specs.Outcome.OutcomesOfStamps.{Drew, drew_state, drew_items}
 use Rattle.isolation_laws.proofs.OnceEach.{drawn_once}
 use Rattle.isolation_laws.proofs.Pushed.{recorded-push}
 use Rattle.isolation_laws.proofs.Memory.RecordedCommits.{recorded_contains, recorded_rise, recorded_by_own, recorded_by_other, wrote_key}
@@ -30,7 +18,6 @@ use Rattle.isolation_laws.proofs.Numbers.NumbersOfDraws.{start_drawn, commit_dra
 use Rattle.isolation_laws.proofs.Numbers.NewStamps.{new_draw, drew_taken, drew_within}
 use Rattle.isolation_laws.proofs.Numbers.NewDraws.{drew_or}
 use Rattle.isolation_laws.proofs.Requests.RequestsOfDraws.{drew_keys, DrawsFor, draws_commit, drawing}
-use Rattle.machine.proofs.Orders.{three_ways}
 
 -- ---- what the draw records
 own_keys : (w : State) (h : List Item) (k : Drew w) (r t : ℕ) (keys : List ℕ) → IsolationInvariant w h → k.held.request ≡ Commit r t keys → keys ≡ written_keys h t

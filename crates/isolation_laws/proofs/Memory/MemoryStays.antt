@@ -1,28 +1,12 @@
 -- The conflict memory stays where no commit is drawn: instances keep their buckets, and items record nothing.
-use Rattle.std.proofs.Common.{◌≡◌, ℕ, ◌==◌, List, [], ◌∷◌, ◌++◌, append_assoc, Option, Some, None, inl, inr, refl, sym, ◌∙◌, ap, subst}
-use Rattle.std.specs.Prelude.{slice_set}
-use Rattle.std.specs.Option.{option_or}
-use Rattle.std.proofs.lemmas.Bool.{cases_Bool, eqb-true}
-use Rattle.std.proofs.lemmas.List.{append-nil}
-use Rattle.std.proofs.lemmas.List.Elements.{All-nil}
-use Rattle.history_book.specs.Isolation.{Wrote, last_write, written_by}
-use Rattle.history_book.specs.declared.item.Found.{Found}
-use Rattle.history_book.specs.declared.item.Item.{Item}
-use Rattle.history_book.specs.declared.item.Item.TheVariants.{Draw, Write, Read}
-use Rattle.history_book.proofs.HistoryLemmas.{last_write-push}
-use Rattle.history_book.proofs.MemberLemmas.{in_old}
-use Rattle.stamp_base.specs.SetupNumbers.{SetupNumbers}
-use Rattle.system_parts.specs.KeyRead.{ReadTurn, Asks, Answers}
-use Rattle.system_parts.specs.Buckets.{contents}
-use Rattle.system_parts.specs.Instance.{InstanceEntry}
-use Rattle.isolation_laws.specs.Words.{InstanceAt, DrewCommit, HasDrawn, keys_with, written_keys, recorded_by, recorded}
-use Rattle.machine.specs.Events.Fetch.{read_items, found_of}
-use Rattle.machine.specs.Quiet.{Quiet, AllQuiet}
-use Rattle.isolation_laws.specs.ReadSets.{ReadFirst}
-use Rattle.isolation_laws.specs.Memory.{AreRecorded, DrawnSerial, MemoryFacts}
-use Rattle.machine.proofs.Lookups.{instance_changed, instance_ended}
-use Rattle.machine.proofs.Outcome.QuietItems.{one_quiet}
-use Rattle.machine.specs.Outcome.OutcomesOfRecord.{AlikeNodes}
+use Rattle.isolation_laws.proofs.Names.{◌≡◌, ℕ, ◌==◌, List, [], ◌∷◌, ◌++◌, append_assoc, Option, Some, None, inl, inr}
+use Rattle.isolation_laws.proofs.Names.{refl, sym, ◌∙◌, ap, subst, slice_set, option_or, cases_Bool, eqb-true}
+use Rattle.isolation_laws.proofs.Names.{append-nil, All-nil, Wrote, last_write, written_by, Found, Item, Draw, Write}
+use Rattle.isolation_laws.proofs.Names.{Read, last_write-push, in_old, SetupNumbers, ReadTurn, Asks, Answers, contents}
+use Rattle.isolation_laws.proofs.Names.{InstanceEntry, InstanceAt, DrewCommit, HasDrawn, keys_with, written_keys}
+use Rattle.isolation_laws.proofs.Names.{recorded_by, recorded, read_items, found_of, Quiet, AllQuiet, ReadFirst}
+use Rattle.isolation_laws.proofs.Names.{AreRecorded, DrawnSerial, MemoryFacts, instance_changed, instance_ended}
+use Rattle.isolation_laws.proofs.Names.{one_quiet, AlikeNodes}
 use Rattle.isolation_laws.proofs.Numbers.NumbersOfItems.{NoDraw, write_is_no_draw, read_is_no_draw}
 use Rattle.isolation_laws.proofs.Reading.ReadsStay.{quiet_no_reads}
 use Rattle.isolation_laws.proofs.Reading.FirstReads.{first_push, first_no_reads}

@@ -1,21 +1,15 @@
 -- For cause_laws too.
 -- The pairs that the commits drawn in a term record: each key that was written is among them, and commits rise.
-use Rattle.std.proofs.Common.{◌≡◌, ◌≢◌, ℕ, zero, suc, ◌≤◌, ◌==◌, true, List, [], ◌∷◌, ◌++◌, take, Option, Some, None, inl, inr, refl, sym, ◌∙◌, ap, subst, arith, All, Contains}
-use Rattle.std.specs.Option.{option_or}
-use Rattle.std.proofs.lemmas.Bool.{cases_Bool, cases_eq, eqb-true, eq-eqb}
-use Rattle.std.proofs.lemmas.List.Elements.{All-nil, All-append, All-map, Contains-append_left, Contains-append_right, Contains-push}
+use Rattle.isolation_laws.proofs.Names.{◌≡◌, ◌≢◌, ℕ, zero, suc, ◌≤◌, ◌==◌, true, List, [], ◌∷◌, ◌++◌, take, Option}
+use Rattle.isolation_laws.proofs.Names.{Some, None, inl, inr, refl, sym, ◌∙◌, ap, subst, arith, All, Contains}
+use Rattle.isolation_laws.proofs.Names.{option_or, cases_Bool, cases_eq, eqb-true, eq-eqb, All-nil, All-append, All-map}
+use Rattle.isolation_laws.proofs.Names.{Contains-append_left, Contains-append_right, Contains-push, none-some, ◌∈◌}
+use Rattle.isolation_laws.proofs.Names.{AtEach, Wrote, last_write, written_by, Item, Draw, Write, has_key, key_added}
+use Rattle.isolation_laws.proofs.Names.{pair_of, pairs_of, CommitsRise, NotAfter, rise_tail, rise_head, DrewCommit}
+use Rattle.isolation_laws.proofs.Names.{keys_with, keys_from, written_keys, recorded_by, recorded_in, recorded}
+use Rattle.isolation_laws.proofs.Names.{IsNewDraw, AreNewDraws}
 use Rattle.std.proofs.lemmas.List.Kept.{AllPairs-cons}
-use Rattle.std.proofs.lemmas.Option.{none-some}
-use Rattle.history_book.specs.Members.{◌∈◌, AtEach}
-use Rattle.history_book.specs.Isolation.{Wrote, last_write, written_by}
-use Rattle.history_book.specs.declared.item.Item.{Item}
-use Rattle.history_book.specs.declared.item.Item.TheVariants.{Draw, Write}
-use Rattle.system_parts.specs.SessionSteps.{has_key, key_added}
 use Rattle.system_parts.specs.declared.buckets.Recorded.{Recorded}
-use Rattle.system_parts.specs.Buckets.{pair_of, pairs_of, CommitsRise}
-use Rattle.system_parts.proofs.LastCommits.{NotAfter, rise_tail, rise_head}
-use Rattle.isolation_laws.specs.Words.{DrewCommit, keys_with, keys_from, written_keys, recorded_by, recorded_in, recorded}
-use Rattle.isolation_laws.specs.Numbers.{IsNewDraw, AreNewDraws}
 use Rattle.isolation_laws.proofs.OnceEach.{place_of}
 
 -- ---- written keys

@@ -1,18 +1,10 @@
 -- The conflict memory where a stamp is drawn, with strict reads: what the transaction read is free too, and what it writes is drawn
 -- above all that was drawn in its term.
-use Rattle.std.proofs.Common.{ap, ◌∙◌, ◌≡◌, ℕ, ◌+◌, ◌<◌, true, List, ◌++◌, Some, ◌⊎◌, inl, inr, refl, sym, subst, arith}
-use Rattle.history_book.specs.Isolation.{Wrote}
-use Rattle.history_book.specs.declared.item.Item.{Item}
-use Rattle.system_parts.specs.declared.instance.Request.TheVariants.{Commit}
-use Rattle.machine.specs.State.{State}
-use Rattle.isolation_laws.specs.Words.{HeldBy, DrewCommit}
-use Rattle.isolation_laws.specs.ReadSets.{ReadFirst, KeepsReads}
-use Rattle.isolation_laws.specs.Memory.{AreOfForm, DrawnSerial, MemoryFacts}
-use Rattle.isolation_laws.specs.IsolationInvariant.{IsolationInvariant}
-use Rattle.machine.proofs.Lookups.{held_by, commit_own}
+use Rattle.isolation_laws.proofs.Names.{ap, ◌∙◌, ◌≡◌, ℕ, ◌+◌, ◌<◌, true, List, ◌++◌, Some, ◌⊎◌, inl, inr, refl, sym}
+use Rattle.isolation_laws.proofs.Names.{subst, arith, Wrote, Item, Commit, State, HeldBy, DrewCommit, ReadFirst}
+use Rattle.isolation_laws.proofs.Names.{KeepsReads, AreOfForm, DrawnSerial, MemoryFacts, IsolationInvariant, held_by}
+use Rattle.isolation_laws.proofs.Names.{commit_own, three_ways, Drew, drew_state, drew_items}
 use Rattle.isolation_laws.proofs.OnceEach.{commit_above_start}
-use Rattle.machine.proofs.Orders.{three_ways}
-use Rattle.machine.specs.Outcome.OutcomesOfStamps.{Drew, drew_state, drew_items}
 use Rattle.isolation_laws.proofs.Numbers.NumbersOfDraws.{drew_room, drew_cases}
 use Rattle.isolation_laws.proofs.Numbers.NewDraws.{drew_or}
 use Rattle.isolation_laws.proofs.Requests.RequestsOfDraws.{DrawsFor, draws_commit}

@@ -1,20 +1,9 @@
 -- Over a longer history with a new draw, stamps lie where the instances of their term, of later and of earlier ones say.
-use Rattle.std.proofs.Common.{[], ◌≡◌, ℕ, ◌+◌, ◌<◌, ◌≤◌, List, ◌∷◌, ◌++◌, Option, Some, ◌⊎◌, inl, inr, refl, sym, ◌∙◌, ap, subst, arith}
-use Rattle.std.proofs.lemmas.Option.{none-some}
-use Rattle.history_book.specs.Members.{◌∈◌}
-use Rattle.history_book.specs.Isolation.{Committed}
-use Rattle.history_book.specs.declared.item.Found.{Found}
-use Rattle.history_book.specs.declared.item.Item.{Item}
-use Rattle.history_book.specs.declared.item.Item.TheVariants.{Begin, Draw, Write, Read, Placed}
-use Rattle.history_book.proofs.MemberLemmas.{in_push, in_old, AtEach-push}
-use Rattle.system_parts.specs.declared.instance.Request.{Request}
-use Rattle.system_parts.specs.declared.instance.Request.TheVariants.{Begin as BeginRequest, Commit}
-use Rattle.machine.specs.State.{State}
-use Rattle.isolation_laws.specs.Words.{Begun, drawn_stamp}
-use Rattle.isolation_laws.specs.Pending.{Taken}
-use Rattle.isolation_laws.specs.Numbers.{AreDrawn, IsNewDraw, AreNewDraws, AreBegun, NumberFacts}
-use Rattle.isolation_laws.specs.IsolationInvariant.{IsolationInvariant}
-use Rattle.machine.specs.Outcome.OutcomesOfStamps.{Drew, drew_state, drew_items}
+use Rattle.isolation_laws.proofs.Names.{[], ◌≡◌, ℕ, ◌+◌, ◌<◌, ◌≤◌, List, ◌∷◌, ◌++◌, Option, Some, ◌⊎◌, inl, inr, refl}
+use Rattle.isolation_laws.proofs.Names.{sym, ◌∙◌, ap, subst, arith, none-some, ◌∈◌, Committed, Found, Item, Begin, Draw}
+use Rattle.isolation_laws.proofs.Names.{Write, Read, Placed, in_push, in_old, AtEach-push, Request, BeginRequest}
+use Rattle.isolation_laws.proofs.Names.{Commit, State, Begun, drawn_stamp, Taken, AreDrawn, IsNewDraw, AreNewDraws}
+use Rattle.isolation_laws.proofs.Names.{AreBegun, NumberFacts, IsolationInvariant, Drew, drew_state, drew_items}
 use Rattle.isolation_laws.proofs.Numbers.NumbersStay.{begun_on, start_on, placed_on}
 use Rattle.isolation_laws.proofs.Numbers.NumbersOfDraws.{start_drawn, commit_drawn, asker_of, draw_item_is, drew_cases, drew_room, drew_ranges, drew_leases, stamp_drawn}
 use Rattle.isolation_laws.proofs.Numbers.NewStamps.{new_draw, drew_taken, start_above, new_now, parts_of, stamp_up_to, stamp_low, stamp_over, stamp_between}

@@ -1,24 +1,11 @@
 -- A stamp that is drawn now is new: it differs from all before, and is above those of its term.
-use Rattle.std.proofs.Common.{◌≡◌, ℕ, ◌+◌, ◌<◌, ◌≤◌, List, Option, Some, ◌⊎◌, inl, inr, refl, arith}
-use Rattle.std.proofs.lemmas.Option.{same_Some, none-some}
-use Rattle.history_book.specs.Members.{◌∈◌}
-use Rattle.history_book.specs.declared.item.Item.{Item}
-use Rattle.history_book.specs.declared.item.Item.TheVariants.{Draw}
-use Rattle.system_parts.specs.Record.{MasterRecord}
+use Rattle.isolation_laws.proofs.Names.{◌≡◌, ℕ, ◌+◌, ◌<◌, ◌≤◌, List, Option, Some, ◌⊎◌, inl, inr, refl, arith}
+use Rattle.isolation_laws.proofs.Names.{same_Some, none-some, ◌∈◌, Item, Draw, MasterRecord, Request, BeginRequest}
+use Rattle.isolation_laws.proofs.Names.{Commit, State, draw_item, HasDrawn, drawn_stamp, Taken, HeldPending, AreRanges}
+use Rattle.isolation_laws.proofs.Names.{AreDrawn, IsNewDraw, AreRequests, AreAccepted, IsolationInvariant, held_by}
+use Rattle.isolation_laws.proofs.Names.{commit_own, Drew, three_ways}
 use Rattle.system_parts.specs.declared.instance.Progress.TheVariants as progress
-use Rattle.system_parts.specs.declared.instance.Request.{Request}
-use Rattle.system_parts.specs.declared.instance.Request.TheVariants.{Begin as BeginRequest, Commit}
-use Rattle.machine.specs.State.{State}
-use Rattle.machine.specs.Events.Decide.{draw_item}
-use Rattle.isolation_laws.specs.Words.{HasDrawn, drawn_stamp}
-use Rattle.isolation_laws.specs.Pending.{Taken, HeldPending}
-use Rattle.isolation_laws.specs.Numbers.{AreRanges, AreDrawn, IsNewDraw}
-use Rattle.isolation_laws.specs.Requests.{AreRequests, AreAccepted}
-use Rattle.isolation_laws.specs.IsolationInvariant.{IsolationInvariant}
-use Rattle.machine.proofs.Lookups.{held_by, commit_own}
-use Rattle.machine.specs.Outcome.OutcomesOfStamps.{Drew}
 use Rattle.isolation_laws.proofs.Numbers.NumbersOfDraws.{start_drawn, commit_drawn, asker_of, drew_room, stamp_drawn}
-use Rattle.machine.proofs.Orders.{three_ways}
 
 -- the draw, as an item
 abbrev pub new_draw : (w : State) → Drew w → Item

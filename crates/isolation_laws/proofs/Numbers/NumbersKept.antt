@@ -1,35 +1,18 @@
 -- For cause_laws and request_completion too.
 -- What keeps the facts on stamps, terms and leases: one item that is not quiet, requests as they stand, reads, quiet items.
-use Rattle.std.proofs.Common.{[], ◌≡◌, ℕ, ◌≤◌, Bool, true, false, IsTrue, List, ◌∷◌, ◌++◌, append_assoc, Option, Some, refl, sym, ◌∙◌, ap, subst, arith}
-use Rattle.std.specs.Prelude.{slice_set}
-use Rattle.std.proofs.lemmas.List.{append-nil}
-use Rattle.std.proofs.lemmas.List.Elements.{All-nil}
-use Rattle.std.proofs.lemmas.Option.{same_Some}
-use Rattle.history_book.specs.declared.item.Item.{Item}
-use Rattle.history_book.specs.declared.item.Item.TheVariants.{Begin, Draw, Read, Write, Placed}
-use Rattle.history_book.proofs.MemberLemmas.{in_front}
-use Rattle.stamp_base.specs.SetupNumbers.{SetupNumbers}
-use Rattle.system_parts.specs.Record.{MasterRecord}
-use Rattle.system_parts.specs.declared.session.State.{State as SessionState}
+use Rattle.isolation_laws.proofs.Names.{[], ◌≡◌, ℕ, ◌≤◌, Bool, true, false, IsTrue, List, ◌∷◌, ◌++◌, append_assoc}
+use Rattle.isolation_laws.proofs.Names.{Option, Some, refl, sym, ◌∙◌, ap, subst, arith, slice_set, append-nil, All-nil}
+use Rattle.isolation_laws.proofs.Names.{same_Some, Item, Begin, Draw, Read, Write, Placed, in_front, SetupNumbers}
+use Rattle.isolation_laws.proofs.Names.{MasterRecord, SessionState, has_transaction, ReadTurn, Asks, Answers}
+use Rattle.isolation_laws.proofs.Names.{InstanceEntry, Client, State, read_items, found_of, InstanceAt, ClientAt, Begun}
+use Rattle.isolation_laws.proofs.Names.{DrewStart, DrewCommit, InFlight, Has, HeldPending, Quiet, AllQuiet, NumberFacts}
+use Rattle.isolation_laws.proofs.Names.{HaveBegun, AreRequests, IsolationInvariant, held_by, commit_own, begin_own}
+use Rattle.isolation_laws.proofs.Names.{AtDrawn, AnsweredBegin, one_quiet}
 use Rattle.system_parts.specs.declared.session.State.TheVariants as phase
-use Rattle.system_parts.specs.SessionSteps.{has_transaction}
-use Rattle.system_parts.specs.KeyRead.{ReadTurn, Asks, Answers}
 use Rattle.system_parts.specs.declared.instance.Progress.TheVariants as progress
-use Rattle.system_parts.specs.Instance.{InstanceEntry}
-use Rattle.machine.specs.State.{Client, State}
-use Rattle.machine.specs.Events.Fetch.{read_items, found_of}
-use Rattle.isolation_laws.specs.Words.{InstanceAt, ClientAt, Begun, DrewStart, DrewCommit}
-use Rattle.isolation_laws.specs.Pending.{InFlight, Has, HeldPending}
-use Rattle.machine.specs.Quiet.{Quiet, AllQuiet}
-use Rattle.isolation_laws.specs.Numbers.{NumberFacts}
-use Rattle.isolation_laws.specs.Requests.{HaveBegun, AreRequests}
-use Rattle.isolation_laws.specs.IsolationInvariant.{IsolationInvariant}
-use Rattle.machine.proofs.Lookups.{held_by, commit_own, begin_own}
 use Rattle.isolation_laws.proofs.Owners.{held_drew}
-use Rattle.machine.specs.Outcome.OutcomesOfStamps.{AtDrawn, AnsweredBegin}
 use Rattle.isolation_laws.proofs.Numbers.NumbersStay.{SameNumbers, IsNumberedAs, numbered_same, numbered_set, numbers_quiet}
 use Rattle.isolation_laws.proofs.Numbers.NumbersOfItems.{NoDraw, read_is_no_draw, drawn_push, new_push, FitsBegun, begun_push, fits_read, placed_push}
-use Rattle.machine.proofs.Outcome.QuietItems.{one_quiet}
 
 -- ---- one item that is not quiet, and quiet ones behind it
 abbrev pub FitsPlaced : List Item → Item → Type 0

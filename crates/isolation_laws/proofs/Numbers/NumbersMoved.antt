@@ -1,11 +1,7 @@
 -- Stamps, terms and leases under a master record that went up, over the same instances.
-use Rattle.std.proofs.Common.{◌≡◌, ℕ, ◌<◌, ◌≤◌, List, ◌++◌, Option, ◌⊎◌, arith}
-use Rattle.history_book.specs.declared.item.Item.{Item}
-use Rattle.stamp_base.specs.SetupNumbers.{SetupNumbers}
-use Rattle.system_parts.specs.Record.{MasterRecord}
-use Rattle.system_parts.specs.Instance.{InstanceEntry}
-use Rattle.machine.specs.Quiet.{AllQuiet}
-use Rattle.isolation_laws.specs.Numbers.{AreRanges, AreDrawn, NumberFacts, AreLeases}
+use Rattle.isolation_laws.proofs.Names.{◌≡◌, ℕ, ◌<◌, ◌≤◌, List, ◌++◌, Option, ◌⊎◌, arith, Item, SetupNumbers}
+use Rattle.isolation_laws.proofs.Names.{MasterRecord, InstanceEntry, AllQuiet, AreRanges, AreDrawn, NumberFacts}
+use Rattle.isolation_laws.proofs.Names.{AreLeases}
 use Rattle.isolation_laws.proofs.Numbers.NumbersStay.{numbered_same, numbers_quiet}
 
 -- ---- a take that is not early

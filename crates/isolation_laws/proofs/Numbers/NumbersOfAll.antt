@@ -1,19 +1,12 @@
 -- Every outcome keeps the facts on stamps, terms and leases.
-use Rattle.std.proofs.Common.{◌∷◌, Option, [], List, ◌++◌, refl, sym, subst}
-use Rattle.std.proofs.lemmas.List.Elements.{All-nil}
-use Rattle.history_book.specs.declared.item.Item.{Item}
-use Rattle.history_book.specs.declared.item.Item.TheVariants.{Begin, Write}
-use Rattle.system_parts.specs.Instance.{InstanceEntry}
-use Rattle.machine.specs.State.{State}
-use Rattle.isolation_laws.specs.Words.{Begun}
-use Rattle.machine.specs.Quiet.{AllQuiet, Quiet}
-use Rattle.isolation_laws.specs.Numbers.{NumberFacts}
-use Rattle.isolation_laws.specs.IsolationInvariant.{IsolationInvariant}
+use Rattle.isolation_laws.proofs.Names.{◌∷◌, Option, [], List, ◌++◌, refl, sym, subst, All-nil, Item, Begin, Write}
+use Rattle.isolation_laws.proofs.Names.{InstanceEntry, State, Begun, AllQuiet, Quiet, NumberFacts, IsolationInvariant}
+use Rattle.isolation_laws.proofs.Names.{AnsweredBegin, answered_begin_items, answered_begin_state, WroteOne}
+use Rattle.isolation_laws.proofs.Names.{wrote_items, Fetched, ReadStepped, fetched_turn, read_turn, fetched_items}
+use Rattle.isolation_laws.proofs.Names.{read_stepped_items, Outcome, OfGranted, OfRenewed, OfExtended, OfDrew, OfPlaced}
+use Rattle.isolation_laws.proofs.Names.{OfOwnPlaced, OfAnsweredBegin, OfWrote, OfFetched, OfReadStepped, left_by}
+use Rattle.isolation_laws.proofs.Names.{told_by_outcome}
 use Rattle.isolation_laws.proofs.Holding.LeftAlone.{alone}
-use Rattle.machine.specs.Outcome.OutcomesOfStamps.{AnsweredBegin, answered_begin_items, answered_begin_state}
-use Rattle.machine.specs.Outcome.OutcomesOfSessions.{WroteOne, wrote_items}
-use Rattle.machine.specs.Outcome.OutcomesOfWork.{Fetched, ReadStepped, fetched_turn, read_turn, fetched_items, read_stepped_items}
-use Rattle.machine.specs.Outcome.Outcomes.{Outcome, OfGranted, OfRenewed, OfExtended, OfDrew, OfPlaced, OfOwnPlaced, OfAnsweredBegin, OfWrote, OfFetched, OfReadStepped, left_by, told_by_outcome}
 use Rattle.isolation_laws.proofs.Numbers.NumbersStay.{SameNumbers, numbered_same, numbered}
 use Rattle.isolation_laws.proofs.Numbers.NumbersOfTakes.{numbers_granted}
 use Rattle.isolation_laws.proofs.Numbers.NumbersOfRenewals.{numbers_renewed}

@@ -1,15 +1,8 @@
 -- Stamps, terms and leases where a stamp is drawn: it is the next one of its instance, above all of its term, and new.
-use Rattle.std.proofs.Common.{◌≡◌, ◌≢◌, ℕ, ◌+◌, ◌≤◌, Option, Some, None, ◌⊎◌, inl, inr, refl, sym, ◌∙◌, ap, subst, arith}
-use Rattle.history_book.specs.declared.item.Item.TheVariants.{Draw}
-use Rattle.system_parts.specs.declared.instance.Request.{Request}
-use Rattle.system_parts.specs.declared.instance.Request.TheVariants.{Begin as BeginRequest, Commit}
-use Rattle.system_parts.specs.Instance.{InstanceEntry}
-use Rattle.machine.specs.State.{State}
-use Rattle.machine.specs.Events.Decide.{draw_item}
-use Rattle.isolation_laws.specs.Words.{InstanceAt, drawn_stamp}
-use Rattle.isolation_laws.specs.Numbers.{AreRanges, AreLeases}
-use Rattle.machine.proofs.Lookups.{instance_changed}
-use Rattle.machine.specs.Outcome.OutcomesOfStamps.{Drew, drew_instance, drew_state}
+use Rattle.isolation_laws.proofs.Names.{◌≡◌, ◌≢◌, ℕ, ◌+◌, ◌≤◌, Option, Some, None, ◌⊎◌, inl, inr, refl, sym, ◌∙◌, ap}
+use Rattle.isolation_laws.proofs.Names.{subst, arith, Draw, Request, BeginRequest, Commit, InstanceEntry, State}
+use Rattle.isolation_laws.proofs.Names.{draw_item, InstanceAt, drawn_stamp, AreRanges, AreLeases, instance_changed}
+use Rattle.isolation_laws.proofs.Names.{Drew, drew_instance, drew_state}
 
 -- ---- what is drawn: its stamp, and the start that it is drawn for
 abbrev pub start_drawn : Request → ℕ → ℕ

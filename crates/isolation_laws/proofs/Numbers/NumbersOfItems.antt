@@ -1,13 +1,8 @@
 -- Stamps, terms and leases where a begin, a write, a read or a placed commit is appended: each is of what was drawn or begun.
-use Rattle.std.proofs.Common.{◌≡◌, ℕ, List, [], ◌∷◌, ◌++◌, Option, Some, inl, inr, refl, subst}
-use Rattle.history_book.specs.declared.item.Found.{Found}
-use Rattle.history_book.specs.declared.item.Item.{Item}
-use Rattle.history_book.specs.declared.item.Item.TheVariants.{Begin, Draw, Write, Read, Placed}
-use Rattle.history_book.proofs.MemberLemmas.{in_push, in_old, AtEach-push}
-use Rattle.system_parts.specs.Record.{MasterRecord}
-use Rattle.system_parts.specs.Instance.{InstanceEntry}
-use Rattle.isolation_laws.specs.Words.{Begun, DrewStart, DrewCommit}
-use Rattle.isolation_laws.specs.Numbers.{AreDrawn, IsNewDraw, AreNewDraws, AreBegun, ArePlaced}
+use Rattle.isolation_laws.proofs.Names.{◌≡◌, ℕ, List, [], ◌∷◌, ◌++◌, Option, Some, inl, inr, refl, subst, Found, Item}
+use Rattle.isolation_laws.proofs.Names.{Begin, Draw, Write, Read, Placed, in_push, in_old, AtEach-push, MasterRecord}
+use Rattle.isolation_laws.proofs.Names.{InstanceEntry, Begun, DrewStart, DrewCommit, AreDrawn, IsNewDraw, AreNewDraws}
+use Rattle.isolation_laws.proofs.Names.{AreBegun, ArePlaced}
 use Rattle.isolation_laws.proofs.Numbers.NumbersStay.{begun_on, start_on, placed_on}
 
 -- the item draws nothing

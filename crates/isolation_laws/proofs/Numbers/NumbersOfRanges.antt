@@ -1,16 +1,9 @@
 -- Stamps, terms and leases where a range is added: the record's ceiling goes up, and the instance's range with it; no term is
 -- above the instance's.
-use Rattle.std.proofs.Common.{◌≡◌, ℕ, ◌+◌, Bool, true, false, List, ◌++◌, ◌⊎◌, inl, inr, refl, sym, ◌∙◌, ap, subst, arith}
-use Rattle.history_book.specs.declared.item.Item.{Item}
-use Rattle.system_parts.specs.Record.{MasterRecord}
-use Rattle.system_parts.specs.Instance.{InstanceEntry}
-use Rattle.system_parts.specs.InstanceSteps.{instance_widened}
-use Rattle.machine.specs.State.{State}
-use Rattle.isolation_laws.specs.Words.{InstanceAt}
-use Rattle.isolation_laws.specs.Numbers.{AreRanges, AreLeases, AreDrawn, NumberFacts}
-use Rattle.isolation_laws.specs.IsolationInvariant.{IsolationInvariant}
-use Rattle.machine.proofs.Lookups.{instance_changed}
-use Rattle.machine.specs.Outcome.OutcomesOfRecord.{Extended, extended_nodes, extended_state}
+use Rattle.isolation_laws.proofs.Names.{◌≡◌, ℕ, ◌+◌, Bool, true, false, List, ◌++◌, ◌⊎◌, inl, inr, refl, sym, ◌∙◌, ap}
+use Rattle.isolation_laws.proofs.Names.{subst, arith, Item, MasterRecord, InstanceEntry, instance_widened, State}
+use Rattle.isolation_laws.proofs.Names.{InstanceAt, AreRanges, AreLeases, AreDrawn, NumberFacts, IsolationInvariant}
+use Rattle.isolation_laws.proofs.Names.{instance_changed, Extended, extended_nodes, extended_state}
 use Rattle.isolation_laws.proofs.Numbers.NumbersMoved.{numbers_told, ranges_under, drawn_under, numbers_moved}
 
 -- ---- an extension: the record's ceiling goes up, and the instance's range with it; no term is above the instance's

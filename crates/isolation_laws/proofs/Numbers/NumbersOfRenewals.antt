@@ -1,18 +1,10 @@
 -- Stamps, terms and leases where a lease is renewed: instance and record get the same end of the lease, or the record alone.
-use Rattle.std.proofs.Common.{◌≡◌, ℕ, ◌+◌, ◌≤◌, max, Bool, true, false, List, ◌++◌, Option, ◌⊎◌, inl, inr, refl, sym, ◌∙◌, ap, subst, arith}
-use Rattle.history_book.specs.declared.item.Item.{Item}
-use Rattle.system_parts.specs.Record.{renewed_until}
-use Rattle.system_parts.specs.Instance.{InstanceEntry}
-use Rattle.system_parts.specs.InstanceSteps.{instance_renewed}
-use Rattle.machine.specs.State.{State}
-use Rattle.machine.specs.Events.Take.{rules_of}
-use Rattle.isolation_laws.specs.Words.{InstanceAt}
-use Rattle.isolation_laws.specs.Numbers.{AreRanges, AreLeases, AreDrawn, NumberFacts}
-use Rattle.isolation_laws.specs.IsolationInvariant.{IsolationInvariant}
-use Rattle.machine.proofs.Lookups.{instance_changed}
-use Rattle.machine.specs.Outcome.OutcomesOfRecord.{Renewed, renewed_nodes, renewed_state}
+use Rattle.isolation_laws.proofs.Names.{◌≡◌, ℕ, ◌+◌, ◌≤◌, max, Bool, true, false, List, ◌++◌, Option, ◌⊎◌, inl, inr}
+use Rattle.isolation_laws.proofs.Names.{refl, sym, ◌∙◌, ap, subst, arith, Item, renewed_until, InstanceEntry}
+use Rattle.isolation_laws.proofs.Names.{instance_renewed, State, rules_of, InstanceAt, AreRanges, AreLeases, AreDrawn}
+use Rattle.isolation_laws.proofs.Names.{NumberFacts, IsolationInvariant, instance_changed, Renewed, renewed_nodes}
+use Rattle.isolation_laws.proofs.Names.{renewed_state, max_left, max_within}
 use Rattle.isolation_laws.proofs.Numbers.NumbersMoved.{numbers_told, ranges_under, drawn_under, numbers_moved}
-use Rattle.machine.proofs.Orders.{max_left, max_within}
 
 -- ---- a renewal: instance and record get the same end of the lease, or the record alone
 renewed_number : (w : State) (reading n : ℕ) (i : InstanceEntry) (nodes : List (Option InstanceEntry)) → AreLeases w.setup w.seen nodes w.master → AreLeases w.setup (max w.seen reading) nodes (record w.master { until = renewed_until (rules_of w.setup) w.master reading })

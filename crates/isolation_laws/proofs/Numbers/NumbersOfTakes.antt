@@ -1,24 +1,16 @@
 -- For cause_laws too.
 -- Stamps, terms and leases where the master record is taken.
-use Rattle.std.proofs.Common.{◌≡◌, ◌≢◌, ℕ, ◌+◌, ◌≤◌, max, nat_lt, Bool, true, false, ◌&&◌, if◌then◌else◌, List, ◌++◌, Option, Some, None, is_some, ◌⊎◌, inl, inr, refl, sym, ◌∙◌, ap, subst, arith}
-use Rattle.std.specs.Prelude.{slice_set, IsSome}
-use Rattle.std.proofs.lemmas.Bool.{ltb-false}
-use Rattle.std.proofs.lemmas.Option.{none-some}
-use Rattle.history_book.specs.declared.item.Item.{Item}
-use Rattle.stamp_base.specs.SetupNumbers.{SetupNumbers}
+use Rattle.isolation_laws.proofs.Names.{◌≡◌, ◌≢◌, ℕ, ◌+◌, ◌≤◌, max, nat_lt, Bool, true, false, ◌&&◌, if◌then◌else◌}
+use Rattle.isolation_laws.proofs.Names.{List, ◌++◌, Option, Some, None, is_some, ◌⊎◌, inl, inr, refl, sym, ◌∙◌, ap}
+use Rattle.isolation_laws.proofs.Names.{subst, arith, slice_set, IsSome, ltb-false, none-some, Item, SetupNumbers}
+use Rattle.isolation_laws.proofs.Names.{Leasing, MasterRecord, is_early, take_refused, granted, InstanceEntry, State}
+use Rattle.isolation_laws.proofs.Names.{rules_of, instance_of, InstanceAt, AreRanges, AreLeases, AreDrawn, NumberFacts}
+use Rattle.isolation_laws.proofs.Names.{IsolationInvariant, instance_changed, Granted, granted_nodes, granted_state}
+use Rattle.isolation_laws.proofs.Names.{max_left, max_right}
 use Rattle.system_parts.specs.declared.record.TakeRefused.{TakeRefused}
 use Rattle.system_parts.specs.declared.record.TakeRefused.TheVariants.{Early}
-use Rattle.system_parts.specs.Record.{Leasing, MasterRecord, is_early, take_refused, granted, held_by}
-use Rattle.system_parts.specs.Instance.{InstanceEntry}
-use Rattle.machine.specs.State.{State}
-use Rattle.machine.specs.Events.Take.{rules_of, instance_of}
-use Rattle.isolation_laws.specs.Words.{InstanceAt}
-use Rattle.isolation_laws.specs.Numbers.{AreRanges, AreLeases, AreDrawn, NumberFacts}
-use Rattle.isolation_laws.specs.IsolationInvariant.{IsolationInvariant}
-use Rattle.machine.proofs.Lookups.{instance_changed}
-use Rattle.machine.specs.Outcome.OutcomesOfRecord.{Granted, granted_nodes, granted_state}
+use Rattle.system_parts.specs.Record.{held_by}
 use Rattle.isolation_laws.proofs.Numbers.NumbersMoved.{below_or_at, numbers_told, ranges_under, drawn_under, numbers_moved}
-use Rattle.machine.proofs.Orders.{max_left, max_right}
 
 -- ---- a take that is not early
 not_early : (b : Bool) (r : MasterRecord) (reading : ℕ) (other : Option TakeRefused) → (if b then Some (Early reading r.until) else other) ≡ None → b ≡ false

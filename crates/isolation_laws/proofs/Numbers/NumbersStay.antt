@@ -1,21 +1,11 @@
 -- Stamps, terms and leases where nothing that they read changes: instances with the same numbers or fewer of them, a later
 -- greatest reading, and quiet items.
-use Rattle.std.proofs.Common.{◌≡◌, ℕ, ◌≤◌, List, [], ◌∷◌, ◌++◌, append_assoc, Option, Some, None, inl, inr, refl, sym, ◌∙◌, subst, arith}
-use Rattle.std.specs.Prelude.{slice_set}
-use Rattle.std.proofs.lemmas.List.{append-nil}
-use Rattle.std.proofs.lemmas.List.Elements.{All-head, All-tail}
-use Rattle.history_book.specs.Members.{AtEach}
-use Rattle.history_book.specs.declared.item.Item.{Item}
-use Rattle.history_book.specs.declared.item.Item.TheVariants.{Begin, Draw}
-use Rattle.history_book.proofs.MemberLemmas.{in_front, AtEach-push}
-use Rattle.stamp_base.specs.SetupNumbers.{SetupNumbers}
-use Rattle.system_parts.specs.Record.{MasterRecord}
-use Rattle.system_parts.specs.Instance.{InstanceEntry}
-use Rattle.isolation_laws.specs.Words.{InstanceAt, Begun, DrewStart, DrewCommit}
-use Rattle.machine.specs.Quiet.{Quiet, AllQuiet}
-use Rattle.isolation_laws.specs.Numbers.{AreRanges, AreLeases, AreDrawn, IsNewDraw, AreNewDraws, AreBegun, ArePlaced, NumberFacts}
-use Rattle.machine.proofs.Lookups.{instance_changed, instance_ended}
-use Rattle.machine.specs.Outcome.OutcomesOfRecord.{AlikeNodes}
+use Rattle.isolation_laws.proofs.Names.{◌≡◌, ℕ, ◌≤◌, List, [], ◌∷◌, ◌++◌, append_assoc, Option, Some, None, inl, inr}
+use Rattle.isolation_laws.proofs.Names.{refl, sym, ◌∙◌, subst, arith, slice_set, append-nil, All-head, All-tail, AtEach}
+use Rattle.isolation_laws.proofs.Names.{Item, Begin, Draw, in_front, AtEach-push, SetupNumbers, MasterRecord}
+use Rattle.isolation_laws.proofs.Names.{InstanceEntry, InstanceAt, Begun, DrewStart, DrewCommit, Quiet, AllQuiet}
+use Rattle.isolation_laws.proofs.Names.{AreRanges, AreLeases, AreDrawn, IsNewDraw, AreNewDraws, AreBegun, ArePlaced}
+use Rattle.isolation_laws.proofs.Names.{NumberFacts, instance_changed, instance_ended, AlikeNodes}
 use Rattle.isolation_laws.proofs.Pushed.{not_true, old_begin, old_draw, old_write, old_read, old_placed}
 
 -- ---- instances with the same numbers

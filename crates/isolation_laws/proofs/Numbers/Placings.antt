@@ -1,18 +1,10 @@
 -- For request_completion too.
 -- A commit that is pending and has no mark is placed. Who places it does not matter here.
-use Rattle.std.proofs.Common.{◌≡◌, ℕ, true, List, None, inl, inr, refl, ap}
-use Rattle.history_book.specs.Isolation.{Committed}
-use Rattle.history_book.specs.declared.item.Item.{Item}
-use Rattle.history_book.specs.declared.item.Item.TheVariants.{Placed}
-use Rattle.stamp_base.specs.declared.stores.Mark.TheVariants.{Committed as CommittedMark}
-use Rattle.system_parts.specs.Pairs.{Pairs, mark_of, put_pair}
-use Rattle.machine.specs.State.{State}
-use Rattle.isolation_laws.specs.Words.{DrewCommit}
-use Rattle.isolation_laws.specs.Pending.{InFlight, Has, is_placing, PlacingAt, Pending, Live}
-use Rattle.isolation_laws.specs.IsolationInvariant.{IsolationInvariant}
+use Rattle.isolation_laws.proofs.Names.{◌≡◌, ℕ, true, List, None, inl, inr, refl, ap, Committed, Item, Placed}
+use Rattle.isolation_laws.proofs.Names.{CommittedMark, Pairs, mark_of, put_pair, State, DrewCommit, InFlight, Has}
+use Rattle.isolation_laws.proofs.Names.{is_placing, PlacingAt, Pending, Live, IsolationInvariant, PlacedOne, AtPlacing}
+use Rattle.isolation_laws.proofs.Names.{OwnPlaced}
 use Rattle.isolation_laws.proofs.Owners.{has_drew}
-use Rattle.machine.specs.Outcome.OutcomesOfStamps.{PlacedOne}
-use Rattle.machine.specs.Outcome.OutcomesOfPlacings.{AtPlacing, OwnPlaced}
 use Rattle.isolation_laws.proofs.Numbers.NumbersKept.{in_flight_of, drawn_pending}
 
 pub record PlacedPending (w : State) : Type 0 where

@@ -1,21 +1,11 @@
 -- Who reads after the outcomes that move a client by a begin, a hand-over, a write, a vanish or a read that is dropped; after the
 -- others the frame of clients says it.
 pub use Rattle.isolation_laws.proofs.Requests.ClientsIdle.{FewerReading, same_reading, ReadsNothing, fewer_reading_set, nothing_reads, idle_reads, gone_reads}
-use Rattle.std.proofs.Common.{◌≡◌, ℕ, List, Option, inl, inr, sym, ◌∙◌, subst}
-use Rattle.stamp_base.specs.SetupNumbers.{SetupNumbers}
-use Rattle.history_book.specs.declared.item.Item.{Item}
-use Rattle.system_parts.specs.Rows.{Row}
-use Rattle.system_parts.specs.Pairs.{Pairs}
-use Rattle.system_parts.specs.KeyRead.{Reading}
-use Rattle.system_parts.specs.Instance.{InstanceEntry}
-use Rattle.machine.specs.State.{Reads, Client, State}
-use Rattle.machine.specs.Clients.{client_begun, client_handed}
-use Rattle.isolation_laws.specs.Words.{ClientAt, OpenAt}
-use Rattle.isolation_laws.specs.Reads.{AreReading}
-use Rattle.machine.proofs.Lookups.{one_client}
-use Rattle.machine.specs.Outcome.OutcomesOfStamps.{AnsweredBegin, answered_begin_state, HandedOver, handed_over_state}
-use Rattle.machine.specs.Outcome.OutcomesOfSessions.{WroteOne, wrote_state, Vanished, vanished_state}
-use Rattle.machine.specs.Outcome.OutcomesOfWork.{ReadDropped, read_dropped_state}
+use Rattle.isolation_laws.proofs.Names.{◌≡◌, ℕ, List, Option, inl, inr, sym, ◌∙◌, subst, SetupNumbers, Item, Row, Pairs}
+use Rattle.isolation_laws.proofs.Names.{Reading, InstanceEntry, Reads, Client, State, client_begun, client_handed}
+use Rattle.isolation_laws.proofs.Names.{ClientAt, OpenAt, AreReading, one_client, AnsweredBegin, answered_begin_state}
+use Rattle.isolation_laws.proofs.Names.{HandedOver, handed_over_state, WroteOne, wrote_state, Vanished, vanished_state}
+use Rattle.isolation_laws.proofs.Names.{ReadDropped, read_dropped_state}
 use Rattle.isolation_laws.proofs.Reading.ReadersRely.{ReadingBy}
 
 still_open : (old new : List Client) (s b e : ℕ) (c : Client) → ClientAt old s c → ClientAt new s c → OpenAt old s b e → OpenAt new s b e

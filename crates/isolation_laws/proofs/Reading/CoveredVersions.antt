@@ -1,11 +1,9 @@
 -- Which versions stand among the cells of a read, or below their floor; cutting the cells at the first that decides keeps
 -- them.
-use Rattle.std.proofs.Common.{◌≡◌, ℕ, zero, suc, ◌<◌, ◌≤◌, Bool, true, false, if◌then◌else◌, List, [], ◌∷◌, ◌⊎◌, inl, inr, refl, sym, ◌∙◌, ap, subst, arith, All}
+use Rattle.isolation_laws.proofs.Names.{◌≡◌, ℕ, zero, suc, ◌<◌, ◌≤◌, Bool, true, false, if◌then◌else◌, List, [], ◌∷◌}
+use Rattle.isolation_laws.proofs.Names.{◌⊎◌, inl, inr, refl, sym, ◌∙◌, ap, subst, arith, All, cases_Bool, Cell}
+use Rattle.isolation_laws.proofs.Names.{AreFalling, is_below, front_of, floor_at, floor_of, IsAmong, IsCovered}
 use Rattle.std.specs.List.{Contains}
-use Rattle.std.proofs.lemmas.Bool.{cases_Bool}
-use Rattle.system_parts.specs.declared.rows.Cell.{Cell}
-use Rattle.system_parts.specs.Rows.{AreFalling, is_below, front_of}
-use Rattle.isolation_laws.specs.Reads.{floor_at, floor_of, IsAmong, IsCovered}
 
 -- ---- falling cells
 pub falls_head : (c : Cell) (cs : List Cell) → AreFalling (c ∷ cs) → All (λ (d : Cell). d.version < c.version) cs

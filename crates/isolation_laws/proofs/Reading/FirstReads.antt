@@ -1,19 +1,10 @@
 -- What a transaction read and had not written, in a longer history: no more than a new read brings.
-use Rattle.std.proofs.Common.{◌≡◌, ℕ, ◌≤◌, List, [], ◌∷◌, ◌++◌, append_assoc, length, take, Option, None, ◌⊎◌, inl, inr, sym, ◌∙◌, ap, subst, arith}
-use Rattle.std.proofs.lemmas.List.{append-nil, take-append-le}
-use Rattle.std.proofs.lemmas.Option.{slice_get_within}
+use Rattle.isolation_laws.proofs.Names.{◌≡◌, ℕ, ◌≤◌, List, [], ◌∷◌, ◌++◌, append_assoc, length, take, Option, None, ◌⊎◌}
+use Rattle.isolation_laws.proofs.Names.{inl, inr, sym, ◌∙◌, ap, subst, arith, append-nil, take-append-le}
+use Rattle.isolation_laws.proofs.Names.{slice_get_within, ◌∈◌, Wrote, last_write, Found, Item, Read, Write, in_front}
+use Rattle.isolation_laws.proofs.Names.{slice_get-push, in_at, ReadTurn, Asks, Answers, found_of, read_items, Quiet}
+use Rattle.isolation_laws.proofs.Names.{ReadFirst, one_quiet}
 use Rattle.std.proofs.Math.Seq.{take-append_seam}
-use Rattle.history_book.specs.Members.{◌∈◌}
-use Rattle.history_book.specs.Isolation.{Wrote, last_write}
-use Rattle.history_book.specs.declared.item.Found.{Found}
-use Rattle.history_book.specs.declared.item.Item.{Item}
-use Rattle.history_book.specs.declared.item.Item.TheVariants.{Read, Write}
-use Rattle.history_book.proofs.MemberLemmas.{in_front, slice_get-push, in_at}
-use Rattle.system_parts.specs.KeyRead.{ReadTurn, Asks, Answers}
-use Rattle.machine.specs.Events.Fetch.{found_of, read_items}
-use Rattle.machine.specs.Quiet.{Quiet}
-use Rattle.isolation_laws.specs.ReadSets.{ReadFirst}
-use Rattle.machine.proofs.Outcome.QuietItems.{one_quiet}
 use Rattle.isolation_laws.proofs.Pushed.{last_write-quiet}
 use Rattle.isolation_laws.proofs.Requests.WrittenKeys.{write_of, wrote_some}
 use Rattle.isolation_laws.proofs.Reading.ReadsStay.{NoReads, quiet_no_reads}

@@ -1,16 +1,10 @@
 -- Who keeps what was read and what is remembered: each client after each outcome that does not change it.
 use Rattle.isolation_laws.proofs.Requests.ClientMoves.{clients_move}
-use Rattle.std.proofs.Common.{◌≡◌, ℕ, Bool, true, false, List, inl, inr, refl, sym, ◌∙◌, ap, subst}
-use Rattle.std.specs.Prelude.{slice_set}
-use Rattle.system_parts.specs.KeyRead.{ReadTurn, Asks, Answers}
-use Rattle.system_parts.specs.Cache.{Cache}
-use Rattle.machine.specs.State.{Client, State}
-use Rattle.machine.specs.Clients.{client_begun, client_handed, unless_gone}
-use Rattle.machine.specs.Events.Fetch.{client_read}
-use Rattle.isolation_laws.specs.Words.{ClientAt}
-use Rattle.machine.proofs.Lookups.{client_set}
-use Rattle.machine.specs.Outcome.OutcomesOfWork.{read_turn, read_client}
-use Rattle.machine.specs.Outcome.Outcomes.{Outcome, OfAnsweredBegin, OfHanded, OfWrote, OfVanished, OfFetched, OfReadDropped, OfReadStepped, left_by}
+use Rattle.isolation_laws.proofs.Names.{◌≡◌, ℕ, Bool, true, false, List, inl, inr, refl, sym, ◌∙◌, ap, subst, slice_set}
+use Rattle.isolation_laws.proofs.Names.{ReadTurn, Asks, Answers, Cache, Client, State, client_begun, client_handed}
+use Rattle.isolation_laws.proofs.Names.{unless_gone, client_read, ClientAt, client_set, read_turn, read_client, Outcome}
+use Rattle.isolation_laws.proofs.Names.{OfAnsweredBegin, OfHanded, OfWrote, OfVanished, OfFetched, OfReadDropped}
+use Rattle.isolation_laws.proofs.Names.{OfReadStepped, left_by}
 use Rattle.isolation_laws.proofs.Requests.ClientsOpen.{gone_cases}
 
 -- begins, reads and vanishes change some of what a client keeps

@@ -1,20 +1,11 @@
 -- Every outcome keeps the read sets.
-use Rattle.machine.specs.Outcome.Outcomes.{Outcome, OfAskedBegin, OfAskedCommit, OfAnsweredBegin, OfFetched, OfReadStepped, left_by, told_by_outcome}
-use Rattle.std.proofs.Common.{◌≡◌, ℕ, Bool, true, false, if◌then◌else◌, List, ◌++◌, ◌⊎◌, inl, inr, refl, subst, Contains}
-use Rattle.std.proofs.lemmas.Bool.{cases_Bool}
-use Rattle.history_book.specs.Members.{◌∈◌}
-use Rattle.history_book.specs.declared.item.Item.{Item}
-use Rattle.stamp_base.specs.SetupNumbers.{SetupNumbers}
-use Rattle.system_parts.specs.SessionSteps.{has_key, key_added}
-use Rattle.system_parts.specs.KeyRead.{read_ask}
-use Rattle.system_parts.specs.Cache.{put_fresh}
-use Rattle.system_parts.specs.Rows.{fetched, front_of}
-use Rattle.machine.specs.State.{Client, State}
-use Rattle.machine.specs.StoreSteps.{told_by}
-use Rattle.machine.specs.Events.Fetch.{marks_every, keeps_read, reads_after}
-use Rattle.isolation_laws.specs.ReadSets.{AreReadSets}
-use Rattle.isolation_laws.specs.IsolationInvariant.{IsolationInvariant}
-use Rattle.machine.specs.Outcome.OutcomesOfWork.{Fetched, fetched_turn, fetched_client, fetched_state, fetched_items, ReadStepped, read_turn, read_client, read_stepped_state, read_stepped_items}
+use Rattle.isolation_laws.proofs.Names.{Outcome, OfAskedBegin, OfAskedCommit, OfAnsweredBegin, OfFetched, OfReadStepped}
+use Rattle.isolation_laws.proofs.Names.{left_by, told_by_outcome, ◌≡◌, ℕ, Bool, true, false, if◌then◌else◌, List, ◌++◌}
+use Rattle.isolation_laws.proofs.Names.{◌⊎◌, inl, inr, refl, subst, Contains, cases_Bool, ◌∈◌, Item, SetupNumbers}
+use Rattle.isolation_laws.proofs.Names.{has_key, key_added, read_ask, put_fresh, fetched, front_of, Client, State}
+use Rattle.isolation_laws.proofs.Names.{told_by, marks_every, keeps_read, reads_after, AreReadSets, IsolationInvariant}
+use Rattle.isolation_laws.proofs.Names.{Fetched, fetched_turn, fetched_client, fetched_state, fetched_items}
+use Rattle.isolation_laws.proofs.Names.{ReadStepped, read_turn, read_client, read_stepped_state, read_stepped_items}
 use Rattle.isolation_laws.proofs.Requests.WrittenKeys.{has_key_in, key_was_written}
 use Rattle.isolation_laws.proofs.Memory.RecordedCommits.{added_there, added_keeps}
 use Rattle.isolation_laws.proofs.Reading.ReadsOfReads.{fetched_open, stepped_open}

@@ -1,22 +1,13 @@
 -- Read sets where a session asks for a start or a commit, and where a begin is answered.
 use Rattle.isolation_laws.proofs.Requests.ClientMoves.{at_work_after, reading_after}
-use Rattle.machine.specs.Outcome.Outcomes.{OfAskedBegin, OfAskedCommit}
-use Rattle.std.proofs.Common.{◌≡◌, ℕ, false, List, [], ◌∷◌, ◌++◌, inl, inr, refl, sym, ◌∙◌, ap, subst}
-use Rattle.history_book.specs.declared.item.Item.{Item}
-use Rattle.history_book.specs.declared.item.Item.TheVariants.{AskBegin, Begin}
+use Rattle.isolation_laws.proofs.Names.{OfAskedBegin, OfAskedCommit, ◌≡◌, ℕ, false, List, [], ◌∷◌, ◌++◌, inl, inr, refl}
+use Rattle.isolation_laws.proofs.Names.{sym, ◌∙◌, ap, subst, Item, AskBegin, Begin, Progress, BeginRequest, Commit}
+use Rattle.isolation_laws.proofs.Names.{InstanceEntry, held_of, without_request, just_asked, Client, State}
+use Rattle.isolation_laws.proofs.Names.{client_begun, unless_gone, InstanceAt, HeldBy, ClientAt, OpenAt, epoch_or_none}
+use Rattle.isolation_laws.proofs.Names.{ReadFirst, KeepsReads, AreReadSets, IsolationInvariant, client_set, held_by}
+use Rattle.isolation_laws.proofs.Names.{one_client, one_instance, one_held, AskedBegin, asked_begin_state, AskedCommit}
+use Rattle.isolation_laws.proofs.Names.{asked_commit_state, AnsweredBegin, answered_begin_state, answered_begin_items}
 use Rattle.system_parts.specs.declared.session.State.TheVariants as phase
-use Rattle.system_parts.specs.declared.instance.Progress.{Progress}
-use Rattle.system_parts.specs.declared.instance.Request.TheVariants.{Begin as BeginRequest, Commit}
-use Rattle.system_parts.specs.Instance.{InstanceEntry, held_of}
-use Rattle.system_parts.specs.InstanceSteps.{without_request, just_asked}
-use Rattle.machine.specs.State.{Client, State}
-use Rattle.machine.specs.Clients.{client_begun, unless_gone}
-use Rattle.isolation_laws.specs.Words.{InstanceAt, HeldBy, ClientAt, OpenAt, epoch_or_none}
-use Rattle.isolation_laws.specs.ReadSets.{ReadFirst, KeepsReads, AreReadSets}
-use Rattle.isolation_laws.specs.IsolationInvariant.{IsolationInvariant}
-use Rattle.machine.proofs.Lookups.{client_set, held_by, one_client, one_instance, one_held}
-use Rattle.machine.specs.Outcome.OutcomesOfRequests.{AskedBegin, asked_begin_state, AskedCommit, asked_commit_state}
-use Rattle.machine.specs.Outcome.OutcomesOfStamps.{AnsweredBegin, answered_begin_state, answered_begin_items}
 use Rattle.isolation_laws.proofs.Requests.ClientsOpen.{gone_cases}
 use Rattle.isolation_laws.proofs.Requests.OpenAfter.{open_answered_begin}
 use Rattle.isolation_laws.proofs.Requests.RequestsAfter.{held_changed, held_over, new_held, none_held, open_waits}

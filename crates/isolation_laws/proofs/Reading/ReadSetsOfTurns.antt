@@ -1,34 +1,18 @@
 -- Read sets where a session reads: a fetch keeps its key, or the transaction wrote it, and so the answer is kept.
-use Rattle.std.proofs.Common.{◌≡◌, ◌≢◌, ℕ, Bool, true, false, ◌==◌, ◌||◌, is_some, List, [], ◌∷◌, ◌++◌, Some, ◌⊎◌, inl, inr, refl, sym, ◌∙◌, ap, subst, Contains}
-use Rattle.std.specs.Prelude.{slice_set, nat_lt}
-use Rattle.std.proofs.lemmas.Bool.{cases_Bool}
-use Rattle.std.proofs.lemmas.Option.{same_Some, none-some}
-use Rattle.history_book.specs.Isolation.{Wrote, last_write, Stamped}
-use Rattle.history_book.specs.declared.item.Item.{Item}
-use Rattle.system_parts.specs.declared.rows.Cell.{Cell}
-use Rattle.system_parts.specs.declared.resolve.Outcome.TheVariants.{Committed, Dead}
+use Rattle.isolation_laws.proofs.Names.{◌≡◌, ◌≢◌, ℕ, Bool, true, false, ◌==◌, ◌||◌, is_some, List, [], ◌∷◌, ◌++◌, Some}
+use Rattle.isolation_laws.proofs.Names.{◌⊎◌, inl, inr, refl, sym, ◌∙◌, ap, subst, Contains, slice_set, cases_Bool}
+use Rattle.isolation_laws.proofs.Names.{same_Some, none-some, Wrote, last_write, Stamped, Item, Cell, Dead, Answer}
+use Rattle.isolation_laws.proofs.Names.{Told, SettleTurn, Goes, Decides, settle_turn, Table, Reading, ReadTurn, Asks}
+use Rattle.isolation_laws.proofs.Names.{Answers, found_none, found_cell, found_by, settling_of, after_passed, turn_at}
+use Rattle.isolation_laws.proofs.Names.{read_over, read_by, Cache, outcome_known, recalled_over, recalled_told}
+use Rattle.isolation_laws.proofs.Names.{AnyCache, Recalls, over_holds, told_holds, Progress, Commit, InstanceEntry}
+use Rattle.isolation_laws.proofs.Names.{SetupNumbers, Reads, Client, State, client_read, read_items, InstanceAt, HeldBy}
+use Rattle.isolation_laws.proofs.Names.{ClientAt, OpenAt, Begun, Stage, Waits, Taken, Has, stage_of, Quiet, ReadFirst}
+use Rattle.isolation_laws.proofs.Names.{KeepsReads, KeepsKey, AreReadSets, IsolationInvariant, client_set, one_client}
+use Rattle.std.specs.Prelude.{nat_lt}
+use Rattle.system_parts.specs.declared.resolve.Outcome.TheVariants.{Committed}
 use Rattle.system_parts.specs.declared.session.State.TheVariants as phase
-use Rattle.system_parts.specs.declared.key_read.Answer.{Answer}
-use Rattle.system_parts.specs.declared.asks.Told.{Told}
-use Rattle.system_parts.specs.Resolve.{SettleTurn, Goes, Decides, settle_turn}
-use Rattle.system_parts.specs.declared.resolve.SettlePoint.TheVariants.{Table}
-use Rattle.system_parts.specs.KeyRead.{Reading, ReadTurn, Asks, Answers, found_none, found_cell, found_by, settling_of, after_passed, turn_at, read_over, read_by}
-use Rattle.system_parts.specs.Cache.{Cache}
-use Rattle.system_parts.specs.Recalled.{outcome_known, recalled_over, recalled_told}
-use Rattle.system_parts.proofs.RecalledLemmas.{AnyCache, Recalls, over_holds, told_holds}
-use Rattle.system_parts.specs.declared.instance.Progress.{Progress}
 use Rattle.system_parts.specs.declared.instance.Progress.TheVariants as progress
-use Rattle.system_parts.specs.declared.instance.Request.TheVariants.{Commit}
-use Rattle.system_parts.specs.Instance.{InstanceEntry}
-use Rattle.stamp_base.specs.SetupNumbers.{SetupNumbers}
-use Rattle.machine.specs.State.{Reads, Client, State}
-use Rattle.machine.specs.Events.Fetch.{client_read, read_items}
-use Rattle.isolation_laws.specs.Words.{InstanceAt, HeldBy, ClientAt, OpenAt, Begun}
-use Rattle.isolation_laws.specs.Pending.{Stage, Waits, Taken, Has, stage_of}
-use Rattle.machine.specs.Quiet.{Quiet}
-use Rattle.isolation_laws.specs.ReadSets.{ReadFirst, KeepsReads, KeepsKey, AreReadSets}
-use Rattle.isolation_laws.specs.IsolationInvariant.{IsolationInvariant}
-use Rattle.machine.proofs.Lookups.{client_set, one_client}
 use Rattle.isolation_laws.proofs.OnceEach.{begun_once}
 use Rattle.isolation_laws.proofs.Numbers.NumbersKept.{open_begun}
 use Rattle.isolation_laws.proofs.Requests.ClientsOpen.{read_keeps_entry}

@@ -1,16 +1,9 @@
 -- Read sets stay where clients keep what they kept, no transaction is opened, no read goes on, no commit is asked for and no read
 -- is answered; each of the four facts by what it reads.
-use Rattle.std.proofs.Common.{◌≡◌, ℕ, true, false, List, [], ◌++◌, Option, inl, inr, sym, ◌∙◌, ap, subst, Contains}
-use Rattle.history_book.specs.declared.item.Item.{Item}
-use Rattle.system_parts.specs.KeyRead.{Reading}
-use Rattle.system_parts.specs.declared.instance.Progress.{Progress}
-use Rattle.system_parts.specs.declared.instance.Request.TheVariants.{Commit}
-use Rattle.system_parts.specs.Instance.{InstanceEntry}
-use Rattle.machine.specs.State.{Reads, Client, State}
-use Rattle.isolation_laws.specs.Words.{InstanceAt, HeldBy, ClientAt, OpenAt}
-use Rattle.isolation_laws.specs.ReadSets.{ReadFirst, KeepsReads, KeepsKey, AreReadSets}
-use Rattle.isolation_laws.specs.IsolationInvariant.{IsolationInvariant}
-use Rattle.machine.proofs.Lookups.{one_client}
+use Rattle.isolation_laws.proofs.Names.{◌≡◌, ℕ, true, false, List, [], ◌++◌, Option, inl, inr, sym, ◌∙◌, ap, subst}
+use Rattle.isolation_laws.proofs.Names.{Contains, Item, Reading, Progress, Commit, InstanceEntry, Reads, Client, State}
+use Rattle.isolation_laws.proofs.Names.{InstanceAt, HeldBy, ClientAt, OpenAt, ReadFirst, KeepsReads, KeepsKey}
+use Rattle.isolation_laws.proofs.Names.{AreReadSets, IsolationInvariant, one_client}
 use Rattle.isolation_laws.proofs.Requests.ClientsOpen.{FewerOpen}
 use Rattle.isolation_laws.proofs.Requests.RequestsAfter.{FewerHeld}
 use Rattle.isolation_laws.proofs.Reading.ClientsReading.{FewerReading}

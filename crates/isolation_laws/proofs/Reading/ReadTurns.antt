@@ -1,36 +1,18 @@
 -- What a store call decides for a read is true, and so the read goes on rightly, or answers rightly.
-use Rattle.std.proofs.Common.{◌≡◌, ℕ, ◌<◌, ◌≤◌, nat_lt, Bool, true, false, cond, List, ◌∷◌, Option, Some, None, ◌⊎◌, inl, inr, refl, sym, ◌∙◌, ap, subst, arith}
-use Rattle.std.specs.Ordering.{nat_cmp, eq_by_cmp}
-use Rattle.std.specs.FinMap.{get-insert}
-use Rattle.std.specs.Cmp.{nat_cmp_total}
-use Rattle.std.proofs.lemmas.Bool.{cases_Bool, ltb-true, ltb-false}
-use Rattle.std.proofs.lemmas.Bool.Decides.{nat_tests}
-use Rattle.std.proofs.lemmas.Option.{same_Some, none-some}
-use Rattle.stamp_base.specs.declared.stores.Mark.{Mark}
-use Rattle.stamp_base.specs.declared.stores.Mark.TheVariants.{Committed as CommittedMark, Invalid as InvalidMark}
-use Rattle.history_book.specs.Isolation.{Committed, last_write}
-use Rattle.history_book.specs.declared.item.Item.{Item}
-use Rattle.system_parts.specs.declared.rows.Cell.{Cell}
-use Rattle.system_parts.specs.Rows.{looked}
-use Rattle.system_parts.specs.Pairs.{Pairs, mark_of, put_pair, put_over}
-use Rattle.system_parts.specs.declared.resolve.Outcome.TheVariants.{Committed as CommittedAt, Dead}
-use Rattle.system_parts.specs.declared.resolve.SettlePoint.{SettlePoint}
-use Rattle.system_parts.specs.declared.resolve.SettlePoint.TheVariants.{FirstLook, Table, Marking, LastLook}
-use Rattle.system_parts.specs.Resolve.{SettleTurn, Goes, Decides, settle_turn, settle_turn_at, ask_at, after_table, after_marking, after_last_look}
-use Rattle.system_parts.specs.declared.known.Known.{Known}
+use Rattle.isolation_laws.proofs.Names.{◌≡◌, ℕ, ◌<◌, ◌≤◌, nat_lt, Bool, true, false, cond, List, ◌∷◌, Option, Some}
+use Rattle.isolation_laws.proofs.Names.{None, ◌⊎◌, inl, inr, refl, sym, ◌∙◌, ap, subst, arith, nat_cmp, eq_by_cmp}
+use Rattle.isolation_laws.proofs.Names.{get-insert, nat_cmp_total, cases_Bool, ltb-true, ltb-false, nat_tests}
+use Rattle.isolation_laws.proofs.Names.{same_Some, none-some, Mark, CommittedMark, InvalidMark, Committed, last_write}
+use Rattle.isolation_laws.proofs.Names.{Item, Cell, looked, Pairs, mark_of, put_pair, put_over, CommittedAt, Dead}
+use Rattle.isolation_laws.proofs.Names.{SettlePoint, FirstLook, Table, LastLook, SettleTurn, Goes, Decides, settle_turn}
+use Rattle.isolation_laws.proofs.Names.{settle_turn_at, ask_at, after_table, after_marking, after_last_look, Known}
+use Rattle.isolation_laws.proofs.Names.{outcome_known, known_there, Recalls, Reading, ReadTurn, Asks, may_mark}
+use Rattle.isolation_laws.proofs.Names.{settling_of, read_over, read_by, read_ask, read_told, State, marks_every}
+use Rattle.isolation_laws.proofs.Names.{pairs_after, told_by, told_entry, told_mark, told_shadow, told_cell, OpenAt}
+use Rattle.isolation_laws.proofs.Names.{Marked, HasRecord, cell_with, HasShadow, SeesAll, IsResolvedTo, IsReading}
+use Rattle.isolation_laws.proofs.Names.{IsTrueOf, IsTrueCache, IsolationInvariant}
+use Rattle.system_parts.specs.declared.resolve.SettlePoint.TheVariants.{Marking}
 use Rattle.system_parts.specs.declared.known.Known.TheVariants as known
-use Rattle.system_parts.specs.Recalled.{outcome_known}
-use Rattle.system_parts.proofs.CacheLemmas.{known_there}
-use Rattle.system_parts.proofs.RecalledLemmas.{Recalls}
-use Rattle.system_parts.specs.KeyRead.{Reading, ReadTurn, Asks, may_mark, settling_of, read_over, read_by, read_ask, read_told}
-use Rattle.machine.specs.State.{State}
-use Rattle.machine.specs.Events.Fetch.{marks_every}
-use Rattle.machine.specs.StoreSteps.{pairs_after, told_by, told_entry, told_mark, told_shadow, told_cell}
-use Rattle.isolation_laws.specs.Words.{OpenAt, Marked, HasRecord, cell_with}
-use Rattle.isolation_laws.specs.UnderWay.{HasShadow}
-use Rattle.isolation_laws.specs.Reads.{SeesAll, IsResolvedTo, IsReading}
-use Rattle.isolation_laws.specs.Known.{IsTrueOf, IsTrueCache}
-use Rattle.isolation_laws.specs.IsolationInvariant.{IsolationInvariant}
 use Rattle.isolation_laws.proofs.Stores.StoresStay.{MarksStay, marks_put, marks_after, shadows_same}
 use Rattle.isolation_laws.proofs.Reading.ReadersRely.{RelyOn, sees_on, marked_before, open_now_begun}
 use Rattle.isolation_laws.proofs.Stores.Calm.{calm_same}

@@ -1,28 +1,14 @@
 -- What readers rely on: commits and values stay, marks and shadows stay, and nothing more comes below a begun start but what
 -- came before. Then reads under way see all that they saw, and past reads stay right.
-use Rattle.std.proofs.Common.{◌≡◌, ℕ, ◌<◌, ◌≤◌, Bool, true, false, List, ◌∷◌, Option, Some, None, ◌⊎◌, inl, inr, refl, sym, ◌∙◌, arith}
+use Rattle.isolation_laws.proofs.Names.{◌≡◌, ℕ, ◌<◌, ◌≤◌, Bool, true, false, List, ◌∷◌, Option, Some, None, ◌⊎◌, inl}
+use Rattle.isolation_laws.proofs.Names.{inr, refl, sym, ◌∙◌, arith, SetupNumbers, ◌∈◌, AtEach, Committed, Wrote}
+use Rattle.isolation_laws.proofs.Names.{last_write, Candidate, Newest, Visible, RightAnswer, RightRead, Found, Item}
+use Rattle.isolation_laws.proofs.Names.{Read, Placed, AtEach-weaker, Cell, Row, Pairs, SettlePoint, FirstLook, Table}
+use Rattle.isolation_laws.proofs.Names.{LastLook, Reading, may_mark, InstanceEntry, Reads, Client, State, marks_every}
+use Rattle.isolation_laws.proofs.Names.{ClientAt, OpenAt, Begun, DrewCommit, Marked, ComesBelow, IsPending, HasShadow}
+use Rattle.isolation_laws.proofs.Names.{IsCovered, SeesAll, IsResolvedTo, IsReading, Outlasts, IsolationInvariant}
 use Rattle.std.specs.Bool.{IsTrue}
-use Rattle.stamp_base.specs.SetupNumbers.{SetupNumbers}
-use Rattle.history_book.specs.Members.{◌∈◌, AtEach}
-use Rattle.history_book.specs.Isolation.{Committed, Wrote, last_write, Candidate, Newest, Visible, RightAnswer, RightRead}
-use Rattle.history_book.specs.declared.item.Found.{Found}
-use Rattle.history_book.specs.declared.item.Item.{Item}
-use Rattle.history_book.specs.declared.item.Item.TheVariants.{Read, Placed}
-use Rattle.history_book.proofs.MemberLemmas.{AtEach-weaker}
-use Rattle.system_parts.specs.declared.rows.Cell.{Cell}
-use Rattle.system_parts.specs.Rows.{Row}
-use Rattle.system_parts.specs.Pairs.{Pairs}
-use Rattle.system_parts.specs.declared.resolve.SettlePoint.{SettlePoint}
-use Rattle.system_parts.specs.declared.resolve.SettlePoint.TheVariants.{FirstLook, Table, Marking, LastLook}
-use Rattle.system_parts.specs.KeyRead.{Reading, may_mark}
-use Rattle.system_parts.specs.Instance.{InstanceEntry}
-use Rattle.machine.specs.State.{Reads, Client, State}
-use Rattle.machine.specs.Events.Fetch.{marks_every}
-use Rattle.isolation_laws.specs.Words.{ClientAt, OpenAt, Begun, DrewCommit, Marked}
-use Rattle.isolation_laws.specs.Pending.{ComesBelow, IsPending}
-use Rattle.isolation_laws.specs.UnderWay.{HasShadow}
-use Rattle.isolation_laws.specs.Reads.{IsCovered, SeesAll, IsResolvedTo, IsReading, Outlasts}
-use Rattle.isolation_laws.specs.IsolationInvariant.{IsolationInvariant}
+use Rattle.system_parts.specs.declared.resolve.SettlePoint.TheVariants.{Marking}
 use Rattle.isolation_laws.proofs.ComingBelow.{coming_is_markable}
 use Rattle.isolation_laws.proofs.Requests.CommitsInFlight.{GoesOn}
 use Rattle.isolation_laws.proofs.Numbers.NumbersKept.{open_begun}

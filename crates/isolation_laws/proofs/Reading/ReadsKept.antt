@@ -1,12 +1,7 @@
 -- Every outcome keeps the facts on reads, and all answers right.
-use Rattle.machine.specs.Outcome.Outcomes.{OfAskedCommit, OfAccepted, OfOwnPlaced, Outcome, OfDrew, OfPlaced, OfWrote, OfFetched, OfReadStepped, IsTimely, left_by, told_by_outcome}
-use Rattle.std.proofs.Common.{◌≡◌, false, List, ◌++◌, refl}
-use Rattle.history_book.specs.Members.{AtEach}
-use Rattle.history_book.specs.Isolation.{RightRead}
-use Rattle.history_book.specs.declared.item.Item.{Item}
-use Rattle.machine.specs.State.{State}
-use Rattle.isolation_laws.specs.Reads.{ReadFacts}
-use Rattle.isolation_laws.specs.IsolationInvariant.{IsolationInvariant}
+use Rattle.isolation_laws.proofs.Names.{OfAskedCommit, OfAccepted, OfOwnPlaced, Outcome, OfDrew, OfPlaced, OfWrote}
+use Rattle.isolation_laws.proofs.Names.{OfFetched, OfReadStepped, IsTimely, left_by, told_by_outcome, ◌≡◌, false, List}
+use Rattle.isolation_laws.proofs.Names.{◌++◌, refl, AtEach, RightRead, Item, State, ReadFacts, IsolationInvariant}
 use Rattle.isolation_laws.proofs.Reading.ReadsStay.{NoneComes, none_comes, none_comes_accepted, ReadsRight, reads_stay, rely_placed, rely_wrote}
 use Rattle.isolation_laws.proofs.Requests.PendingMoved.{comes_asked_commit, comes_drew}
 use Rattle.isolation_laws.proofs.Reading.ReadsOfReads.{reads_stepped, reads_fetched}

@@ -1,26 +1,14 @@
 -- Reads and answers over a longer history without writes and placed commits, and a client that reads.
-use Rattle.std.proofs.Common.{◌≡◌, ◌≢◌, ℕ, Bool, List, ◌∷◌, Option, Some, None, inl, inr, sym, ◌∙◌, ap, subst}
-use Rattle.std.specs.Prelude.{slice_set}
-use Rattle.stamp_base.specs.SetupNumbers.{SetupNumbers}
-use Rattle.history_book.specs.Isolation.{Candidate, Visible, RightAnswer}
-use Rattle.history_book.specs.declared.item.Found.{Found}
-use Rattle.history_book.specs.declared.item.Item.{Item}
-use Rattle.history_book.specs.declared.item.Item.TheVariants.{Placed}
-use Rattle.system_parts.specs.declared.rows.Cell.{Cell}
-use Rattle.system_parts.specs.Rows.{Row}
-use Rattle.system_parts.specs.Pairs.{Pairs}
-use Rattle.system_parts.specs.declared.resolve.SettlePoint.{SettlePoint}
-use Rattle.system_parts.specs.declared.resolve.SettlePoint.TheVariants.{FirstLook, Table, Marking, LastLook}
-use Rattle.system_parts.specs.KeyRead.{Reading}
-use Rattle.system_parts.specs.Instance.{InstanceEntry}
-use Rattle.machine.specs.State.{Reads, Client, State}
-use Rattle.isolation_laws.specs.Words.{ClientAt, epoch_or_none, OpenAt, Begun}
-use Rattle.isolation_laws.specs.Reads.{SeesAll, IsResolvedTo, IsReading, AreReading}
-use Rattle.machine.proofs.Lookups.{set_found, set_other, client_set, one_client}
+use Rattle.isolation_laws.proofs.Names.{◌≡◌, ◌≢◌, ℕ, Bool, List, ◌∷◌, Option, Some, None, inl, inr, sym, ◌∙◌, ap, subst}
+use Rattle.isolation_laws.proofs.Names.{slice_set, SetupNumbers, Candidate, Visible, RightAnswer, Found, Item, Placed}
+use Rattle.isolation_laws.proofs.Names.{Cell, Row, Pairs, SettlePoint, FirstLook, Table, LastLook, Reading}
+use Rattle.isolation_laws.proofs.Names.{InstanceEntry, Reads, Client, State, ClientAt, epoch_or_none, OpenAt, Begun}
+use Rattle.isolation_laws.proofs.Names.{SeesAll, IsResolvedTo, IsReading, AreReading, set_found, set_other, client_set}
+use Rattle.isolation_laws.proofs.Names.{one_client, ComesBelow}
+use Rattle.system_parts.specs.declared.resolve.SettlePoint.TheVariants.{Marking}
 use Rattle.isolation_laws.proofs.Requests.CommitsInFlight.{GoesOn}
 use Rattle.isolation_laws.proofs.Reading.ReadersRely.{RelyOn, ReadingBy}
 use Rattle.isolation_laws.proofs.Stores.Calm.{Calm, listed_goes_on}
-use Rattle.isolation_laws.specs.Pending.{ComesBelow}
 use Rattle.isolation_laws.proofs.Stores.StoresStay.{MarksStay, ShadowsStay}
 
 candidate_old : (h g : List Item) (b k t c : ℕ) → Calm h g → Candidate g b k t c → Candidate h b k t c

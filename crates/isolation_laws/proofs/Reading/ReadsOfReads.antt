@@ -1,36 +1,18 @@
 -- A fetch, and a step of a read: the session reads on and sees all, or has an answer that is right and lasts.
-use Rattle.std.proofs.Common.{◌≡◌, ℕ, ◌<◌, ◌==◌, Bool, true, List, [], ◌∷◌, ◌++◌, append_assoc, Option, Some, None, inl, inr, refl, sym, ◌∙◌, ap, subst, arith, All}
-use Rattle.std.specs.Prelude.{slice_set}
-use Rattle.std.proofs.lemmas.Bool.{cases_Bool, cases_eq, eq-eqb}
-use Rattle.std.proofs.lemmas.List.{append-nil}
-use Rattle.std.proofs.lemmas.List.Elements.{All-nil}
-use Rattle.history_book.specs.Members.{◌∈◌, AtEach}
-use Rattle.history_book.specs.Isolation.{Wrote, last_write, Visible, RightAnswer, RightRead}
-use Rattle.history_book.specs.declared.item.Found.{Found}
-use Rattle.history_book.specs.declared.item.Item.{Item}
-use Rattle.history_book.specs.declared.item.Item.TheVariants.{Read}
-use Rattle.history_book.proofs.MemberLemmas.{AtEach-push}
-use Rattle.system_parts.specs.declared.rows.Cell.{Cell}
-use Rattle.system_parts.specs.Rows.{fetched, front_of, is_below}
-use Rattle.system_parts.specs.Pairs.{Pairs}
-use Rattle.system_parts.specs.declared.key_read.Answer.{Answer}
-use Rattle.system_parts.specs.declared.asks.Told.{Told}
-use Rattle.system_parts.specs.Cache.{Cache, put_fresh, cache_learnt, learnt_by}
-use Rattle.system_parts.specs.Recalled.{recalled_over, recalled_from}
-use Rattle.system_parts.proofs.RecalledLemmas.{over_from, HoldBoth, over_holds, told_holds}
-use Rattle.system_parts.specs.KeyRead.{Reading, ReadTurn, Asks, Answers, found_cell, after_passed, read_over, read_ask}
-use Rattle.machine.specs.State.{Client, State}
-use Rattle.machine.specs.StoreSteps.{pairs_after, told_by}
-use Rattle.machine.specs.Events.Fetch.{marks_every, found_of, client_read, read_items}
-use Rattle.isolation_laws.specs.Words.{ClientAt, epoch_or_none, OpenAt}
-use Rattle.isolation_laws.specs.Pending.{ComesBelow}
-use Rattle.machine.specs.Quiet.{Quiet}
-use Rattle.isolation_laws.specs.Reads.{IsReading, Outlasts, AreLastingReads}
-use Rattle.isolation_laws.specs.Known.{IsTrueCache}
-use Rattle.isolation_laws.specs.IsolationInvariant.{IsolationInvariant}
-use Rattle.machine.specs.Outcome.OutcomesOfWork.{Fetched, fetched_recall, fetched_turn, fetched_client, fetched_state, fetched_items, ReadStepped, read_recall, read_turn, read_client, read_stepped_state, read_stepped_items}
+use Rattle.isolation_laws.proofs.Names.{◌≡◌, ℕ, ◌<◌, ◌==◌, Bool, true, List, [], ◌∷◌, ◌++◌, append_assoc, Option, Some}
+use Rattle.isolation_laws.proofs.Names.{None, inl, inr, refl, sym, ◌∙◌, ap, subst, arith, All, slice_set, cases_Bool}
+use Rattle.isolation_laws.proofs.Names.{cases_eq, eq-eqb, append-nil, All-nil, ◌∈◌, AtEach, Wrote, last_write, Visible}
+use Rattle.isolation_laws.proofs.Names.{RightAnswer, RightRead, Found, Item, Read, AtEach-push, Cell, fetched, front_of}
+use Rattle.isolation_laws.proofs.Names.{is_below, Pairs, Answer, Told, Cache, put_fresh, cache_learnt, learnt_by}
+use Rattle.isolation_laws.proofs.Names.{recalled_over, recalled_from, over_from, HoldBoth, over_holds, told_holds}
+use Rattle.isolation_laws.proofs.Names.{Reading, ReadTurn, Asks, Answers, found_cell, after_passed, read_over, read_ask}
+use Rattle.isolation_laws.proofs.Names.{Client, State, pairs_after, told_by, marks_every, found_of, client_read}
+use Rattle.isolation_laws.proofs.Names.{read_items, ClientAt, epoch_or_none, OpenAt, ComesBelow, Quiet, IsReading}
+use Rattle.isolation_laws.proofs.Names.{Outlasts, AreLastingReads, IsTrueCache, IsolationInvariant, Fetched}
+use Rattle.isolation_laws.proofs.Names.{fetched_recall, fetched_turn, fetched_client, fetched_state, fetched_items}
+use Rattle.isolation_laws.proofs.Names.{ReadStepped, read_recall, read_turn, read_client, read_stepped_state}
+use Rattle.isolation_laws.proofs.Names.{read_stepped_items, one_quiet}
 use Rattle.isolation_laws.proofs.Pushed.{not_true, in_append}
-use Rattle.machine.proofs.Outcome.QuietItems.{one_quiet}
 use Rattle.isolation_laws.proofs.Requests.ClientsOpen.{fewer_set, read_keeps_entry}
 use Rattle.isolation_laws.proofs.Requests.PendingAfter.{FewerPending, fewer_pending}
 use Rattle.isolation_laws.proofs.Requests.PendingFewer.{same_served, fewer_comes}

@@ -1,34 +1,14 @@
 -- Reads under way, past reads and their answers after the outcomes that answer no read.
-use Rattle.std.proofs.Common.{◌≡◌, ◌≢◌, ℕ, ◌==◌, ◌&&◌, ◌<◌, if◌then◌else◌, List, [], ◌∷◌, ◌++◌, append_assoc, Option, Some, None, inl, inr, refl, sym, ◌∙◌, ap, subst, arith}
-use Rattle.std.specs.Prelude.{slice_get}
-use Rattle.std.specs.Option.{option_or}
-use Rattle.std.proofs.lemmas.Bool.{ne_eqb}
-use Rattle.std.proofs.lemmas.Option.{none-some}
-use Rattle.std.proofs.lemmas.List.{append-nil}
-use Rattle.stamp_base.specs.declared.stores.Mark.TheVariants.{Committed as CommittedMark, Invalid as InvalidMark}
-use Rattle.stamp_base.specs.SetupNumbers.{SetupNumbers}
-use Rattle.history_book.specs.Members.{◌∈◌, AtEach}
-use Rattle.history_book.specs.Isolation.{Committed, last_write, written_by, RightRead}
-use Rattle.history_book.specs.declared.item.Found.{Found}
-use Rattle.history_book.specs.declared.item.Item.{Item}
-use Rattle.history_book.specs.declared.item.Item.TheVariants.{Draw, Write, Read, Placed}
-use Rattle.history_book.proofs.HistoryLemmas.{last_write-push}
-use Rattle.history_book.proofs.MemberLemmas.{AtEach-push}
-use Rattle.system_parts.specs.Rows.{Row}
-use Rattle.system_parts.specs.Pairs.{Pairs, mark_of}
-use Rattle.system_parts.specs.declared.instance.Request.{Request}
-use Rattle.system_parts.specs.declared.instance.Request.TheVariants.{Begin as BeginRequest, Commit}
-use Rattle.system_parts.specs.Instance.{InstanceEntry}
-use Rattle.machine.specs.State.{Client, State}
-use Rattle.machine.specs.Events.Decide.{draw_item}
-use Rattle.isolation_laws.specs.Words.{epoch_or_none, OpenAt, Begun}
-use Rattle.isolation_laws.specs.Pending.{IsStageBelow, ComesBelow, IsPending}
-use Rattle.machine.specs.Quiet.{AllQuiet}
-use Rattle.isolation_laws.specs.Reads.{AreReading, AreLastingReads}
-use Rattle.isolation_laws.specs.IsolationInvariant.{IsolationInvariant}
-use Rattle.machine.proofs.Lookups.{one_client}
-use Rattle.machine.specs.Outcome.OutcomesOfRequests.{Accepted, AcceptedSteadily, accepted_state}
-use Rattle.machine.specs.Outcome.OutcomesOfSessions.{AtOpen, WroteOne, wrote_state, wrote_items, WriteFailed}
+use Rattle.isolation_laws.proofs.Names.{◌≡◌, ◌≢◌, ℕ, ◌==◌, ◌&&◌, ◌<◌, if◌then◌else◌, List, [], ◌∷◌, ◌++◌, append_assoc}
+use Rattle.isolation_laws.proofs.Names.{Option, Some, None, inl, inr, refl, sym, ◌∙◌, ap, subst, arith, slice_get}
+use Rattle.isolation_laws.proofs.Names.{option_or, ne_eqb, none-some, append-nil, CommittedMark, InvalidMark}
+use Rattle.isolation_laws.proofs.Names.{SetupNumbers, ◌∈◌, AtEach, Committed, last_write, written_by, RightRead, Found}
+use Rattle.isolation_laws.proofs.Names.{Item, Draw, Write, Read, Placed, last_write-push, AtEach-push, Row, Pairs}
+use Rattle.isolation_laws.proofs.Names.{mark_of, Request, BeginRequest, Commit, InstanceEntry, Client, State, draw_item}
+use Rattle.isolation_laws.proofs.Names.{epoch_or_none, OpenAt, Begun, IsStageBelow, ComesBelow, IsPending, AllQuiet}
+use Rattle.isolation_laws.proofs.Names.{AreReading, AreLastingReads, IsolationInvariant, one_client, Accepted}
+use Rattle.isolation_laws.proofs.Names.{AcceptedSteadily, accepted_state, AtOpen, WroteOne, wrote_state, wrote_items}
+use Rattle.isolation_laws.proofs.Names.{WriteFailed}
 use Rattle.isolation_laws.proofs.OnceEach.{begun_once}
 use Rattle.isolation_laws.proofs.Owners.{open_unplaced, accepts_now, begun_below_last}
 use Rattle.isolation_laws.proofs.Pushed.{not_true, in_append, quiet_in, last_write-quiet}

@@ -1,22 +1,12 @@
 -- A fetch gives all that a read may answer with, and so do its cells down to the first that decides.
-use Rattle.std.proofs.Common.{◌≡◌, ◌≢◌, ℕ, zero, suc, ◌<◌, ◌≤◌, List, [], ◌∷◌, Option, Some, None, inl, inr, refl, sym, ◌∙◌, ap, arith, All, length}
-use Rattle.std.specs.Prelude.{slice_index_or}
+use Rattle.isolation_laws.proofs.Names.{◌≡◌, ◌≢◌, ℕ, zero, suc, ◌<◌, ◌≤◌, List, [], ◌∷◌, Option, Some, None, inl, inr}
+use Rattle.isolation_laws.proofs.Names.{refl, sym, ◌∙◌, ap, arith, All, length, slice_index_or, same_Some, none-some}
+use Rattle.isolation_laws.proofs.Names.{All-contains, Committed, Wrote, last_write, WasListed, Item, Cell, Row, looked}
+use Rattle.isolation_laws.proofs.Names.{fetched, front_of, AreFalling, AreUpto, Pairs, looked-version, fetched-upto}
+use Rattle.isolation_laws.proofs.Names.{fetched-falls, Contains-fetched, front-all, front-falls, InstanceEntry, Client}
+use Rattle.isolation_laws.proofs.Names.{State, OpenAt, Marked, cell_with, ComesBelow, IsPending, IsCovered}
+use Rattle.isolation_laws.proofs.Names.{HasLastWrite, SeesAll, IsolationInvariant}
 use Rattle.std.specs.List.{Contains}
-use Rattle.std.proofs.lemmas.Option.{same_Some, none-some}
-use Rattle.std.proofs.lemmas.List.Elements.{All-contains}
-use Rattle.history_book.specs.Isolation.{Committed, Wrote, last_write, WasListed}
-use Rattle.history_book.specs.declared.item.Item.{Item}
-use Rattle.system_parts.specs.declared.rows.Cell.{Cell}
-use Rattle.system_parts.specs.Rows.{Row, looked, fetched, front_of, AreFalling, AreUpto}
-use Rattle.system_parts.specs.Pairs.{Pairs}
-use Rattle.system_parts.proofs.RowLaws.{looked-version}
-use Rattle.system_parts.proofs.RowFetches.{fetched-upto, fetched-falls, Contains-fetched, front-all, front-falls}
-use Rattle.system_parts.specs.Instance.{InstanceEntry}
-use Rattle.machine.specs.State.{Client, State}
-use Rattle.isolation_laws.specs.Words.{OpenAt, Marked, cell_with}
-use Rattle.isolation_laws.specs.Pending.{ComesBelow, IsPending}
-use Rattle.isolation_laws.specs.Reads.{IsCovered, HasLastWrite, SeesAll}
-use Rattle.isolation_laws.specs.IsolationInvariant.{IsolationInvariant}
 use Rattle.isolation_laws.proofs.ComingBelow.{coming_is_below}
 use Rattle.isolation_laws.proofs.Reading.CoveredVersions.{falls_head, among_contained, covered_front}
 

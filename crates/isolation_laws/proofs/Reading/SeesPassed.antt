@@ -1,24 +1,12 @@
 -- A read that passes a cell over sees the rest, and what it answers is visible and lasts.
-use Rattle.std.proofs.Common.{◌≡◌, ℕ, suc, ◌<◌, ◌≤◌, ◌==◌, ◌||◌, is_some, Bool, true, false, if◌then◌else◌, List, [], ◌∷◌, Option, Some, None, ◌⊎◌, inl, inr, refl, sym, ◌∙◌, ap, subst, arith}
-use Rattle.std.proofs.lemmas.Bool.{cases_Bool, ltb-true, leb-true, leb-false, ne_eqb}
-use Rattle.std.proofs.lemmas.Option.{none-some}
-use Rattle.stamp_base.specs.declared.stores.Mark.{Mark}
-use Rattle.stamp_base.specs.declared.stores.Mark.TheVariants.{Committed as CommittedMark, Invalid as InvalidMark}
-use Rattle.history_book.specs.Isolation.{Committed, Wrote, WasListed, Candidate, Visible}
-use Rattle.history_book.specs.declared.item.Found.{Found}
-use Rattle.history_book.specs.declared.item.Item.{Item}
-use Rattle.system_parts.specs.declared.rows.Cell.{Cell}
-use Rattle.system_parts.specs.Rows.{is_below}
-use Rattle.system_parts.specs.Pairs.{Pairs, mark_of}
-use Rattle.system_parts.specs.declared.resolve.SettlePoint.TheVariants.{Table}
-use Rattle.system_parts.specs.KeyRead.{Reading, ReadTurn, Asks, Answers, found_cell, is_late, is_passed, after_passed, turn_at, read_over}
-use Rattle.system_parts.specs.Instance.{InstanceEntry}
-use Rattle.machine.specs.State.{Client, State}
-use Rattle.machine.specs.Events.Fetch.{marks_every, found_of}
-use Rattle.isolation_laws.specs.Words.{Marked}
-use Rattle.isolation_laws.specs.Pending.{ComesBelow}
-use Rattle.isolation_laws.specs.Reads.{floor_at, IsCovered, SeesAll, IsReading, Outlasts}
-use Rattle.isolation_laws.specs.IsolationInvariant.{IsolationInvariant}
+use Rattle.isolation_laws.proofs.Names.{◌≡◌, ℕ, suc, ◌<◌, ◌≤◌, ◌==◌, ◌||◌, is_some, Bool, true, false, if◌then◌else◌}
+use Rattle.isolation_laws.proofs.Names.{List, [], ◌∷◌, Option, Some, None, ◌⊎◌, inl, inr, refl, sym, ◌∙◌, ap, subst}
+use Rattle.isolation_laws.proofs.Names.{arith, cases_Bool, ltb-true, leb-true, leb-false, ne_eqb, none-some, Mark}
+use Rattle.isolation_laws.proofs.Names.{CommittedMark, InvalidMark, Committed, Wrote, WasListed, Candidate, Visible}
+use Rattle.isolation_laws.proofs.Names.{Found, Item, Cell, is_below, Pairs, mark_of, Table, Reading, ReadTurn, Asks}
+use Rattle.isolation_laws.proofs.Names.{Answers, found_cell, is_late, is_passed, after_passed, turn_at, read_over}
+use Rattle.isolation_laws.proofs.Names.{InstanceEntry, Client, State, marks_every, found_of, Marked, ComesBelow}
+use Rattle.isolation_laws.proofs.Names.{floor_at, IsCovered, SeesAll, IsReading, Outlasts, IsolationInvariant}
 use Rattle.isolation_laws.proofs.OnceEach.{one_commit}
 use Rattle.isolation_laws.proofs.Owners.{pending_unplaced}
 use Rattle.isolation_laws.proofs.ComingBelow.{later_version}

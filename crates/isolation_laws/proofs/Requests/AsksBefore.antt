@@ -1,16 +1,8 @@
 -- An ask for a start that stands keeps the part before it, where its session does not ask again.
-use Rattle.std.proofs.Common.{◌≡◌, ◌≢◌, ℕ, ◌==◌, Bool, true, false, ◌||◌, List, [], ◌∷◌, ◌++◌, inl, inr, refl, sym, ◌∙◌, ap}
-use Rattle.std.proofs.lemmas.Bool.{cases_Bool, ne_eqb, eq-eqb}
-use Rattle.std.proofs.lemmas.List.Elements.{All-head, All-tail}
-use Rattle.history_book.specs.Isolation.{before_ask, has_ask, asks}
-use Rattle.history_book.specs.declared.item.Item.{Item}
-use Rattle.history_book.specs.declared.item.Item.TheVariants.{AskBegin}
-use Rattle.system_parts.specs.KeyRead.{ReadTurn, Asks, Answers}
-use Rattle.system_parts.specs.declared.instance.Request.{Request}
-use Rattle.system_parts.specs.declared.instance.Request.TheVariants.{Begin as BeginRequest, Commit}
-use Rattle.machine.specs.Events.Decide.{draw_item}
-use Rattle.machine.specs.Events.Fetch.{read_items}
-use Rattle.machine.specs.Quiet.{Quiet, AllQuiet}
+use Rattle.isolation_laws.proofs.Names.{◌≡◌, ◌≢◌, ℕ, ◌==◌, Bool, true, false, ◌||◌, List, [], ◌∷◌, ◌++◌, inl, inr, refl}
+use Rattle.isolation_laws.proofs.Names.{sym, ◌∙◌, ap, cases_Bool, ne_eqb, eq-eqb, All-head, All-tail, before_ask}
+use Rattle.isolation_laws.proofs.Names.{has_ask, asks, Item, AskBegin, ReadTurn, Asks, Answers, Request, BeginRequest}
+use Rattle.isolation_laws.proofs.Names.{Commit, draw_item, read_items, Quiet, AllQuiet}
 use Rattle.isolation_laws.proofs.Pushed.{not_true}
 
 -- the items are no asks of the session

@@ -1,10 +1,8 @@
 -- Every outcome keeps the facts on begins in flight and open transactions.
-use Rattle.std.proofs.Common.{◌≡◌, false, List, ◌++◌, refl}
-use Rattle.history_book.specs.declared.item.Item.{Item}
-use Rattle.machine.specs.State.{State}
-use Rattle.machine.specs.Outcome.Outcomes.{Outcome, OfGranted, OfExtended, OfAskedBegin, OfAskedCommit, OfAccepted, OfDrew, OfAnsweredBegin, IsTimely, left_by, told_by_outcome}
-use Rattle.isolation_laws.specs.Begins.{AreFreshBegins, AreSettledBelow, BeginFacts}
-use Rattle.isolation_laws.specs.IsolationInvariant.{IsolationInvariant}
+use Rattle.isolation_laws.proofs.Names.{◌≡◌, false, List, ◌++◌, refl, Item, State, Outcome, OfGranted, OfExtended}
+use Rattle.isolation_laws.proofs.Names.{OfAskedBegin, OfAskedCommit, OfAccepted, OfDrew, OfAnsweredBegin, IsTimely}
+use Rattle.isolation_laws.proofs.Names.{left_by, told_by_outcome, AreFreshBegins, AreSettledBelow, BeginFacts}
+use Rattle.isolation_laws.proofs.Names.{IsolationInvariant}
 use Rattle.isolation_laws.proofs.Holding.Alone.{fresh_alone, below_alone}
 use Rattle.isolation_laws.proofs.Holding.LeftAlone.{alone}
 use Rattle.isolation_laws.proofs.Requests.FreshBegins.{fresh_asked_begin, fresh_asked_commit, fresh_accepted, fresh_drew}

@@ -1,33 +1,23 @@
 -- For cause_laws and request_completion too.
 -- One frame for how an outcome moves clients: each was there, it opens, places and reads nothing that it did not before, keeps what its
 -- transaction read and what it remembers, and is gone only where it was. Outcomes that move one otherwise have lemmas of their own.
-use Rattle.std.proofs.Common.{[], ◌≡◌, ℕ, Bool, true, false, List, ◌∷◌, ◌⊎◌, inl, inr, refl, sym, ◌∙◌, ap, subst, Option, Some, None}
-use Rattle.std.specs.Prelude.{slice_set, slice_index_or}
-use Rattle.system_parts.specs.declared.asks.Ask.{Ask}
+use Rattle.isolation_laws.proofs.Names.{[], ◌≡◌, ℕ, Bool, true, false, List, ◌∷◌, ◌⊎◌, inl, inr, refl, sym, ◌∙◌, ap}
+use Rattle.isolation_laws.proofs.Names.{subst, Option, Some, None, slice_set, slice_index_or, Ask, SessionState}
+use Rattle.isolation_laws.proofs.Names.{SessionEntry, aborted_by, asked_state, Settling, SettleTurn, Goes, Decides}
+use Rattle.isolation_laws.proofs.Names.{settle_ask, settle_turn, Reading, Request, Commit, Settled, Client, State}
+use Rattle.isolation_laws.proofs.Names.{Reads, client_freed, client_aborted, client_opened, unless_gone, after_refusal}
+use Rattle.isolation_laws.proofs.Names.{client_committed, client_asked, after_loss, crashed_clients, client_settled}
+use Rattle.isolation_laws.proofs.Names.{after_asks, ClientAt, epoch_or_none, OpenAt, is_placing, client_set}
+use Rattle.isolation_laws.proofs.Names.{answered_client, Held, told_by, client_wrote, CompletedOne, Outcome, OfCrashed}
+use Rattle.isolation_laws.proofs.Names.{OfAskedBegin, OfAskedCommit, OfEnded, OfAnsweredBegin, OfAnsweredCommit}
+use Rattle.isolation_laws.proofs.Names.{OfHanded, OfOwnPlaced, OfOwnNotPlaced, OfEndedReadOnly, OfWrote, OfWriteFailed}
+use Rattle.isolation_laws.proofs.Names.{OfAborted, OfVanished, OfHealed, OfFetched, OfReadDropped, OfReadStepped}
+use Rattle.isolation_laws.proofs.Names.{OfOutcome, OfOutcomeFailed, OfCompleted, left_by}
 use Rattle.system_parts.specs.declared.resolve.Outcome.TheVariants as outcome
-use Rattle.system_parts.specs.declared.session.State.{State as SessionState}
 use Rattle.system_parts.specs.declared.session.State.TheVariants as phase
-use Rattle.system_parts.specs.SessionSteps.{SessionEntry, aborted_by, asked_state}
-use Rattle.system_parts.specs.Resolve.{Settling, SettleTurn, Goes, Decides, settle_ask, settle_turn}
-use Rattle.system_parts.specs.KeyRead.{Reading}
-use Rattle.system_parts.specs.declared.instance.Request.{Request}
-use Rattle.system_parts.specs.declared.instance.Request.TheVariants.{Begin, Commit}
-use Rattle.system_parts.specs.declared.instance.Settled.{Settled}
+use Rattle.system_parts.specs.declared.instance.Request.TheVariants.{Begin}
 use Rattle.system_parts.specs.declared.instance.Settled.TheVariants as how
-use Rattle.machine.specs.State.{Client, State, Reads}
-use Rattle.machine.specs.Clients.{client_freed, client_aborted, client_opened, unless_gone, after_refusal, client_committed, client_asked}
-use Rattle.machine.specs.Events.Crash.{after_loss, crashed_clients}
-use Rattle.machine.specs.Events.Step.{client_settled, after_asks}
-use Rattle.isolation_laws.specs.Words.{ClientAt, epoch_or_none, OpenAt}
-use Rattle.isolation_laws.specs.Pending.{is_placing}
-use Rattle.machine.proofs.Lookups.{client_set}
-use Rattle.machine.specs.Outcome.OutcomesOfStamps.{answered_client}
-use Rattle.system_parts.specs.declared.instance.Held.{Held}
-use Rattle.machine.specs.StoreSteps.{told_by}
-use Rattle.machine.specs.Events.Write.{client_wrote}
-use Rattle.machine.specs.Outcome.OutcomesOfWork.{CompletedOne}
 use Rattle.isolation_laws.proofs.Requests.ClientsOpen.{FewerAtWork, WorksNoMore, rests_as, free_rests, asking_rests, committing_rests, aborted_rests, gone_cases, outcome_rests, completing_rests, IsAtRest}
-use Rattle.machine.specs.Outcome.Outcomes.{Outcome, OfCrashed, OfAskedBegin, OfAskedCommit, OfEnded, OfAnsweredBegin, OfAnsweredCommit, OfHanded, OfOwnPlaced, OfOwnNotPlaced, OfEndedReadOnly, OfWrote, OfWriteFailed, OfAborted, OfVanished, OfHealed, OfFetched, OfReadDropped, OfReadStepped, OfOutcome, OfOutcomeFailed, OfCompleted, left_by}
 use Rattle.isolation_laws.proofs.Requests.ClientsIdle.{FewerReading, ReadsNothing, nothing_reads, settles_nothing, completes_nothing, aborted_reads, committed_reads, idle_reads}
 use Rattle.isolation_laws.proofs.Requests.OpenAfter.{crashed_at}
 

@@ -1,25 +1,14 @@
 -- For request_completion too.
 -- Sessions with their transactions, and their write lists, where one client changes or more items stand.
-use Rattle.std.proofs.Common.{◌≡◌, ◌≢◌, ℕ, Bool, true, false, IsTrue, List, [], ◌∷◌, ◌++◌, Some, ◌⊎◌, inl, inr, refl, sym, ◌∙◌, ap, subst}
-use Rattle.std.specs.Prelude.{slice_set}
-use Rattle.std.proofs.lemmas.Bool.{eq-eqb, ne_eqb}
-use Rattle.history_book.specs.Members.{◌∈◌}
-use Rattle.history_book.specs.declared.item.Item.{Item}
-use Rattle.history_book.specs.declared.item.Item.TheVariants.{Begin, Write}
-use Rattle.history_book.proofs.MemberLemmas.{in_front}
-use Rattle.system_parts.specs.declared.asks.Ask.{Ask}
+use Rattle.isolation_laws.proofs.Names.{◌≡◌, ◌≢◌, ℕ, Bool, true, false, IsTrue, List, [], ◌∷◌, ◌++◌, Some, ◌⊎◌, inl}
+use Rattle.isolation_laws.proofs.Names.{inr, refl, sym, ◌∙◌, ap, subst, slice_set, eq-eqb, ne_eqb, ◌∈◌, Item, Begin}
+use Rattle.isolation_laws.proofs.Names.{Write, in_front, Ask, SessionState, SessionEntry, key_added, has_transaction}
+use Rattle.isolation_laws.proofs.Names.{aborted_by, Settling, SettleTurn, Goes, Decides, Client, client_freed}
+use Rattle.isolation_laws.proofs.Names.{client_aborted, client_committed, client_opened, client_handed, client_settled}
+use Rattle.isolation_laws.proofs.Names.{after_asks, ClientAt, Begun, keys_with, keys_from, written_keys, is_placing}
+use Rattle.isolation_laws.proofs.Names.{HaveBegun, HasAsked, AreKeys, client_set}
 use Rattle.system_parts.specs.declared.resolve.Outcome.TheVariants as outcome
-use Rattle.system_parts.specs.declared.session.State.{State as SessionState}
 use Rattle.system_parts.specs.declared.session.State.TheVariants as phase
-use Rattle.system_parts.specs.SessionSteps.{SessionEntry, key_added, has_transaction, aborted_by}
-use Rattle.system_parts.specs.Resolve.{Settling, SettleTurn, Goes, Decides}
-use Rattle.machine.specs.State.{Client}
-use Rattle.machine.specs.Clients.{client_freed, client_aborted, client_committed, client_opened, client_handed}
-use Rattle.machine.specs.Events.Step.{client_settled, after_asks}
-use Rattle.isolation_laws.specs.Words.{ClientAt, Begun, keys_with, keys_from, written_keys}
-use Rattle.isolation_laws.specs.Pending.{is_placing}
-use Rattle.isolation_laws.specs.Requests.{HaveBegun, HasAsked, AreKeys}
-use Rattle.machine.proofs.Lookups.{client_set}
 use Rattle.isolation_laws.proofs.Pushed.{written_keys-push}
 
 -- ---- transactions of sessions

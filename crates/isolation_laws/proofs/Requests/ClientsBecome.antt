@@ -1,19 +1,12 @@
 -- What becomes of the client of a request that is lost, refused or answered.
-use Rattle.std.proofs.Common.{◌≡◌, ℕ, true, IsTrue, List, ◌⊎◌, inl, inr, refl, sym, ap, subst}
-use Rattle.history_book.specs.declared.item.Item.{Item}
-use Rattle.system_parts.specs.declared.session.State.{State as SessionState}
+use Rattle.isolation_laws.proofs.Names.{◌≡◌, ℕ, true, IsTrue, List, ◌⊎◌, inl, inr, refl, sym, ap, subst, Item}
+use Rattle.isolation_laws.proofs.Names.{SessionState, has_transaction, Request, Commit, Settled, Client, client_freed}
+use Rattle.isolation_laws.proofs.Names.{client_aborted, client_committed, client_opened, client_handed, unless_gone}
+use Rattle.isolation_laws.proofs.Names.{unless_gone_by, after_refusal, after_loss, is_placing, WaitsFor}
+use Rattle.isolation_laws.proofs.Names.{answered_client}
 use Rattle.system_parts.specs.declared.session.State.TheVariants as phase
-use Rattle.system_parts.specs.SessionSteps.{has_transaction}
-use Rattle.system_parts.specs.declared.instance.Request.{Request}
-use Rattle.system_parts.specs.declared.instance.Request.TheVariants.{Begin, Commit}
-use Rattle.system_parts.specs.declared.instance.Settled.{Settled}
+use Rattle.system_parts.specs.declared.instance.Request.TheVariants.{Begin}
 use Rattle.system_parts.specs.declared.instance.Settled.TheVariants as how
-use Rattle.machine.specs.State.{Client}
-use Rattle.machine.specs.Clients.{client_freed, client_aborted, client_committed, client_opened, client_handed, unless_gone, unless_gone_by, after_refusal}
-use Rattle.machine.specs.Events.Crash.{after_loss}
-use Rattle.isolation_laws.specs.Pending.{is_placing}
-use Rattle.isolation_laws.specs.Requests.{WaitsFor}
-use Rattle.machine.specs.Outcome.OutcomesOfStamps.{answered_client}
 use Rattle.isolation_laws.proofs.Requests.ClientsOpen.{gone_cases}
 use Rattle.isolation_laws.proofs.Requests.ClientsAfter.{KeepsStart, has_by, placing_has, aborted_keeps, committed_keeps, opened_keeps, freed_keeps, KeysClient, keys_aborted, keys_freed, keys_committed, keys_opened, keys_handed}
 

@@ -1,14 +1,9 @@
 -- Who reads: a client that has nothing of a read under way, and lists of clients in which each that reads read before, and is as it
 -- was.
-use Rattle.std.proofs.Common.{◌≡◌, ℕ, true, false, List, [], ◌∷◌, Option, Some, None, ◌⊎◌, inl, inr, sym, ◌∙◌, ap, subst}
-use Rattle.std.specs.Prelude.{slice_set}
-use Rattle.system_parts.specs.declared.asks.Ask.{Ask}
-use Rattle.system_parts.specs.Resolve.{Settling}
-use Rattle.system_parts.specs.KeyRead.{Reading}
-use Rattle.machine.specs.State.{Nothing, Reads, Settles, Completes, Client}
-use Rattle.machine.specs.Clients.{is_reading, is_reading_by, undo_of, finish_of, client_aborted, client_committed, unless_gone}
-use Rattle.isolation_laws.specs.Words.{ClientAt}
-use Rattle.machine.proofs.Lookups.{client_set}
+use Rattle.isolation_laws.proofs.Names.{◌≡◌, ℕ, true, false, List, [], ◌∷◌, Option, Some, None, ◌⊎◌, inl, inr, sym, ◌∙◌}
+use Rattle.isolation_laws.proofs.Names.{ap, subst, slice_set, Ask, Settling, Reading, Nothing, Reads, Settles}
+use Rattle.isolation_laws.proofs.Names.{Completes, Client, is_reading, is_reading_by, undo_of, finish_of}
+use Rattle.isolation_laws.proofs.Names.{client_aborted, client_committed, unless_gone, ClientAt, client_set}
 use Rattle.isolation_laws.proofs.Requests.ClientsOpen.{gone_cases}
 
 abbrev pub FewerReading : List Client → List Client → Type 0

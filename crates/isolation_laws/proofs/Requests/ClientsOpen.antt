@@ -1,20 +1,12 @@
 -- For cause_laws and request_completion too.
 -- What clients become when they have no transaction open and none to place, or as before.
-use Rattle.std.proofs.Common.{[], ◌≡◌, ℕ, Bool, true, false, List, ◌∷◌, ◌⊎◌, inl, inr, refl, sym, ◌∙◌, ap, subst}
-use Rattle.std.specs.Prelude.{slice_set}
-use Rattle.system_parts.specs.declared.session.State.{State as SessionState}
+use Rattle.isolation_laws.proofs.Names.{[], ◌≡◌, ℕ, Bool, true, false, List, ◌∷◌, ◌⊎◌, inl, inr, refl, sym, ◌∙◌, ap}
+use Rattle.isolation_laws.proofs.Names.{subst, slice_set, SessionState, SessionEntry, aborted_by, ReadTurn, Asks}
+use Rattle.isolation_laws.proofs.Names.{Answers, Settled, Client, client_aborted, unless_gone, unless_gone_by}
+use Rattle.isolation_laws.proofs.Names.{client_read, ClientAt, epoch_or_none, OpenAt, InFlight, is_placing, PlacingAt}
+use Rattle.isolation_laws.proofs.Names.{client_set, answered_client}
 use Rattle.system_parts.specs.declared.session.State.TheVariants as phase
-use Rattle.system_parts.specs.SessionSteps.{SessionEntry, aborted_by}
-use Rattle.system_parts.specs.KeyRead.{ReadTurn, Asks, Answers}
-use Rattle.system_parts.specs.declared.instance.Settled.{Settled}
 use Rattle.system_parts.specs.declared.instance.Settled.TheVariants as how
-use Rattle.machine.specs.State.{Client}
-use Rattle.machine.specs.Clients.{client_aborted, unless_gone, unless_gone_by}
-use Rattle.machine.specs.Events.Fetch.{client_read}
-use Rattle.isolation_laws.specs.Words.{ClientAt, epoch_or_none, OpenAt}
-use Rattle.isolation_laws.specs.Pending.{InFlight, is_placing, PlacingAt}
-use Rattle.machine.proofs.Lookups.{client_set}
-use Rattle.machine.specs.Outcome.OutcomesOfStamps.{answered_client}
 
 abbrev pub FewerOpen : List Client → List Client → Type 0
 FewerOpen old new = (s t e : ℕ) → OpenAt new s t e → OpenAt old s t e

@@ -1,21 +1,12 @@
 -- Commits in flight, settled ones, begins in flight and open transactions against a longer history.
-use Rattle.std.proofs.Common.{◌≡◌, ◌≢◌, ℕ, ◌≤◌, List, [], ◌++◌, Option, Some, refl, sym, ◌∙◌, subst, arith}
-use Rattle.history_book.specs.Members.{◌∈◌}
-use Rattle.history_book.specs.Isolation.{Committed}
-use Rattle.history_book.specs.declared.item.Item.{Item}
-use Rattle.history_book.specs.declared.item.Item.TheVariants.{Begin, Draw, Placed}
-use Rattle.history_book.proofs.MemberLemmas.{in_front}
-use Rattle.system_parts.specs.declared.instance.Progress.{Progress}
+use Rattle.isolation_laws.proofs.Names.{◌≡◌, ◌≢◌, ℕ, ◌≤◌, List, [], ◌++◌, Option, Some, refl, sym, ◌∙◌, subst, arith}
+use Rattle.isolation_laws.proofs.Names.{◌∈◌, Committed, Item, Begin, Draw, Placed, in_front, Progress, Request}
+use Rattle.isolation_laws.proofs.Names.{BeginRequest, Commit, Settled, InstanceEntry, Client, InstanceAt, HeldBy}
+use Rattle.isolation_laws.proofs.Names.{OpenAt, Begun, DrewStart, DrewCommit, HasDrawn, written_keys, Stage, Waits}
+use Rattle.isolation_laws.proofs.Names.{Taken, Has, InFlight, stage_of, Pending, AreStarting, IsDrawnSoFar, ArePending}
+use Rattle.isolation_laws.proofs.Names.{IsSettled, AreSettled, AreAccepted, AreOpen}
 use Rattle.system_parts.specs.declared.instance.Progress.TheVariants as progress
-use Rattle.system_parts.specs.declared.instance.Request.{Request}
-use Rattle.system_parts.specs.declared.instance.Request.TheVariants.{Begin as BeginRequest, Commit}
-use Rattle.system_parts.specs.declared.instance.Settled.{Settled}
 use Rattle.system_parts.specs.declared.instance.Settled.TheVariants as how
-use Rattle.system_parts.specs.Instance.{InstanceEntry}
-use Rattle.machine.specs.State.{Client}
-use Rattle.isolation_laws.specs.Words.{InstanceAt, HeldBy, OpenAt, Begun, DrewStart, DrewCommit, HasDrawn, written_keys}
-use Rattle.isolation_laws.specs.Pending.{Stage, Waits, Taken, Has, InFlight, stage_of, Pending}
-use Rattle.isolation_laws.specs.Requests.{AreStarting, IsDrawnSoFar, ArePending, IsSettled, AreSettled, AreAccepted, AreOpen}
 use Rattle.isolation_laws.proofs.Requests.ClientsOpen.{FewerOpen}
 use Rattle.isolation_laws.proofs.Requests.PendingAfter.{FewerPending}
 

@@ -1,22 +1,14 @@
 -- What was placed before the ask of a begin stays below the start that it got, or will get.
-use Rattle.std.proofs.Common.{◌≡◌, ◌≢◌, ℕ, ◌+◌, ◌<◌, ◌≤◌, true, List, ◌++◌, Option, inl, inr, sym, ap, subst, arith}
-use Rattle.history_book.specs.Isolation.{Committed, before_ask, has_ask}
-use Rattle.history_book.specs.declared.item.Item.{Item}
-use Rattle.history_book.specs.declared.item.Item.TheVariants.{Placed}
-use Rattle.history_book.proofs.HistoryLemmas.{before_ask-in}
-use Rattle.system_parts.specs.declared.instance.Progress.{Progress}
+use Rattle.isolation_laws.proofs.Names.{◌≡◌, ◌≢◌, ℕ, ◌+◌, ◌<◌, ◌≤◌, true, List, ◌++◌, Option, inl, inr, sym, ap, subst}
+use Rattle.isolation_laws.proofs.Names.{arith, Committed, before_ask, has_ask, Item, Placed, before_ask-in, Progress}
+use Rattle.isolation_laws.proofs.Names.{Commit, InstanceEntry, moved, drawn_as, State, InstanceAt, HeldBy}
+use Rattle.isolation_laws.proofs.Names.{AreFreshBegins, IsolationInvariant, instance_changed, heldby_changed}
+use Rattle.isolation_laws.proofs.Names.{AskedBegin, asked_begin_state, asked_begin_items, AskedCommit}
+use Rattle.isolation_laws.proofs.Names.{asked_commit_state, Accepted, AcceptedSteadily, accepted_state, Drew}
+use Rattle.isolation_laws.proofs.Names.{drew_instance, drew_state, drew_items}
 use Rattle.system_parts.specs.declared.instance.Progress.TheVariants as progress
-use Rattle.system_parts.specs.declared.instance.Request.TheVariants.{Begin, Commit}
-use Rattle.system_parts.specs.Instance.{InstanceEntry}
-use Rattle.system_parts.specs.InstanceSteps.{moved, drawn_as}
+use Rattle.system_parts.specs.declared.instance.Request.TheVariants.{Begin}
 use Rattle.system_parts.specs.declared.session.State.TheVariants as phase
-use Rattle.machine.specs.State.{State}
-use Rattle.isolation_laws.specs.Words.{InstanceAt, HeldBy}
-use Rattle.isolation_laws.specs.Begins.{AreFreshBegins}
-use Rattle.isolation_laws.specs.IsolationInvariant.{IsolationInvariant}
-use Rattle.machine.proofs.Lookups.{instance_changed, heldby_changed}
-use Rattle.machine.specs.Outcome.OutcomesOfRequests.{AskedBegin, asked_begin_state, asked_begin_items, AskedCommit, asked_commit_state, Accepted, AcceptedSteadily, accepted_state}
-use Rattle.machine.specs.Outcome.OutcomesOfStamps.{Drew, drew_instance, drew_state, drew_items}
 use Rattle.isolation_laws.proofs.Owners.{accepts_now, placed_below_last}
 use Rattle.isolation_laws.proofs.Requests.CommitsInFlight.{FewerStanding, IsAcceptedNow, IsDrawnNow}
 use Rattle.isolation_laws.proofs.Requests.RequestsAfter.{FewerHeld, HoldsNew, new_held, none_held, free_waits}

@@ -1,20 +1,13 @@
 -- For request_completion too.
 -- What the outcomes that no frame has make of the transactions that are open or are placed: one more is open where a begin is
 -- answered, and else there are fewer.
-use Rattle.std.proofs.Common.{[], ◌≡◌, ℕ, zero, suc, List, ◌∷◌, Option, Some, None, ◌⊎◌, inl, inr, refl, sym, ◌∙◌, ap}
-use Rattle.std.specs.Prelude.{slice_index_or}
-use Rattle.std.proofs.lemmas.Option.{same_Some}
-use Rattle.system_parts.specs.declared.instance.Held.{Held}
-use Rattle.machine.specs.State.{Client, State}
-use Rattle.machine.specs.Clients.{client_begun, unless_gone}
-use Rattle.machine.specs.Events.Crash.{after_loss, crashed_clients}
-use Rattle.machine.specs.Events.Write.{client_wrote}
-use Rattle.isolation_laws.specs.Words.{ClientAt, epoch_or_none, OpenAt}
-use Rattle.isolation_laws.specs.Pending.{is_placing, IsOpen}
-use Rattle.machine.proofs.Lookups.{client_set}
-use Rattle.machine.specs.Outcome.OutcomesOfStamps.{AnsweredBegin, answered_begin_state}
-use Rattle.machine.specs.Outcome.OutcomesOfSessions.{WroteOne, wrote_state, Vanished, vanished_state}
-use Rattle.machine.specs.Outcome.OutcomesOfWork.{Fetched, fetched_turn, fetched_client, fetched_state, ReadDropped, read_dropped_state, read_turn, read_client, ReadStepped, read_stepped_state}
+use Rattle.isolation_laws.proofs.Names.{[], ◌≡◌, ℕ, zero, suc, List, ◌∷◌, Option, Some, None, ◌⊎◌, inl, inr, refl, sym}
+use Rattle.isolation_laws.proofs.Names.{◌∙◌, ap, slice_index_or, same_Some, Held, Client, State, client_begun}
+use Rattle.isolation_laws.proofs.Names.{unless_gone, after_loss, crashed_clients, client_wrote, ClientAt, epoch_or_none}
+use Rattle.isolation_laws.proofs.Names.{OpenAt, is_placing, IsOpen, client_set, AnsweredBegin, answered_begin_state}
+use Rattle.isolation_laws.proofs.Names.{WroteOne, wrote_state, Vanished, vanished_state, Fetched, fetched_turn}
+use Rattle.isolation_laws.proofs.Names.{fetched_client, fetched_state, ReadDropped, read_dropped_state, read_turn}
+use Rattle.isolation_laws.proofs.Names.{read_client, ReadStepped, read_stepped_state}
 use Rattle.isolation_laws.proofs.Requests.ClientsOpen.{FewerOpen, FewerPlacing, FewerAtWork, fewer_open_set, fewer_placing_set, fewer_set, gone_rests, open_not_placing, gone_cases, read_rests}
 
 -- ---- a crash: each client is as it was, or heard of the loss of its request

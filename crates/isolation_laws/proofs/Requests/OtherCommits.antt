@@ -1,17 +1,8 @@
 -- A commit in flight elsewhere is of another transaction.
-use Rattle.std.proofs.Common.{◌≢◌, ℕ, List, Option, inl, inr, refl, sym, ◌∙◌, ap, subst}
-use Rattle.std.specs.Prelude.{slice_set}
-use Rattle.history_book.specs.Isolation.{Stamped}
-use Rattle.history_book.specs.declared.item.Item.{Item}
-use Rattle.system_parts.specs.declared.instance.Progress.{Progress}
-use Rattle.system_parts.specs.declared.instance.Request.{Request}
-use Rattle.system_parts.specs.declared.instance.Request.TheVariants.{Commit}
-use Rattle.system_parts.specs.Instance.{InstanceEntry}
-use Rattle.machine.specs.State.{Client}
-use Rattle.isolation_laws.specs.Words.{InstanceAt, HeldBy, Begun}
-use Rattle.isolation_laws.specs.Pending.{InFlight, HeldPending, is_placing, PlacingAt, Pending}
-use Rattle.isolation_laws.specs.Requests.{AreRequests, ArePending}
-use Rattle.machine.proofs.Lookups.{client_set}
+use Rattle.isolation_laws.proofs.Names.{◌≢◌, ℕ, List, Option, inl, inr, refl, sym, ◌∙◌, ap, subst, slice_set, Stamped}
+use Rattle.isolation_laws.proofs.Names.{Item, Progress, Request, Commit, InstanceEntry, Client, InstanceAt, HeldBy}
+use Rattle.isolation_laws.proofs.Names.{Begun, InFlight, HeldPending, is_placing, PlacingAt, Pending, AreRequests}
+use Rattle.isolation_laws.proofs.Names.{ArePending, client_set}
 use Rattle.isolation_laws.proofs.OnceEach.{begun_once}
 use Rattle.isolation_laws.proofs.Requests.ClientsOpen.{FewerPlacing, IsAtRest}
 use Rattle.isolation_laws.proofs.Requests.PendingAfter.{fewer_pending}

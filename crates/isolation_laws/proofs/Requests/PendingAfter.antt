@@ -1,22 +1,14 @@
 -- For cause_laws too.
 -- The commits in flight of a list of nodes, by the instance that holds them, and where one instance takes the place of another.
-use Rattle.std.proofs.Common.{◌≡◌, ◌≢◌, ℕ, zero, suc, Bool, true, false, refl, List, Option, Some, None, inl, inr, sym, ◌∙◌, ap, subst}
-use Rattle.std.specs.Prelude.{slice_set, slice_index_or, replicate}
-use Rattle.std.proofs.lemmas.Option.{none-some}
+use Rattle.isolation_laws.proofs.Names.{◌≡◌, ◌≢◌, ℕ, zero, suc, Bool, true, false, refl, List, Option, Some, None, inl}
+use Rattle.isolation_laws.proofs.Names.{inr, sym, ◌∙◌, ap, subst, slice_set, slice_index_or, replicate, none-some, Held}
+use Rattle.isolation_laws.proofs.Names.{Progress, Request, Commit, Settled, InstanceEntry, with_request, instance_new}
+use Rattle.isolation_laws.proofs.Names.{held_of, without_request, moved, just_asked, drawn_as, Client, InstanceAt}
+use Rattle.isolation_laws.proofs.Names.{HeldBy, Stage, InFlight, stage_of, HeldPending, Pending, instance_changed}
+use Rattle.isolation_laws.proofs.Names.{instance_ended, heldby_ended, heldby_changed, Alike}
 use Rattle.system_parts.specs.declared.record.Grant.{Grant}
-use Rattle.system_parts.specs.declared.instance.Held.{Held}
-use Rattle.system_parts.specs.declared.instance.Progress.{Progress}
 use Rattle.system_parts.specs.declared.instance.Progress.TheVariants as progress
-use Rattle.system_parts.specs.declared.instance.Request.{Request}
-use Rattle.system_parts.specs.declared.instance.Request.TheVariants.{Begin, Commit}
-use Rattle.system_parts.specs.declared.instance.Settled.{Settled}
-use Rattle.system_parts.specs.Instance.{InstanceEntry, with_request, instance_new, held_of}
-use Rattle.system_parts.specs.InstanceSteps.{without_request, moved, just_asked, drawn_as}
-use Rattle.machine.specs.State.{Client}
-use Rattle.isolation_laws.specs.Words.{InstanceAt, HeldBy}
-use Rattle.isolation_laws.specs.Pending.{Stage, InFlight, stage_of, HeldPending, Pending}
-use Rattle.machine.proofs.Lookups.{instance_changed, instance_ended, heldby_ended, heldby_changed}
-use Rattle.machine.specs.Outcome.OutcomesOfRecord.{Alike}
+use Rattle.system_parts.specs.declared.instance.Request.TheVariants.{Begin}
 use Rattle.isolation_laws.proofs.Requests.ClientsOpen.{FewerPlacing, placing_was}
 
 -- a commit in flight at an instance

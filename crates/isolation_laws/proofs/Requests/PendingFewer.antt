@@ -1,22 +1,17 @@
 -- Outcomes that leave fewer commits in flight, or as many.
 use Rattle.isolation_laws.proofs.Requests.ClientMoves.{at_work_after}
-use Rattle.machine.specs.Outcome.Outcomes.{OfAskedBegin}
-use Rattle.std.proofs.Common.{◌≡◌, ◌≢◌, ℕ, ◌+◌, Bool, true, false, List, Option, Some, ◌⊎◌, inl, inr, refl, subst}
-use Rattle.system_parts.specs.declared.instance.Settled.{Settled}
-use Rattle.std.specs.Prelude.{slice_set}
+use Rattle.isolation_laws.proofs.Names.{OfAskedBegin, ◌≡◌, ◌≢◌, ℕ, ◌+◌, Bool, true, false, List, Option, Some, ◌⊎◌, inl}
+use Rattle.isolation_laws.proofs.Names.{inr, refl, subst, Settled, slice_set, Commit, InstanceEntry, with_request}
+use Rattle.isolation_laws.proofs.Names.{without_request, moved, just_asked, instance_widened, instance_renewed, State}
+use Rattle.isolation_laws.proofs.Names.{Client, granted, renewed_until, rules_of, instance_of, InstanceAt, HeldBy}
+use Rattle.isolation_laws.proofs.Names.{InFlight, HeldPending, PlacingAt, Pending, ComesBelow, IsPending}
+use Rattle.isolation_laws.proofs.Names.{instance_changed, Still, Granted, granted_nodes, granted_state, Renewed}
+use Rattle.isolation_laws.proofs.Names.{renewed_nodes, renewed_state, Extended, extended_nodes, extended_state, Crashed}
+use Rattle.isolation_laws.proofs.Names.{crashed_state, AskedBegin, asked_begin_state, Ended, ended_state, AnsweredBegin}
+use Rattle.isolation_laws.proofs.Names.{answered_begin_state, AnsweredCommit, answered_commit_state, AtDrawn}
+use Rattle.isolation_laws.proofs.Names.{settled_nodes}
 use Rattle.system_parts.specs.declared.instance.Progress.TheVariants as progress
-use Rattle.system_parts.specs.declared.instance.Request.TheVariants.{Begin, Commit}
-use Rattle.system_parts.specs.Instance.{InstanceEntry, with_request}
-use Rattle.system_parts.specs.InstanceSteps.{without_request, moved, just_asked, instance_widened, instance_renewed}
-use Rattle.machine.specs.State.{State, Client}
-use Rattle.system_parts.specs.Record.{granted, renewed_until}
-use Rattle.machine.specs.Events.Take.{rules_of, instance_of}
-use Rattle.isolation_laws.specs.Words.{InstanceAt, HeldBy}
-use Rattle.isolation_laws.specs.Pending.{InFlight, HeldPending, PlacingAt, Pending, ComesBelow, IsPending}
-use Rattle.machine.proofs.Lookups.{instance_changed}
-use Rattle.machine.specs.Outcome.OutcomesOfRecord.{Still, Granted, granted_nodes, granted_state, Renewed, renewed_nodes, renewed_state, Extended, extended_nodes, extended_state}
-use Rattle.machine.specs.Outcome.OutcomesOfRequests.{Crashed, crashed_state, AskedBegin, asked_begin_state, Ended, ended_state}
-use Rattle.machine.specs.Outcome.OutcomesOfStamps.{AnsweredBegin, answered_begin_state, AnsweredCommit, answered_commit_state, AtDrawn, settled_nodes}
+use Rattle.system_parts.specs.declared.instance.Request.TheVariants.{Begin}
 use Rattle.isolation_laws.proofs.Requests.OpenAfter.{placing_answered_begin}
 use Rattle.isolation_laws.proofs.Requests.PendingAfter.{PendingIn, pending_in, pending_at, FewerServed, FewerPending, fewer_pending, fewer_changed, fewer_ended, none_more_alike, none_more_ended, none_more_begun, settled_cases, new_holds_none, none_more_same}
 

@@ -1,21 +1,14 @@
 -- Outcomes that move a commit in flight: one more that waits, one that is taken, one that has its commit while the others of
 -- its instance see a later last stamp.
 use Rattle.isolation_laws.proofs.Requests.ClientMoves.{at_work_after}
-use Rattle.machine.specs.Outcome.Outcomes.{OfAskedCommit}
-use Rattle.std.proofs.Common.{◌≡◌, ◌≢◌, ℕ, ◌+◌, ◌<◌, Bool, true, false, List, Some, ◌⊎◌, inl, inr, refl, sym, ◌∙◌, ap, subst, arith}
-use Rattle.std.proofs.lemmas.Option.{same_Some}
-use Rattle.system_parts.specs.declared.instance.Progress.{Progress}
+use Rattle.isolation_laws.proofs.Names.{OfAskedCommit, ◌≡◌, ◌≢◌, ℕ, ◌+◌, ◌<◌, Bool, true, false, List, Some, ◌⊎◌, inl}
+use Rattle.isolation_laws.proofs.Names.{inr, refl, sym, ◌∙◌, ap, subst, arith, same_Some, Progress, Request, Commit}
+use Rattle.isolation_laws.proofs.Names.{InstanceEntry, held_of, with_request, moved, just_asked, drawn_as, State}
+use Rattle.isolation_laws.proofs.Names.{HeldBy, Stage, Waits, Taken, Has, InFlight, stage_of, HeldPending, Pending}
+use Rattle.isolation_laws.proofs.Names.{IsStageBelow, ComesBelow, instance_changed, heldby_changed, AskedCommit}
+use Rattle.isolation_laws.proofs.Names.{asked_commit_state, Accepted, accepted_state, Drew, drew_instance, drew_state}
 use Rattle.system_parts.specs.declared.instance.Progress.TheVariants as progress
-use Rattle.system_parts.specs.declared.instance.Request.{Request}
-use Rattle.system_parts.specs.declared.instance.Request.TheVariants.{Begin, Commit}
-use Rattle.system_parts.specs.Instance.{InstanceEntry, held_of, with_request}
-use Rattle.system_parts.specs.InstanceSteps.{moved, just_asked, drawn_as}
-use Rattle.machine.specs.State.{State}
-use Rattle.isolation_laws.specs.Words.{HeldBy}
-use Rattle.isolation_laws.specs.Pending.{Stage, Waits, Taken, Has, InFlight, stage_of, HeldPending, Pending, IsStageBelow, ComesBelow}
-use Rattle.machine.proofs.Lookups.{instance_changed, heldby_changed}
-use Rattle.machine.specs.Outcome.OutcomesOfRequests.{AskedCommit, asked_commit_state, Accepted, accepted_state}
-use Rattle.machine.specs.Outcome.OutcomesOfStamps.{Drew, drew_instance, drew_state}
+use Rattle.system_parts.specs.declared.instance.Request.TheVariants.{Begin}
 use Rattle.isolation_laws.proofs.Requests.PendingAfter.{PendingIn, pending_in, pending_at}
 use Rattle.isolation_laws.proofs.Requests.PendingFewer.{StaysElsewhere, StaysPut, stays_pending}
 use Rattle.isolation_laws.proofs.Requests.ClientsOpen.{placing_was}

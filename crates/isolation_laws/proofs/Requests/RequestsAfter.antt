@@ -1,22 +1,13 @@
 -- Requests and the sessions that wait for them, where an instance or a client changes.
-use Rattle.std.proofs.Common.{◌≡◌, ◌≢◌, ℕ, zero, suc, Bool, true, List, [], ◌∷◌, Option, Some, None, ◌⊎◌, inl, inr, refl, sym, ◌∙◌, ap, subst}
-use Rattle.std.specs.Prelude.{slice_set, slice_index_or}
-use Rattle.std.proofs.lemmas.Bool.{cases_eq}
-use Rattle.std.proofs.lemmas.Option.{same_Some, none-some}
-use Rattle.system_parts.specs.declared.session.State.{State as SessionState}
+use Rattle.isolation_laws.proofs.Names.{◌≡◌, ◌≢◌, ℕ, zero, suc, Bool, true, List, [], ◌∷◌, Option, Some, None, ◌⊎◌, inl}
+use Rattle.isolation_laws.proofs.Names.{inr, refl, sym, ◌∙◌, ap, subst, slice_set, slice_index_or, cases_eq, same_Some}
+use Rattle.isolation_laws.proofs.Names.{none-some, SessionState, Held, Progress, Request, Commit, InstanceEntry}
+use Rattle.isolation_laws.proofs.Names.{held_of, with_request, session_of, Client, crashed_clients, InstanceAt, HeldBy}
+use Rattle.isolation_laws.proofs.Names.{ClientAt, is_placing, WaitsFor, AreRequests, instance_changed, instance_ended}
+use Rattle.isolation_laws.proofs.Names.{one_client, held_set, set_found, set_other}
 use Rattle.system_parts.specs.declared.session.State.TheVariants as phase
-use Rattle.system_parts.specs.declared.instance.Held.{Held}
-use Rattle.system_parts.specs.declared.instance.Progress.{Progress}
-use Rattle.system_parts.specs.declared.instance.Request.{Request}
-use Rattle.system_parts.specs.declared.instance.Request.TheVariants.{Begin, Commit}
-use Rattle.system_parts.specs.Instance.{InstanceEntry, held_of, with_request, session_of}
-use Rattle.machine.specs.State.{Client}
-use Rattle.machine.specs.Events.Crash.{crashed_clients}
-use Rattle.isolation_laws.specs.Words.{InstanceAt, HeldBy, ClientAt}
-use Rattle.isolation_laws.specs.Pending.{is_placing}
-use Rattle.isolation_laws.specs.Requests.{WaitsFor, AreRequests}
+use Rattle.system_parts.specs.declared.instance.Request.TheVariants.{Begin}
 use Rattle.isolation_laws.proofs.Requests.ClientsOpen.{asking_rests, committing_rests, gone_rests}
-use Rattle.machine.proofs.Lookups.{instance_changed, instance_ended, one_client, held_set, set_found, set_other}
 
 -- ---- instances with the same requests or fewer
 -- each request that is held was held, by the same node and session

@@ -1,14 +1,8 @@
 -- Outcomes that bring no further begin, draw, write or placed commit keep the facts on sessions and requests.
-use Rattle.std.proofs.Common.{List, Option, sym, ◌∙◌, ap}
-use Rattle.stamp_base.specs.SetupNumbers.{SetupNumbers}
-use Rattle.history_book.specs.declared.item.Item.{Item}
-use Rattle.history_book.specs.declared.item.Item.TheVariants.{Begin}
+use Rattle.isolation_laws.proofs.Names.{List, Option, sym, ◌∙◌, ap, SetupNumbers, Item, Begin, InstanceEntry, Client}
+use Rattle.isolation_laws.proofs.Names.{State, InFlight, is_placing, HaveBegun, AreRequests, AreStarting, ArePending}
+use Rattle.isolation_laws.proofs.Names.{AreSettled, AreOpen, AreKeys, AreForm, RequestFacts, IsolationInvariant}
 use Rattle.system_parts.specs.declared.instance.Progress.TheVariants as progress
-use Rattle.system_parts.specs.Instance.{InstanceEntry}
-use Rattle.machine.specs.State.{Client, State}
-use Rattle.isolation_laws.specs.Pending.{InFlight, is_placing}
-use Rattle.isolation_laws.specs.Requests.{HaveBegun, AreRequests, AreStarting, ArePending, AreSettled, AreOpen, AreKeys, AreForm, RequestFacts}
-use Rattle.isolation_laws.specs.IsolationInvariant.{IsolationInvariant}
 use Rattle.isolation_laws.proofs.Requests.PendingAfter.{FewerPending}
 use Rattle.isolation_laws.proofs.Requests.ClientsOpen.{FewerOpen, FewerPlacing}
 use Rattle.isolation_laws.proofs.Requests.CommitsInFlight.{StaysPending, pending_fewer, FewerStanding, IsSettledNow, IsAcceptedNow, IsDrawnNow, settled_fewer, accepted_fewer, starting_fewer, open_fewer}

@@ -1,11 +1,8 @@
 -- Every outcome keeps the facts on sessions and requests.
-use Rattle.std.proofs.Common.{List, ◌++◌, refl}
-use Rattle.history_book.specs.declared.item.Item.{Item}
-use Rattle.machine.specs.State.{State}
-use Rattle.isolation_laws.specs.Requests.{RequestFacts}
-use Rattle.isolation_laws.specs.IsolationInvariant.{IsolationInvariant}
+use Rattle.isolation_laws.proofs.Names.{List, ◌++◌, refl, Item, State, RequestFacts, IsolationInvariant, Outcome}
+use Rattle.isolation_laws.proofs.Names.{OfAskedCommit, OfAccepted, OfDrew, OfPlaced, OfOwnPlaced, OfAnsweredBegin}
+use Rattle.isolation_laws.proofs.Names.{OfWrote, IsTimely, left_by, told_by_outcome}
 use Rattle.isolation_laws.proofs.Holding.LeftAlone.{alone}
-use Rattle.machine.specs.Outcome.Outcomes.{Outcome, OfAskedCommit, OfAccepted, OfDrew, OfPlaced, OfOwnPlaced, OfAnsweredBegin, OfWrote, IsTimely, left_by, told_by_outcome}
 use Rattle.isolation_laws.proofs.Requests.RequestsOfMoves.{requests_asked_commit, requests_accepted}
 use Rattle.isolation_laws.proofs.Requests.RequestsOfDraws.{requests_drew}
 use Rattle.isolation_laws.proofs.Requests.RequestsOfSettled.{requests_placed}

@@ -1,24 +1,15 @@
 -- For request_completion too.
 -- Sessions and requests where a begin is answered.
-use Rattle.std.proofs.Common.{[], ◌≡◌, ℕ, IsTrue, List, ◌∷◌, ◌++◌, Some, None, ◌⊎◌, inl, inr, refl, sym, ◌∙◌, ap, subst, arith}
-use Rattle.std.proofs.lemmas.Option.{same_Some}
-use Rattle.history_book.specs.declared.item.Item.{Item}
-use Rattle.history_book.specs.declared.item.Item.TheVariants.{Begin, Draw, Placed}
-use Rattle.history_book.proofs.MemberLemmas.{in_front, in_last, in_push, in_old}
+use Rattle.isolation_laws.proofs.Names.{[], ◌≡◌, ℕ, IsTrue, List, ◌∷◌, ◌++◌, Some, None, ◌⊎◌, inl, inr, refl, sym, ◌∙◌}
+use Rattle.isolation_laws.proofs.Names.{ap, subst, arith, same_Some, Item, Begin, Draw, Placed, in_front, in_last}
+use Rattle.isolation_laws.proofs.Names.{in_push, in_old, has_transaction, BeginRequest, InstanceEntry, without_request}
+use Rattle.isolation_laws.proofs.Names.{Client, State, client_begun, unless_gone, InstanceAt, HeldBy, Begun, DrewStart}
+use Rattle.isolation_laws.proofs.Names.{HasDrawn, written_keys, HasAsked, RequestFacts, IsolationInvariant, held_by}
+use Rattle.isolation_laws.proofs.Names.{instance_changed, heldby_ended, begin_own, AnsweredBegin, answered_begin_state}
+use Rattle.isolation_laws.proofs.Names.{answered_begin_items}
 use Rattle.system_parts.specs.declared.session.State.TheVariants as phase
-use Rattle.system_parts.specs.SessionSteps.{has_transaction}
 use Rattle.system_parts.specs.declared.instance.Progress.TheVariants as progress
-use Rattle.system_parts.specs.declared.instance.Request.TheVariants.{Begin as BeginRequest}
-use Rattle.system_parts.specs.Instance.{InstanceEntry}
-use Rattle.system_parts.specs.InstanceSteps.{without_request}
-use Rattle.machine.specs.State.{Client, State}
-use Rattle.machine.specs.Clients.{client_begun, unless_gone}
-use Rattle.isolation_laws.specs.Words.{InstanceAt, HeldBy, Begun, DrewStart, HasDrawn, written_keys}
-use Rattle.isolation_laws.specs.Requests.{HasAsked, RequestFacts}
-use Rattle.isolation_laws.specs.IsolationInvariant.{IsolationInvariant}
-use Rattle.machine.proofs.Lookups.{held_by, instance_changed, heldby_ended, begin_own}
 use Rattle.isolation_laws.proofs.OnceEach.{drawn_once}
-use Rattle.machine.specs.Outcome.OutcomesOfStamps.{AnsweredBegin, answered_begin_state, answered_begin_items}
 use Rattle.isolation_laws.proofs.Requests.PendingFewer.{pending_answered_begin}
 use Rattle.isolation_laws.proofs.Requests.ClientsOpen.{open_not_placing, gone_cases}
 use Rattle.isolation_laws.proofs.Requests.OpenAfter.{open_answered_begin, placing_answered_begin}

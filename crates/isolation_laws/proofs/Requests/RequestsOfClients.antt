@@ -1,29 +1,19 @@
 -- What outcomes leave of requests and sessions, where one client alone changes.
 use Rattle.isolation_laws.proofs.Requests.ClientMoves.{at_work_after}
-use Rattle.machine.specs.Outcome.Outcomes.{OfAborted, OfCompleted, OfEndedReadOnly, OfHealed, OfOutcome, OfOutcomeFailed, OfWriteFailed}
-use Rattle.std.proofs.Common.{◌≡◌, ℕ, IsTrue, List, ◌⊎◌, inl, inr, refl, sym, ◌∙◌, ap, subst}
-use Rattle.std.specs.Prelude.{slice_set}
-use Rattle.std.proofs.lemmas.Option.{same_Some}
-use Rattle.history_book.specs.declared.item.Item.{Item}
-use Rattle.system_parts.specs.declared.session.State.{State as SessionState}
+use Rattle.isolation_laws.proofs.Names.{OfAborted, OfCompleted, OfEndedReadOnly, OfHealed, OfOutcome, OfOutcomeFailed}
+use Rattle.isolation_laws.proofs.Names.{OfWriteFailed, ◌≡◌, ℕ, IsTrue, List, ◌⊎◌, inl, inr, refl, sym, ◌∙◌, ap, subst}
+use Rattle.isolation_laws.proofs.Names.{slice_set, same_Some, Item, SessionState, has_transaction, SettleTurn}
+use Rattle.isolation_laws.proofs.Names.{settle_ask, settle_turn, Progress, Request, Commit, InstanceEntry, Client}
+use Rattle.isolation_laws.proofs.Names.{State, told_by, client_freed, client_aborted, client_vanished, client_read}
+use Rattle.isolation_laws.proofs.Names.{client_settled, client_wrote, InstanceAt, HeldBy, ClientAt, WaitsFor}
+use Rattle.isolation_laws.proofs.Names.{AreRequests, HasAsked, IsolationInvariant, EndedReadOnly, read_only_state}
+use Rattle.isolation_laws.proofs.Names.{WriteFailed, write_failed_state, Aborted, aborted_state, Vanished}
+use Rattle.isolation_laws.proofs.Names.{vanished_state, Healed, healed_state, Fetched, fetched_turn, fetched_client}
+use Rattle.isolation_laws.proofs.Names.{fetched_state, ReadDropped, read_dropped_state, read_turn, read_client}
+use Rattle.isolation_laws.proofs.Names.{ReadStepped, read_stepped_state, OutcomeStepped, outcome_state, OutcomeFailed}
+use Rattle.isolation_laws.proofs.Names.{outcome_failed_state, CompletedOne, completed_state}
 use Rattle.system_parts.specs.declared.session.State.TheVariants as phase
-use Rattle.system_parts.specs.SessionSteps.{has_transaction}
-use Rattle.system_parts.specs.Resolve.{SettleTurn, settle_ask, settle_turn}
-use Rattle.system_parts.specs.declared.instance.Progress.{Progress}
-use Rattle.system_parts.specs.declared.instance.Request.{Request}
-use Rattle.system_parts.specs.declared.instance.Request.TheVariants.{Begin, Commit}
-use Rattle.system_parts.specs.Instance.{InstanceEntry}
-use Rattle.machine.specs.State.{Client, State}
-use Rattle.machine.specs.StoreSteps.{told_by}
-use Rattle.machine.specs.Clients.{client_freed, client_aborted, client_vanished}
-use Rattle.machine.specs.Events.Fetch.{client_read}
-use Rattle.machine.specs.Events.Step.{client_settled}
-use Rattle.machine.specs.Events.Write.{client_wrote}
-use Rattle.isolation_laws.specs.Words.{InstanceAt, HeldBy, ClientAt}
-use Rattle.isolation_laws.specs.Requests.{WaitsFor, AreRequests, HasAsked}
-use Rattle.isolation_laws.specs.IsolationInvariant.{IsolationInvariant}
-use Rattle.machine.specs.Outcome.OutcomesOfSessions.{EndedReadOnly, read_only_state, WriteFailed, write_failed_state, Aborted, aborted_state, Vanished, vanished_state, Healed, healed_state}
-use Rattle.machine.specs.Outcome.OutcomesOfWork.{Fetched, fetched_turn, fetched_client, fetched_state, ReadDropped, read_dropped_state, read_turn, read_client, ReadStepped, read_stepped_state, OutcomeStepped, outcome_state, OutcomeFailed, outcome_failed_state, CompletedOne, completed_state}
+use Rattle.system_parts.specs.declared.instance.Request.TheVariants.{Begin}
 use Rattle.isolation_laws.proofs.Requests.ClientsOpen.{FewerAtWork, read_keeps_entry}
 use Rattle.isolation_laws.proofs.Requests.OpenAfter.{at_work_vanished, at_work_fetched, at_work_dropped, at_work_read}
 use Rattle.isolation_laws.proofs.Requests.ClientsAfter.{begun_kept, KeepsStart, has_none, has_by, aborted_keeps, freed_keeps, settled_keeps, asks_keep, KeysClient, keys_client, keys_set, keys_closed, gone_closed, keys_aborted, keys_freed, keys_settled, keys_asks}

@@ -1,26 +1,13 @@
 -- Sessions and requests where a stamp is drawn, and where a commit is settled.
-use Rattle.std.proofs.Common.{◌≡◌, ◌≢◌, ℕ, ◌+◌, List, ◌++◌, Option, Some, None, ◌⊎◌, inl, inr, refl, sym, ◌∙◌, ap, subst, arith}
-use Rattle.std.proofs.lemmas.Option.{none-some}
-use Rattle.history_book.specs.Members.{◌∈◌}
-use Rattle.history_book.specs.declared.item.Item.{Item}
-use Rattle.history_book.specs.declared.item.Item.TheVariants.{Begin, Draw, Write}
-use Rattle.history_book.proofs.MemberLemmas.{in_front, in_last, in_push}
-use Rattle.system_parts.specs.declared.instance.Held.{Held}
-use Rattle.system_parts.specs.declared.instance.Progress.{Progress}
+use Rattle.isolation_laws.proofs.Names.{◌≡◌, ◌≢◌, ℕ, ◌+◌, List, ◌++◌, Option, Some, None, ◌⊎◌, inl, inr, refl, sym, ◌∙◌}
+use Rattle.isolation_laws.proofs.Names.{ap, subst, arith, none-some, ◌∈◌, Item, Begin, Draw, Write, in_front, in_last}
+use Rattle.isolation_laws.proofs.Names.{in_push, Held, Progress, Request, BeginRequest, Commit, InstanceEntry, drawn_as}
+use Rattle.isolation_laws.proofs.Names.{State, draw_item, InstanceAt, HeldBy, OpenAt, Begun, DrewStart, DrewCommit}
+use Rattle.isolation_laws.proofs.Names.{HasDrawn, written_keys, Stage, Taken, Has, InFlight, stage_of, AreStarting}
+use Rattle.isolation_laws.proofs.Names.{IsDrawnSoFar, ArePending, RequestFacts, IsolationInvariant, heldby_changed}
+use Rattle.isolation_laws.proofs.Names.{instance_changed, Drew, drew_instance, drew_state, drew_items}
 use Rattle.system_parts.specs.declared.instance.Progress.TheVariants as progress
-use Rattle.system_parts.specs.declared.instance.Request.{Request}
-use Rattle.system_parts.specs.declared.instance.Request.TheVariants.{Begin as BeginRequest, Commit}
-use Rattle.system_parts.specs.Instance.{InstanceEntry}
-use Rattle.system_parts.specs.InstanceSteps.{drawn_as}
-use Rattle.machine.specs.State.{State}
-use Rattle.machine.specs.Events.Decide.{draw_item}
-use Rattle.isolation_laws.specs.Words.{InstanceAt, HeldBy, OpenAt, Begun, DrewStart, DrewCommit, HasDrawn, written_keys}
-use Rattle.isolation_laws.specs.Pending.{Stage, Taken, Has, InFlight, stage_of}
-use Rattle.isolation_laws.specs.Requests.{AreStarting, IsDrawnSoFar, ArePending, RequestFacts}
-use Rattle.isolation_laws.specs.IsolationInvariant.{IsolationInvariant}
-use Rattle.machine.proofs.Lookups.{heldby_changed, instance_changed}
 use Rattle.isolation_laws.proofs.Owners.{open_not_pending, so_far_unplaced}
-use Rattle.machine.specs.Outcome.OutcomesOfStamps.{Drew, drew_instance, drew_state, drew_items}
 use Rattle.isolation_laws.proofs.Requests.OtherCommits.{other_commit}
 use Rattle.isolation_laws.proofs.Requests.PendingFewer.{StaysPut, stays_pending}
 use Rattle.isolation_laws.proofs.Requests.PendingMoved.{IsOlder, IsDrawnNow as IsDrawnQ, pending_drew, drawn_stage}

@@ -1,21 +1,11 @@
 -- Sessions and requests where a commit is handed over: no instance holds it any more, and its session is to place it.
-use Rattle.std.proofs.Common.{◌≡◌, ℕ, true, false, List, Some, inl, inr, refl, sym, ◌∙◌, ap, subst}
-use Rattle.std.proofs.lemmas.Option.{same_Some}
-use Rattle.history_book.specs.declared.item.Item.{Item}
+use Rattle.isolation_laws.proofs.Names.{◌≡◌, ℕ, true, false, List, Some, inl, inr, refl, sym, ◌∙◌, ap, subst, same_Some}
+use Rattle.isolation_laws.proofs.Names.{Item, Request, Commit, held_of, without_request, Client, State, client_handed}
+use Rattle.isolation_laws.proofs.Names.{unless_gone, HeldBy, Has, InFlight, HeldPending, is_placing, PlacingAt}
+use Rattle.isolation_laws.proofs.Names.{WaitsFor, AreForm, IsolationInvariant, client_set, held_by, commit_own}
+use Rattle.isolation_laws.proofs.Names.{HandedOver, handed_over_state}
 use Rattle.system_parts.specs.declared.session.State.TheVariants as phase
 use Rattle.system_parts.specs.declared.instance.Progress.TheVariants as progress
-use Rattle.system_parts.specs.declared.instance.Request.{Request}
-use Rattle.system_parts.specs.declared.instance.Request.TheVariants.{Commit}
-use Rattle.system_parts.specs.Instance.{held_of}
-use Rattle.system_parts.specs.InstanceSteps.{without_request}
-use Rattle.machine.specs.State.{Client, State}
-use Rattle.machine.specs.Clients.{client_handed, unless_gone}
-use Rattle.isolation_laws.specs.Words.{HeldBy}
-use Rattle.isolation_laws.specs.Pending.{Has, InFlight, HeldPending, is_placing, PlacingAt}
-use Rattle.isolation_laws.specs.Requests.{WaitsFor, AreForm}
-use Rattle.isolation_laws.specs.IsolationInvariant.{IsolationInvariant}
-use Rattle.machine.proofs.Lookups.{client_set, held_by, commit_own}
-use Rattle.machine.specs.Outcome.OutcomesOfStamps.{HandedOver, handed_over_state}
 use Rattle.isolation_laws.proofs.Requests.PendingAfter.{FewerPending, fewer_changed, none_more_ended}
 use Rattle.isolation_laws.proofs.Requests.ClientsOpen.{OpensNothing, FewerOpen, fewer_open_set, gone_cases, gone_rests}
 use Rattle.isolation_laws.proofs.Requests.ClientsAfter.{begun_kept, keys_client, keys_set}

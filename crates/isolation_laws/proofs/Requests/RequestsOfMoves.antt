@@ -1,28 +1,16 @@
 -- Sessions and requests where a commit is asked, a request is accepted, a stamp is drawn, a commit is settled.
 use Rattle.isolation_laws.proofs.Requests.ClientMoves.{at_work_after}
-use Rattle.machine.specs.Outcome.Outcomes.{OfAskedCommit}
-use Rattle.std.proofs.Common.{◌≡◌, ℕ, ◌<◌, ◌≤◌, nat_le, if◌then◌else◌, Bool, true, false, List, ◌++◌, Some, None, inl, inr, refl, sym, ◌∙◌, ap, subst, arith}
-use Rattle.std.proofs.lemmas.Bool.{leb-false}
-use Rattle.std.proofs.lemmas.Option.{same_Some, none-some}
-use Rattle.history_book.specs.declared.cause.Cause.TheVariants.{OldEpoch}
-use Rattle.history_book.specs.declared.item.Item.{Item}
-use Rattle.history_book.specs.declared.item.Item.TheVariants.{Begin}
+use Rattle.isolation_laws.proofs.Names.{OfAskedCommit, ◌≡◌, ℕ, ◌<◌, ◌≤◌, nat_le, if◌then◌else◌, Bool, true, false, List}
+use Rattle.isolation_laws.proofs.Names.{◌++◌, Some, None, inl, inr, refl, sym, ◌∙◌, ap, subst, arith, leb-false}
+use Rattle.isolation_laws.proofs.Names.{same_Some, none-some, OldEpoch, Item, Begin, asked_state, Request, Commit}
+use Rattle.isolation_laws.proofs.Names.{InstanceEntry, session_of, moved, epoch_refusal, Client, State, client_asked}
+use Rattle.isolation_laws.proofs.Names.{HeldBy, ClientAt, epoch_or_none, OpenAt, Begun, HasDrawn, written_keys, Stage}
+use Rattle.isolation_laws.proofs.Names.{Waits, InFlight, HeldPending, IsDrawnSoFar, AreAccepted, RequestFacts}
+use Rattle.isolation_laws.proofs.Names.{IsolationInvariant, held_by, held_set, instance_changed, AskedCommit}
+use Rattle.isolation_laws.proofs.Names.{asked_commit_state, Accepted, AcceptedSteadily, accepted_state}
 use Rattle.system_parts.specs.declared.session.State.TheVariants as phase
-use Rattle.system_parts.specs.SessionSteps.{asked_state}
 use Rattle.system_parts.specs.declared.instance.Progress.TheVariants as progress
-use Rattle.system_parts.specs.declared.instance.Request.{Request}
-use Rattle.system_parts.specs.declared.instance.Request.TheVariants.{Commit}
-use Rattle.system_parts.specs.Instance.{InstanceEntry, session_of}
-use Rattle.system_parts.specs.InstanceSteps.{moved, epoch_refusal}
-use Rattle.machine.specs.State.{Client, State}
-use Rattle.machine.specs.Clients.{client_asked}
-use Rattle.isolation_laws.specs.Words.{HeldBy, ClientAt, epoch_or_none, OpenAt, Begun, HasDrawn, written_keys}
-use Rattle.isolation_laws.specs.Pending.{Stage, Waits, InFlight, HeldPending}
-use Rattle.isolation_laws.specs.Requests.{IsDrawnSoFar, AreAccepted, RequestFacts}
-use Rattle.isolation_laws.specs.IsolationInvariant.{IsolationInvariant}
-use Rattle.machine.proofs.Lookups.{held_by, held_set, instance_changed}
 use Rattle.isolation_laws.proofs.Owners.{accepts_now, begun_below_last}
-use Rattle.machine.specs.Outcome.OutcomesOfRequests.{AskedCommit, asked_commit_state, Accepted, AcceptedSteadily, accepted_state}
 use Rattle.isolation_laws.proofs.Requests.PendingMoved.{IsAsked, pending_asked_commit, IsTaken, pending_accepted}
 use Rattle.isolation_laws.proofs.Requests.ClientsOpen.{same_at_work}
 use Rattle.isolation_laws.proofs.Numbers.NumbersKept.{open_begun}

@@ -1,26 +1,15 @@
 -- What outcomes leave of requests and sessions, where nodes change: the record's, a crash, an ask, the end of a request.
 use Rattle.isolation_laws.proofs.Requests.ClientMoves.{at_work_after}
-use Rattle.machine.specs.Outcome.Outcomes.{OfAnsweredCommit, OfAskedBegin, OfCrashed, OfEnded}
-use Rattle.std.proofs.Common.{Option, ◌≡◌, ℕ, List, Some, ◌⊎◌, inl, inr, refl, sym, ◌∙◌, ap, subst}
-use Rattle.system_parts.specs.declared.instance.Progress.{Progress}
-use Rattle.std.specs.Prelude.{slice_set}
-use Rattle.history_book.specs.declared.item.Item.{Item}
+use Rattle.isolation_laws.proofs.Names.{OfAnsweredCommit, OfAskedBegin, OfCrashed, OfEnded, Option, ◌≡◌, ℕ, List, Some}
+use Rattle.isolation_laws.proofs.Names.{◌⊎◌, inl, inr, refl, sym, ◌∙◌, ap, subst, Progress, slice_set, Item}
+use Rattle.isolation_laws.proofs.Names.{asked_state, Held, Request, Commit, InstanceEntry, held_of, without_request}
+use Rattle.isolation_laws.proofs.Names.{Client, State, client_asked, unless_gone, after_refusal, InstanceAt, ClientAt}
+use Rattle.isolation_laws.proofs.Names.{HaveBegun, WaitsFor, HasAsked, AreKeys, IsolationInvariant, held_by, one_client}
+use Rattle.isolation_laws.proofs.Names.{Still, still_state, Granted, granted_state, Renewed, renewed_state, Extended}
+use Rattle.isolation_laws.proofs.Names.{extended_state, Crashed, crashed_state, AskedBegin, asked_begin_state, Ended}
+use Rattle.isolation_laws.proofs.Names.{ended_state, AnsweredCommit, answered_client, answered_commit_state}
 use Rattle.system_parts.specs.declared.session.State.TheVariants as phase
-use Rattle.system_parts.specs.SessionSteps.{asked_state}
-use Rattle.system_parts.specs.declared.instance.Held.{Held}
-use Rattle.system_parts.specs.declared.instance.Request.{Request}
-use Rattle.system_parts.specs.declared.instance.Request.TheVariants.{Begin, Commit}
-use Rattle.system_parts.specs.Instance.{InstanceEntry, held_of}
-use Rattle.system_parts.specs.InstanceSteps.{without_request}
-use Rattle.machine.specs.State.{Client, State}
-use Rattle.machine.specs.Clients.{client_asked, unless_gone, after_refusal}
-use Rattle.isolation_laws.specs.Words.{InstanceAt, ClientAt}
-use Rattle.isolation_laws.specs.Requests.{HaveBegun, WaitsFor, HasAsked, AreKeys}
-use Rattle.isolation_laws.specs.IsolationInvariant.{IsolationInvariant}
-use Rattle.machine.proofs.Lookups.{held_by, one_client}
-use Rattle.machine.specs.Outcome.OutcomesOfRecord.{Still, still_state, Granted, granted_state, Renewed, renewed_state, Extended, extended_state}
-use Rattle.machine.specs.Outcome.OutcomesOfRequests.{Crashed, crashed_state, AskedBegin, asked_begin_state, Ended, ended_state}
-use Rattle.machine.specs.Outcome.OutcomesOfStamps.{AnsweredCommit, answered_client, answered_commit_state}
+use Rattle.system_parts.specs.declared.instance.Request.TheVariants.{Begin}
 use Rattle.isolation_laws.proofs.Requests.PendingAfter.{FewerServed, fewer_pending}
 use Rattle.isolation_laws.proofs.Requests.PendingFewer.{fewer_still, fewer_granted, fewer_renewed, fewer_extended, fewer_crashed, pending_asked_begin, fewer_ended_one, fewer_answered_commit, same_served}
 use Rattle.isolation_laws.proofs.Requests.ClientsOpen.{FewerAtWork, same_at_work}

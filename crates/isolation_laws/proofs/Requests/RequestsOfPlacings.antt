@@ -1,20 +1,12 @@
 -- Sessions and requests where a session places its own commit, or finds that it never will be placed.
 use Rattle.isolation_laws.proofs.Requests.ClientMoves.{at_work_after}
-use Rattle.machine.specs.Outcome.Outcomes.{OfOwnNotPlaced, OfOwnPlaced}
-use Rattle.std.proofs.Common.{ℕ, List, ◌++◌, inl, inr, refl, sym, ◌∙◌, subst}
-use Rattle.history_book.specs.declared.item.Item.{Item}
+use Rattle.isolation_laws.proofs.Names.{OfOwnNotPlaced, OfOwnPlaced, ℕ, List, ◌++◌, inl, inr, refl, sym, ◌∙◌, subst}
+use Rattle.isolation_laws.proofs.Names.{Item, Commit, Settled, InstanceEntry, Client, State, HeldBy, AreKeys}
+use Rattle.isolation_laws.proofs.Names.{RequestFacts, IsolationInvariant, answered_client, AtPlacing, OwnPlaced}
+use Rattle.isolation_laws.proofs.Names.{own_placed_state, own_placed_items, OwnNotPlaced, own_not_placed_state}
 use Rattle.system_parts.specs.declared.instance.Progress.TheVariants as progress
-use Rattle.system_parts.specs.declared.instance.Request.TheVariants.{Commit}
-use Rattle.system_parts.specs.declared.instance.Settled.{Settled}
 use Rattle.system_parts.specs.declared.instance.Settled.TheVariants as how
-use Rattle.system_parts.specs.Instance.{InstanceEntry}
-use Rattle.machine.specs.State.{Client, State}
-use Rattle.isolation_laws.specs.Words.{HeldBy}
-use Rattle.isolation_laws.specs.Requests.{AreKeys, RequestFacts}
-use Rattle.isolation_laws.specs.IsolationInvariant.{IsolationInvariant}
 use Rattle.isolation_laws.proofs.OnceEach.{begun_once}
-use Rattle.machine.specs.Outcome.OutcomesOfStamps.{answered_client}
-use Rattle.machine.specs.Outcome.OutcomesOfPlacings.{AtPlacing, OwnPlaced, own_placed_state, own_placed_items, OwnNotPlaced, own_not_placed_state}
 use Rattle.isolation_laws.proofs.Numbers.Placings.{is_placing_now, own_in_flight, own_placing}
 use Rattle.isolation_laws.proofs.Requests.ClientsOpen.{answered_rests}
 use Rattle.isolation_laws.proofs.Requests.OtherCommits.{placing_holds_none, none_of_placed}

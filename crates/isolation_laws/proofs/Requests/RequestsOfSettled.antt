@@ -1,14 +1,10 @@
 -- Sessions and requests where a commit is settled: it is in flight no more.
-use Rattle.std.proofs.Common.{◌≡◌, ℕ, List, ◌++◌, ◌⊎◌, inl, inr, refl, sym, ◌∙◌, subst}
-use Rattle.history_book.specs.Isolation.{Committed}
-use Rattle.history_book.specs.declared.item.Item.{Item}
-use Rattle.system_parts.specs.declared.instance.Settled.{Settled}
+use Rattle.isolation_laws.proofs.Names.{◌≡◌, ℕ, List, ◌++◌, ◌⊎◌, inl, inr, refl, sym, ◌∙◌, subst, Committed, Item}
+use Rattle.isolation_laws.proofs.Names.{Settled, State, ArePending, IsSettled, AreSettled, RequestFacts}
+use Rattle.isolation_laws.proofs.Names.{IsolationInvariant, AtDrawn, PlacedOne, placed_state, placed_items, NotPlaced}
+use Rattle.isolation_laws.proofs.Names.{not_placed_state}
 use Rattle.system_parts.specs.declared.instance.Settled.TheVariants as how
-use Rattle.machine.specs.State.{State}
-use Rattle.isolation_laws.specs.Requests.{ArePending, IsSettled, AreSettled, RequestFacts}
-use Rattle.isolation_laws.specs.IsolationInvariant.{IsolationInvariant}
 use Rattle.isolation_laws.proofs.Owners.{has_drew}
-use Rattle.machine.specs.Outcome.OutcomesOfStamps.{AtDrawn, PlacedOne, placed_state, placed_items, NotPlaced, not_placed_state}
 use Rattle.isolation_laws.proofs.Requests.PendingFewer.{stays_pending, pending_settled, fewer_settled}
 use Rattle.isolation_laws.proofs.Requests.ClientsAfter.{have_on}
 use Rattle.isolation_laws.proofs.Requests.RequestsAfter.{requests_fewer}

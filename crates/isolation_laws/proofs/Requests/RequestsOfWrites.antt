@@ -1,24 +1,14 @@
 -- For request_completion too.
 -- Sessions and requests where a value is written.
-use Rattle.std.proofs.Common.{[], ◌≡◌, ℕ, IsTrue, List, ◌∷◌, ◌++◌, Some, ◌⊎◌, inl, inr, refl, sym, ◌∙◌, ap, subst}
-use Rattle.std.proofs.lemmas.Bool.{cases_eq}
-use Rattle.std.proofs.lemmas.Option.{same_Some}
-use Rattle.history_book.specs.declared.item.Item.{Item}
-use Rattle.history_book.specs.declared.item.Item.TheVariants.{Begin, Draw, Write}
-use Rattle.history_book.proofs.MemberLemmas.{in_old}
-use Rattle.system_parts.specs.declared.session.State.{State as SessionState}
+use Rattle.isolation_laws.proofs.Names.{[], ◌≡◌, ℕ, IsTrue, List, ◌∷◌, ◌++◌, Some, ◌⊎◌, inl, inr, refl, sym, ◌∙◌, ap}
+use Rattle.isolation_laws.proofs.Names.{subst, cases_eq, same_Some, Item, Begin, Draw, Write, in_old, SessionState}
+use Rattle.isolation_laws.proofs.Names.{has_transaction, key_added, Client, State, client_wrote, ClientAt}
+use Rattle.isolation_laws.proofs.Names.{epoch_or_none, OpenAt, Begun, HasDrawn, written_keys, IsPending, AreKeys}
+use Rattle.isolation_laws.proofs.Names.{HasAsked, RequestFacts, IsolationInvariant, client_set, WroteOne, wrote_state}
+use Rattle.isolation_laws.proofs.Names.{wrote_items}
 use Rattle.system_parts.specs.declared.session.State.TheVariants as phase
-use Rattle.system_parts.specs.SessionSteps.{has_transaction, key_added}
-use Rattle.machine.specs.State.{Client, State}
-use Rattle.machine.specs.Events.Write.{client_wrote}
-use Rattle.isolation_laws.specs.Words.{ClientAt, epoch_or_none, OpenAt, Begun, HasDrawn, written_keys}
-use Rattle.isolation_laws.specs.Pending.{IsPending}
-use Rattle.isolation_laws.specs.Requests.{AreKeys, HasAsked, RequestFacts}
-use Rattle.isolation_laws.specs.IsolationInvariant.{IsolationInvariant}
-use Rattle.machine.proofs.Lookups.{client_set}
 use Rattle.isolation_laws.proofs.OnceEach.{begun_once}
 use Rattle.isolation_laws.proofs.Owners.{open_not_pending}
-use Rattle.machine.specs.Outcome.OutcomesOfSessions.{WroteOne, wrote_state, wrote_items}
 use Rattle.isolation_laws.proofs.Requests.OpenAfter.{at_work_wrote}
 use Rattle.isolation_laws.proofs.Requests.PendingAfter.{fewer_pending}
 use Rattle.isolation_laws.proofs.Requests.PendingFewer.{same_served}

@@ -1,26 +1,16 @@
 -- Of an open transaction each instance draws at most up to the epoch, or is past the start, whatever comes.
-use Rattle.std.proofs.Common.{◌≡◌, ◌≢◌, ℕ, zero, suc, ◌+◌, ◌<◌, ◌≤◌, Bool, true, false, List, [], ◌∷◌, Option, Some, None, ◌⊎◌, inl, inr, refl, sym, ◌∙◌, ap, subst, arith, All, IfSome}
-use Rattle.std.specs.Prelude.{slice_index_or}
-use Rattle.std.proofs.lemmas.List.Elements.{All-head, All-tail}
-use Rattle.history_book.specs.declared.item.Item.{Item}
-use Rattle.system_parts.specs.Record.{granted}
-use Rattle.system_parts.specs.declared.instance.Held.{Held}
-use Rattle.system_parts.specs.declared.instance.Progress.{Progress}
+use Rattle.isolation_laws.proofs.Names.{◌≡◌, ◌≢◌, ℕ, zero, suc, ◌+◌, ◌<◌, ◌≤◌, Bool, true, false, List, [], ◌∷◌, Option}
+use Rattle.isolation_laws.proofs.Names.{Some, None, ◌⊎◌, inl, inr, refl, sym, ◌∙◌, ap, subst, arith, All, IfSome}
+use Rattle.isolation_laws.proofs.Names.{slice_index_or, All-head, All-tail, Item, granted, Held, Progress, Request}
+use Rattle.isolation_laws.proofs.Names.{Commit, InstanceEntry, unsettled_by, without_request, drawn_as}
+use Rattle.isolation_laws.proofs.Names.{instance_widened, Client, State, rules_of, instance_of, InstanceAt, HeldBy}
+use Rattle.isolation_laws.proofs.Names.{OpenAt, Begun, AreSettledBelow, IsPast, IsolationInvariant, instance_changed}
+use Rattle.isolation_laws.proofs.Names.{one_instance, heldby_changed, heldby_ended, Granted, granted_nodes}
+use Rattle.isolation_laws.proofs.Names.{granted_state, Extended, extended_nodes, extended_state, Drew, drew_instance}
+use Rattle.isolation_laws.proofs.Names.{drew_state, AnsweredBegin, answered_begin_state, three_ways}
 use Rattle.system_parts.specs.declared.instance.Progress.TheVariants as progress
-use Rattle.system_parts.specs.declared.instance.Request.{Request}
-use Rattle.system_parts.specs.declared.instance.Request.TheVariants.{Commit}
-use Rattle.system_parts.specs.Instance.{InstanceEntry, unsettled_by}
-use Rattle.system_parts.specs.InstanceSteps.{without_request, drawn_as, instance_widened}
 use Rattle.system_parts.specs.InstanceLaws.{IsNotBelow}
 use Rattle.system_parts.proofs.InstanceBegins.{none_waits}
-use Rattle.machine.specs.State.{Client, State}
-use Rattle.machine.specs.Events.Take.{rules_of, instance_of}
-use Rattle.isolation_laws.specs.Words.{InstanceAt, HeldBy, OpenAt, Begun}
-use Rattle.isolation_laws.specs.Begins.{AreSettledBelow, IsPast}
-use Rattle.isolation_laws.specs.IsolationInvariant.{IsolationInvariant}
-use Rattle.machine.proofs.Lookups.{instance_changed, one_instance, heldby_changed, heldby_ended}
-use Rattle.machine.specs.Outcome.OutcomesOfRecord.{Granted, granted_nodes, granted_state, Extended, extended_nodes, extended_state}
-use Rattle.machine.specs.Outcome.OutcomesOfStamps.{Drew, drew_instance, drew_state, AnsweredBegin, answered_begin_state}
 use Rattle.isolation_laws.proofs.Owners.{begun_below_last}
 use Rattle.isolation_laws.proofs.Requests.ClientsOpen.{FewerOpen}
 use Rattle.isolation_laws.proofs.Requests.OpenAfter.{open_answered_begin}
@@ -30,7 +20,6 @@ use Rattle.isolation_laws.proofs.Numbers.NumbersStay.{SameNumbers}
 use Rattle.isolation_laws.proofs.Reading.ReadersRely.{open_now_begun}
 use Rattle.isolation_laws.proofs.Requests.CommitsInFlight.{FewerStanding, IsDrawnNow}
 use Rattle.isolation_laws.proofs.Requests.Standing.{standing_over}
-use Rattle.machine.proofs.Orders.{three_ways}
 
 -- each instance was there, draws up to the same, and is no less far
 pub record KeepsRanges (old new : List (Option InstanceEntry)) : Type 0 where

@@ -1,26 +1,13 @@
 -- A commit that is settled: what a history has that places it, and which requests are settled now.
-use Rattle.std.proofs.Common.{[], ◌≡◌, ◌≢◌, ℕ, List, ◌∷◌, ◌++◌, append_assoc, Option, Some, ◌⊎◌, inl, inr, refl, sym, ◌∙◌, ap, subst}
-use Rattle.std.specs.Prelude.{slice_set}
-use Rattle.std.proofs.lemmas.Option.{same_Some}
-use Rattle.history_book.specs.Members.{◌∈◌}
-use Rattle.history_book.specs.Isolation.{Committed}
-use Rattle.history_book.specs.declared.item.Item.{Item}
-use Rattle.history_book.specs.declared.item.Item.TheVariants.{Begin, Draw, Placed}
-use Rattle.history_book.proofs.MemberLemmas.{in_front, in_last, in_push, in_old}
+use Rattle.isolation_laws.proofs.Names.{[], ◌≡◌, ◌≢◌, ℕ, List, ◌∷◌, ◌++◌, append_assoc, Option, Some, ◌⊎◌, inl, inr}
+use Rattle.isolation_laws.proofs.Names.{refl, sym, ◌∙◌, ap, subst, slice_set, same_Some, ◌∈◌, Committed, Item, Begin}
+use Rattle.isolation_laws.proofs.Names.{Draw, Placed, in_front, in_last, in_push, in_old, Commit, Settled}
+use Rattle.isolation_laws.proofs.Names.{InstanceEntry, held_of, moved, Client, State, InstanceAt, HeldBy, Begun}
+use Rattle.isolation_laws.proofs.Names.{HasDrawn, written_keys, InFlight, Pending, AllQuiet, ArePending, IsSettled}
+use Rattle.isolation_laws.proofs.Names.{IsolationInvariant, held_by, held_set, one_held, instance_changed, one_instance}
+use Rattle.isolation_laws.proofs.Names.{AtDrawn}
 use Rattle.system_parts.specs.declared.instance.Progress.TheVariants as progress
-use Rattle.system_parts.specs.declared.instance.Request.TheVariants.{Commit}
-use Rattle.system_parts.specs.declared.instance.Settled.{Settled}
-use Rattle.system_parts.specs.Instance.{InstanceEntry, held_of}
-use Rattle.system_parts.specs.InstanceSteps.{moved}
-use Rattle.machine.specs.State.{Client, State}
-use Rattle.isolation_laws.specs.Words.{InstanceAt, HeldBy, Begun, HasDrawn, written_keys}
-use Rattle.isolation_laws.specs.Pending.{InFlight, Pending}
-use Rattle.machine.specs.Quiet.{AllQuiet}
-use Rattle.isolation_laws.specs.Requests.{ArePending, IsSettled}
-use Rattle.isolation_laws.specs.IsolationInvariant.{IsolationInvariant}
-use Rattle.machine.proofs.Lookups.{held_by, held_set, one_held, instance_changed, one_instance}
 use Rattle.isolation_laws.proofs.OnceEach.{begun_once}
-use Rattle.machine.specs.Outcome.OutcomesOfStamps.{AtDrawn}
 use Rattle.isolation_laws.proofs.Requests.OtherCommits.{other_commit, PendingBut}
 use Rattle.isolation_laws.proofs.Requests.PendingFewer.{StaysPut}
 use Rattle.isolation_laws.proofs.Pushed.{old_begin, old_draw, old_placed, written_keys-quiet}

@@ -1,20 +1,10 @@
 -- A longer history that has no further begin, draw, write or placed commit.
-use Rattle.std.proofs.Common.{◌≡◌, ℕ, List, [], ◌∷◌, ◌++◌, append_assoc, Option, Some, refl, sym, ◌∙◌, subst}
-use Rattle.std.proofs.lemmas.List.{append-nil}
-use Rattle.history_book.specs.Members.{◌∈◌}
-use Rattle.history_book.specs.Isolation.{Committed}
+use Rattle.isolation_laws.proofs.Names.{◌≡◌, ℕ, List, [], ◌∷◌, ◌++◌, append_assoc, Option, Some, refl, sym, ◌∙◌, subst}
+use Rattle.isolation_laws.proofs.Names.{append-nil, ◌∈◌, Committed, Found, Keys, Item, AskBegin, Begin, Draw, Write}
+use Rattle.isolation_laws.proofs.Names.{Read, Placed, Step, in_front, in_old, ReadTurn, Asks, Answers, found_of}
+use Rattle.isolation_laws.proofs.Names.{read_items, Begun, HasDrawn, written_keys, Quiet, AllQuiet, one_quiet}
 use Rattle.history_book.specs.declared.item.Actor.{Actor}
-use Rattle.history_book.specs.declared.item.Found.{Found}
-use Rattle.history_book.specs.declared.item.StoreStep.TheVariants.{Keys}
-use Rattle.history_book.specs.declared.item.Item.{Item}
-use Rattle.history_book.specs.declared.item.Item.TheVariants.{AskBegin, Begin, Draw, Write, Read, Placed, Step}
-use Rattle.history_book.proofs.MemberLemmas.{in_front, in_old}
-use Rattle.system_parts.specs.KeyRead.{ReadTurn, Asks, Answers}
-use Rattle.machine.specs.Events.Fetch.{found_of, read_items}
-use Rattle.isolation_laws.specs.Words.{Begun, HasDrawn, written_keys}
-use Rattle.machine.specs.Quiet.{Quiet, AllQuiet}
 use Rattle.isolation_laws.proofs.Pushed.{old_begin, old_draw, old_placed, written_keys-quiet}
-use Rattle.machine.proofs.Outcome.QuietItems.{one_quiet}
 use Rattle.isolation_laws.proofs.Requests.ClientsAfter.{written_keys-no_write}
 
 pub record Silent (h g : List Item) : Type 0 where

@@ -1,24 +1,16 @@
 -- What each outcome leaves of the requests that stand somewhere.
-use Rattle.std.proofs.Common.{◌≡◌, ℕ, ◌+◌, ◌≤◌, Bool, true, false, List, Option, Some, None, inl, inr, refl, sym, ◌∙◌, ap, subst, arith}
-use Rattle.system_parts.specs.declared.instance.Settled.{Settled}
-use Rattle.std.specs.Prelude.{slice_set}
-use Rattle.std.proofs.lemmas.Option.{same_Some, none-some}
-use Rattle.system_parts.specs.Record.{granted, renewed_until}
-use Rattle.system_parts.specs.declared.instance.Held.{Held}
-use Rattle.system_parts.specs.declared.instance.Progress.{Progress}
+use Rattle.isolation_laws.proofs.Names.{◌≡◌, ℕ, ◌+◌, ◌≤◌, Bool, true, false, List, Option, Some, None, inl, inr, refl}
+use Rattle.isolation_laws.proofs.Names.{sym, ◌∙◌, ap, subst, arith, Settled, slice_set, same_Some, none-some, granted}
+use Rattle.isolation_laws.proofs.Names.{renewed_until, Held, Progress, Request, Commit, InstanceEntry, with_request}
+use Rattle.isolation_laws.proofs.Names.{without_request, drawn_as, just_asked, instance_widened, instance_renewed}
+use Rattle.isolation_laws.proofs.Names.{State, rules_of, instance_of, InstanceAt, HeldBy, instance_changed}
+use Rattle.isolation_laws.proofs.Names.{instance_ended, held_set, AlikeNodes, Granted, granted_nodes, granted_state}
+use Rattle.isolation_laws.proofs.Names.{Renewed, renewed_nodes, renewed_state, Extended, extended_nodes, extended_state}
+use Rattle.isolation_laws.proofs.Names.{AskedBegin, asked_begin_state, AskedCommit, asked_commit_state, Accepted}
+use Rattle.isolation_laws.proofs.Names.{accepted_state, Drew, drew_instance, drew_state, AtDrawn, settled_nodes}
 use Rattle.system_parts.specs.declared.instance.Progress.TheVariants as progress
-use Rattle.system_parts.specs.declared.instance.Request.{Request}
-use Rattle.system_parts.specs.declared.instance.Request.TheVariants.{Begin, Commit}
-use Rattle.system_parts.specs.Instance.{InstanceEntry, with_request}
-use Rattle.system_parts.specs.InstanceSteps.{without_request, drawn_as, just_asked, instance_widened, instance_renewed}
-use Rattle.machine.specs.State.{State}
-use Rattle.machine.specs.Events.Take.{rules_of, instance_of}
-use Rattle.isolation_laws.specs.Words.{InstanceAt, HeldBy}
-use Rattle.machine.proofs.Lookups.{instance_changed, instance_ended, held_set}
+use Rattle.system_parts.specs.declared.instance.Request.TheVariants.{Begin}
 use Rattle.isolation_laws.proofs.Requests.PendingAfter.{new_holds_none, same_requests}
-use Rattle.machine.specs.Outcome.OutcomesOfRecord.{AlikeNodes, Granted, granted_nodes, granted_state, Renewed, renewed_nodes, renewed_state, Extended, extended_nodes, extended_state}
-use Rattle.machine.specs.Outcome.OutcomesOfRequests.{AskedBegin, asked_begin_state, AskedCommit, asked_commit_state, Accepted, accepted_state}
-use Rattle.machine.specs.Outcome.OutcomesOfStamps.{Drew, drew_instance, drew_state, AtDrawn, settled_nodes}
 use Rattle.isolation_laws.proofs.Requests.RequestsAfter.{FewerHeld, held_changed, held_moved}
 use Rattle.isolation_laws.proofs.Requests.CommitsInFlight.{FewerStanding, IsSettledNow, IsAcceptedNow}
 

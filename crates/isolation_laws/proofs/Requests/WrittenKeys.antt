@@ -1,15 +1,8 @@
 -- What a transaction wrote: its last writes, and the keys of its write list.
-use Rattle.std.proofs.Common.{◌≡◌, ℕ, ◌==◌, true, List, [], ◌∷◌, Option, Some, None, ◌⊎◌, inl, inr, refl, sym, ◌∙◌, ap, subst}
-use Rattle.std.specs.Option.{option_or}
-use Rattle.std.proofs.lemmas.Bool.{cases_Bool, cases_eq, eq-eqb, ne_eqb}
-use Rattle.std.proofs.lemmas.Option.{none-some}
-use Rattle.history_book.specs.Members.{◌∈◌}
-use Rattle.history_book.specs.Isolation.{Wrote, last_write, written_by}
-use Rattle.history_book.specs.declared.item.Item.{Item}
-use Rattle.history_book.specs.declared.item.Item.TheVariants.{Write}
-use Rattle.history_book.proofs.MemberLemmas.{in_front, in_last, in_push}
-use Rattle.system_parts.specs.SessionSteps.{has_key, key_added}
-use Rattle.isolation_laws.specs.Words.{keys_with, keys_from, written_keys}
+use Rattle.isolation_laws.proofs.Names.{◌≡◌, ℕ, ◌==◌, true, List, [], ◌∷◌, Option, Some, None, ◌⊎◌, inl, inr, refl, sym}
+use Rattle.isolation_laws.proofs.Names.{◌∙◌, ap, subst, option_or, cases_Bool, cases_eq, eq-eqb, ne_eqb, none-some, ◌∈◌}
+use Rattle.isolation_laws.proofs.Names.{Wrote, last_write, written_by, Item, Write, in_front, in_last, in_push, has_key}
+use Rattle.isolation_laws.proofs.Names.{key_added, keys_with, keys_from, written_keys}
 use Rattle.isolation_laws.proofs.Requests.ClientsAfter.{keys_with_own}
 use Rattle.isolation_laws.proofs.Stores.Calm.{written_here}
 

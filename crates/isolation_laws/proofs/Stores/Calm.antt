@@ -1,22 +1,10 @@
 -- A longer history that has no further write or placed commit.
-use Rattle.std.proofs.Common.{◌≡◌, ℕ, List, [], ◌∷◌, ◌++◌, append_assoc, Some, None, inl, inr, refl, sym, ◌∙◌, ap, subst}
-use Rattle.std.specs.Option.{option_or}
-use Rattle.std.proofs.lemmas.List.{append-nil}
-use Rattle.std.proofs.lemmas.Bool.{cases_eq, eq-eqb, ne_eqb}
-use Rattle.history_book.specs.Isolation.{Committed, last_write, written_by, WasListed}
-use Rattle.history_book.specs.declared.item.StoreStep.TheVariants.{Keys}
-use Rattle.history_book.specs.declared.item.Item.{Item}
-use Rattle.history_book.specs.declared.item.Item.TheVariants.{Write, Read, Placed, Step}
-use Rattle.history_book.proofs.MemberLemmas.{in_old}
-use Rattle.history_book.proofs.HistoryLemmas.{last_write-push}
-use Rattle.system_parts.specs.KeyRead.{ReadTurn, Asks, Answers}
-use Rattle.system_parts.specs.declared.instance.Request.{Request}
-use Rattle.system_parts.specs.declared.instance.Request.TheVariants.{Begin as BeginRequest, Commit}
-use Rattle.machine.specs.Events.Decide.{draw_item}
-use Rattle.machine.specs.Events.Fetch.{found_of, read_items}
-use Rattle.machine.specs.Quiet.{Quiet, AllQuiet}
+use Rattle.isolation_laws.proofs.Names.{◌≡◌, ℕ, List, [], ◌∷◌, ◌++◌, append_assoc, Some, None, inl, inr, refl, sym, ◌∙◌}
+use Rattle.isolation_laws.proofs.Names.{ap, subst, option_or, append-nil, cases_eq, eq-eqb, ne_eqb, Committed}
+use Rattle.isolation_laws.proofs.Names.{last_write, written_by, WasListed, Keys, Item, Write, Read, Placed, Step}
+use Rattle.isolation_laws.proofs.Names.{in_old, last_write-push, ReadTurn, Asks, Answers, Request, BeginRequest, Commit}
+use Rattle.isolation_laws.proofs.Names.{draw_item, found_of, read_items, Quiet, AllQuiet, one_quiet}
 use Rattle.isolation_laws.proofs.Pushed.{old_placed, last_write-quiet}
-use Rattle.machine.proofs.Outcome.QuietItems.{one_quiet}
 use Rattle.isolation_laws.proofs.Requests.CommitsInFlight.{GoesOn, goes_on}
 
 pub record Calm (h g : List Item) : Type 0 where

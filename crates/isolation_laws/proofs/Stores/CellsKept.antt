@@ -1,17 +1,10 @@
 -- Every outcome keeps the facts on the cells and the commit table.
-use Rattle.machine.specs.Outcome.Outcomes.{OfOwnPlaced, Outcome, OfPlaced, OfAnsweredBegin, OfWrote, left_by, told_by_outcome}
-use Rattle.std.proofs.Common.{◌∷◌, ◌≡◌, ℕ, List, ◌++◌, Option, Some, None, inl, inr, refl, ◌∙◌, ap}
-use Rattle.history_book.specs.Isolation.{last_write}
-use Rattle.history_book.specs.declared.item.Item.{Item}
-use Rattle.system_parts.specs.declared.rows.Cell.{Cell}
-use Rattle.system_parts.specs.Rows.{looked}
-use Rattle.system_parts.specs.Instance.{InstanceEntry}
-use Rattle.machine.specs.State.{Client, State}
-use Rattle.machine.specs.Quiet.{AllQuiet}
-use Rattle.isolation_laws.specs.Cells.{CellFacts}
-use Rattle.isolation_laws.specs.IsolationInvariant.{IsolationInvariant}
+use Rattle.isolation_laws.proofs.Names.{OfOwnPlaced, Outcome, OfPlaced, OfAnsweredBegin, OfWrote, left_by}
+use Rattle.isolation_laws.proofs.Names.{told_by_outcome, ◌∷◌, ◌≡◌, ℕ, List, ◌++◌, Option, Some, None, inl, inr, refl}
+use Rattle.isolation_laws.proofs.Names.{◌∙◌, ap, last_write, Item, Cell, looked, InstanceEntry, Client, State, AllQuiet}
+use Rattle.isolation_laws.proofs.Names.{CellFacts, IsolationInvariant, AnsweredBegin, answered_begin_state}
+use Rattle.isolation_laws.proofs.Names.{answered_begin_items}
 use Rattle.isolation_laws.proofs.Numbers.Placings.{PlacedPending, placed_item, placed_pairs, placed_live, by_its_node, by_its_session}
-use Rattle.machine.specs.Outcome.OutcomesOfStamps.{AnsweredBegin, answered_begin_state, answered_begin_items}
 use Rattle.isolation_laws.proofs.Requests.RequestsOfBegins.{start_unbegun}
 use Rattle.isolation_laws.proofs.Stores.LiveAfter.{FewerLive, live_answered_begin}
 use Rattle.isolation_laws.proofs.Requests.WrittenKeys.{last_write-none}

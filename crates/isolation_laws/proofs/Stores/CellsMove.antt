@@ -1,22 +1,13 @@
 -- The cells and the commit table where a row is erased or written, and where a commit is placed.
-use Rattle.std.proofs.Common.{◌≡◌, ℕ, List, Option, Some, None, IfSome, ◌⊎◌, inl, inr, refl, sym, ◌∙◌, ap, subst}
-use Rattle.std.proofs.lemmas.Bool.{cases_eq}
-use Rattle.std.proofs.lemmas.Option.{same_Some, none-some}
-use Rattle.stamp_base.specs.declared.stores.Mark.TheVariants.{Committed as CommittedMark, Invalid as InvalidMark}
-use Rattle.history_book.specs.Isolation.{Committed, last_write}
-use Rattle.history_book.specs.declared.item.Item.{Item}
-use Rattle.history_book.specs.declared.item.Item.TheVariants.{Begin, Placed}
-use Rattle.system_parts.specs.declared.rows.Cell.{Cell}
-use Rattle.system_parts.specs.Rows.{Row, looked, AreOrdered, bare_cell, put_row, without_bare}
-use Rattle.system_parts.specs.Pairs.{Pairs, mark_of, put_pair}
-use Rattle.system_parts.proofs.RowLaws.{looked-put_other, looked-put_same, looked-without, looked-without_other, ordered-put, ordered-without}
-use Rattle.system_parts.proofs.RowVersions.{without_bare_absent, without_bare_shadowed, without_bare_gone}
-use Rattle.system_parts.proofs.PairLaws.{entry_or, mark_of-put_pair, mark_of-put_pair_other, entry_stays-put_pair}
-use Rattle.system_parts.specs.Instance.{InstanceEntry}
-use Rattle.machine.specs.State.{Client}
-use Rattle.isolation_laws.specs.Words.{Begun, HasRecord, cell_with}
-use Rattle.isolation_laws.specs.Pending.{Live}
-use Rattle.isolation_laws.specs.Cells.{IsSwept, AreShadowed, CellFacts}
+use Rattle.isolation_laws.proofs.Names.{◌≡◌, ℕ, List, Option, Some, None, IfSome, ◌⊎◌, inl, inr, refl, sym, ◌∙◌, ap}
+use Rattle.isolation_laws.proofs.Names.{subst, cases_eq, same_Some, none-some, CommittedMark, InvalidMark, Committed}
+use Rattle.isolation_laws.proofs.Names.{last_write, Item, Begin, Placed, Cell, Row, looked, AreOrdered, bare_cell}
+use Rattle.isolation_laws.proofs.Names.{put_row, without_bare, Pairs, mark_of, put_pair, looked-put_other}
+use Rattle.isolation_laws.proofs.Names.{looked-put_same, looked-without, looked-without_other, ordered-put}
+use Rattle.isolation_laws.proofs.Names.{ordered-without, without_bare_absent, without_bare_shadowed, without_bare_gone}
+use Rattle.isolation_laws.proofs.Names.{entry_or, mark_of-put_pair, mark_of-put_pair_other, entry_stays-put_pair}
+use Rattle.isolation_laws.proofs.Names.{InstanceEntry, Client, Begun, HasRecord, cell_with, Live, IsSwept, AreShadowed}
+use Rattle.isolation_laws.proofs.Names.{CellFacts}
 use Rattle.isolation_laws.proofs.Requests.CommitsInFlight.{GoesOn}
 use Rattle.isolation_laws.proofs.Stores.LiveAfter.{FewerLive}
 use Rattle.isolation_laws.proofs.Stores.Calm.{listed_goes_on}

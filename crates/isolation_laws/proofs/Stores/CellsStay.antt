@@ -1,22 +1,14 @@
 -- The cells and the commit table where the history goes on, where the table moves, and where a row gets its shadow, is
 -- erased or is written.
-use Rattle.std.proofs.Common.{◌≡◌, ℕ, List, Option, Some, None, ◌⊎◌, inl, inr, refl, sym, ◌∙◌, ap, subst}
-use Rattle.std.proofs.lemmas.Bool.{cases_eq}
-use Rattle.std.proofs.lemmas.Option.{same_Some, none-some}
-use Rattle.stamp_base.specs.declared.stores.Mark.TheVariants.{Committed as CommittedMark, Invalid as InvalidMark}
-use Rattle.history_book.specs.Isolation.{Committed, Stamped, last_write}
-use Rattle.history_book.specs.declared.item.Item.{Item}
-use Rattle.history_book.specs.declared.item.Item.TheVariants.{Begin, Placed}
-use Rattle.system_parts.specs.declared.rows.Cell.{Cell}
-use Rattle.system_parts.specs.Rows.{Row, looked, with_shadow}
-use Rattle.system_parts.specs.Pairs.{Pairs, mark_of, put_pair, without_committed}
-use Rattle.system_parts.proofs.RowLaws.{shadowed, looked-shadow_other, looked-shadow_same, ordered-shadow}
-use Rattle.system_parts.proofs.PairLaws.{entry_or, mark_of-put_pair, mark_of-put_pair_other, entry_stays-put_pair, mark_of-without_committed_other, invalid_stays-without_committed, was_there-without_committed}
-use Rattle.system_parts.specs.Instance.{InstanceEntry}
-use Rattle.machine.specs.State.{Client}
-use Rattle.isolation_laws.specs.Words.{Marked, HasRecord, cell_with}
-use Rattle.isolation_laws.specs.Pending.{Live}
-use Rattle.isolation_laws.specs.Cells.{IsSwept, AreShadowed, CellFacts}
+use Rattle.isolation_laws.proofs.Names.{◌≡◌, ℕ, List, Option, Some, None, ◌⊎◌, inl, inr, refl, sym, ◌∙◌, ap, subst}
+use Rattle.isolation_laws.proofs.Names.{cases_eq, same_Some, none-some, CommittedMark, InvalidMark, Committed, Stamped}
+use Rattle.isolation_laws.proofs.Names.{last_write, Item, Begin, Placed, Cell, Row, looked, with_shadow, Pairs, mark_of}
+use Rattle.isolation_laws.proofs.Names.{put_pair, without_committed, looked-shadow_other, looked-shadow_same}
+use Rattle.isolation_laws.proofs.Names.{ordered-shadow, entry_or, mark_of-put_pair, mark_of-put_pair_other}
+use Rattle.isolation_laws.proofs.Names.{entry_stays-put_pair, mark_of-without_committed_other}
+use Rattle.isolation_laws.proofs.Names.{invalid_stays-without_committed, was_there-without_committed, InstanceEntry}
+use Rattle.isolation_laws.proofs.Names.{Client, Marked, HasRecord, cell_with, Live, IsSwept, AreShadowed, CellFacts}
+use Rattle.system_parts.proofs.RowLaws.{shadowed}
 use Rattle.isolation_laws.proofs.OnceEach.{one_commit}
 use Rattle.isolation_laws.proofs.Requests.CommitsInFlight.{GoesOn}
 use Rattle.isolation_laws.proofs.Stores.Calm.{Calm, listed_goes_on}

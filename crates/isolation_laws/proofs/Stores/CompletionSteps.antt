@@ -1,22 +1,12 @@
 -- The first ask of a completion and of a sweep: that it has what it needs, and what is left behind it.
-use Rattle.std.proofs.Common.{◌≡◌, ℕ, List, [], ◌∷◌, Option, Some, None, ◌⊎◌, inl, inr, refl, sym, ◌∙◌, ap, subst}
-use Rattle.std.proofs.lemmas.Option.{same_Some, none-some}
-use Rattle.history_book.specs.Members.{◌∈◌}
-use Rattle.history_book.specs.Isolation.{Committed, Wrote, last_write}
-use Rattle.history_book.specs.declared.item.Item.{Item}
-use Rattle.system_parts.specs.declared.rows.Cell.{Cell}
-use Rattle.system_parts.specs.Rows.{Row, looked, with_shadow}
-use Rattle.system_parts.proofs.RowLaws.{looked-shadow_same}
-use Rattle.system_parts.specs.declared.asks.Ask.{Ask}
+use Rattle.isolation_laws.proofs.Names.{◌≡◌, ℕ, List, [], ◌∷◌, Option, Some, None, ◌⊎◌, inl, inr, refl, sym, ◌∙◌, ap}
+use Rattle.isolation_laws.proofs.Names.{subst, same_Some, none-some, ◌∈◌, Committed, Wrote, last_write, Item, Cell, Row}
+use Rattle.isolation_laws.proofs.Names.{looked, with_shadow, looked-shadow_same, Ask, finish_asks, undo_asks, first_ask}
+use Rattle.isolation_laws.proofs.Names.{SweepPoint, Marking, Listing, Left, Undecided, Sweeping, sweep_ask}
+use Rattle.isolation_laws.proofs.Names.{sweep_ask_at, State, rows_after, Marked, cell_with, AreShadowed, HasShadow}
+use Rattle.isolation_laws.proofs.Names.{IsFinish, IsSweptAt, IsolationInvariant}
 use Rattle.system_parts.specs.declared.asks.Ask.TheVariants as ask
-use Rattle.system_parts.specs.Completion.{finish_asks, undo_asks, first_ask}
-use Rattle.system_parts.specs.Sweep.{SweepPoint, Table, Marking, Listing, Left, Undecided, Sweeping, sweep_ask, sweep_ask_at}
-use Rattle.machine.specs.State.{State}
-use Rattle.machine.specs.StoreSteps.{rows_after}
-use Rattle.isolation_laws.specs.Words.{Marked, cell_with}
-use Rattle.isolation_laws.specs.Cells.{AreShadowed}
-use Rattle.isolation_laws.specs.UnderWay.{HasShadow, IsFinish, IsSweptAt}
-use Rattle.isolation_laws.specs.IsolationInvariant.{IsolationInvariant}
+use Rattle.system_parts.specs.Sweep.{Table}
 use Rattle.isolation_laws.proofs.Stores.StoreMoves.{AskFits, has_shadow_set, keeps_shadow}
 use Rattle.isolation_laws.proofs.Stores.CellsStay.{no_record_marked}
 

@@ -1,13 +1,9 @@
 -- What may still be placed after each outcome: nothing that could not before, but the transaction of an answered begin.
-use Rattle.std.proofs.Common.{refl, ◌≡◌, ℕ, List, Option, Some, ◌⊎◌, inl, inr, sym, ◌∙◌, ap}
+use Rattle.isolation_laws.proofs.Names.{refl, ◌≡◌, ℕ, List, Option, Some, ◌⊎◌, inl, inr, sym, ◌∙◌, ap, OfAskedCommit}
+use Rattle.isolation_laws.proofs.Names.{InstanceEntry, Client, State, epoch_or_none, Waits, Taken, Live, AskedCommit}
+use Rattle.isolation_laws.proofs.Names.{asked_commit_state, Accepted, accepted_state, Drew, drew_state, AnsweredBegin}
+use Rattle.isolation_laws.proofs.Names.{answered_begin_state}
 use Rattle.isolation_laws.proofs.Requests.ClientMoves.{at_work_after}
-use Rattle.machine.specs.Outcome.Outcomes.{OfAskedCommit}
-use Rattle.system_parts.specs.Instance.{InstanceEntry}
-use Rattle.machine.specs.State.{Client, State}
-use Rattle.isolation_laws.specs.Words.{epoch_or_none}
-use Rattle.isolation_laws.specs.Pending.{Waits, Taken, Live}
-use Rattle.machine.specs.Outcome.OutcomesOfRequests.{AskedCommit, asked_commit_state, Accepted, accepted_state}
-use Rattle.machine.specs.Outcome.OutcomesOfStamps.{Drew, drew_state, AnsweredBegin, answered_begin_state}
 use Rattle.isolation_laws.proofs.Requests.PendingAfter.{FewerPending, fewer_pending}
 use Rattle.isolation_laws.proofs.Requests.PendingFewer.{pending_answered_begin, fewer_is_pending, stays_pending}
 use Rattle.isolation_laws.proofs.Requests.PendingMoved.{pending_asked_commit, pending_accepted, pending_drew}

@@ -1,24 +1,12 @@
 -- One step on the stores of a completion, a sweep, a read or a resolve: what it needs, and that the cells and the commit
 -- table stay right by it.
-use Rattle.std.proofs.Common.{◌≡◌, ℕ, List, Some, inl, inr, refl, sym, ◌∙◌, ap, subst}
-use Rattle.std.proofs.lemmas.Option.{same_Some, none-some}
-use Rattle.stamp_base.specs.declared.stores.Mark.TheVariants.{Invalid as InvalidMark}
-use Rattle.history_book.specs.Isolation.{Committed}
-use Rattle.history_book.specs.declared.item.Item.{Item}
-use Rattle.system_parts.specs.declared.rows.Cell.{Cell}
-use Rattle.system_parts.specs.Rows.{Row, looked, with_shadow, without_bare}
-use Rattle.system_parts.specs.Pairs.{Pairs}
+use Rattle.isolation_laws.proofs.Names.{◌≡◌, ℕ, List, Some, inl, inr, refl, sym, ◌∙◌, ap, subst, same_Some, none-some}
+use Rattle.isolation_laws.proofs.Names.{InvalidMark, Committed, Item, Cell, Row, looked, with_shadow, without_bare}
+use Rattle.isolation_laws.proofs.Names.{Pairs, entry_stays-put_pair, invalid_stays-without_committed, Ask, State}
+use Rattle.isolation_laws.proofs.Names.{rows_after, pairs_after, Marked, Live, IsSwept, AreShadowed, CellFacts}
+use Rattle.isolation_laws.proofs.Names.{HasShadow, IsolationInvariant}
 use Rattle.system_parts.proofs.RowLaws.{shadowed}
-use Rattle.system_parts.proofs.PairLaws.{entry_stays-put_pair, invalid_stays-without_committed}
-use Rattle.system_parts.specs.declared.asks.Ask.{Ask}
 use Rattle.system_parts.specs.declared.asks.Ask.TheVariants as ask
-use Rattle.machine.specs.State.{State}
-use Rattle.machine.specs.StoreSteps.{rows_after, pairs_after}
-use Rattle.isolation_laws.specs.Words.{Marked}
-use Rattle.isolation_laws.specs.Pending.{Live}
-use Rattle.isolation_laws.specs.Cells.{IsSwept, AreShadowed, CellFacts}
-use Rattle.isolation_laws.specs.UnderWay.{HasShadow}
-use Rattle.isolation_laws.specs.IsolationInvariant.{IsolationInvariant}
 use Rattle.isolation_laws.proofs.OnceEach.{one_commit}
 use Rattle.isolation_laws.proofs.Owners.{live_unplaced}
 use Rattle.isolation_laws.proofs.Stores.Calm.{Calm, calm_same}

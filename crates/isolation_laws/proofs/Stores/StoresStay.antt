@@ -1,33 +1,19 @@
 -- For cause_laws too.
 -- Marks stay in the commit table, and rows that have a shadow of a placed commit keep it.
-use Rattle.std.proofs.Common.{◌≡◌, ◌≢◌, ℕ, Bool, true, false, cond, if◌then◌else◌, IsTrue, List, [], ◌∷◌, Option, Some, None, ◌⊎◌, inl, inr, refl, sym, ◌∙◌, ap, subst, arith}
-use Rattle.std.specs.Ordering.{nat_cmp, eq_by_cmp}
-use Rattle.std.specs.FinMap.{get-insert, get-remove}
-use Rattle.std.specs.Cmp.{nat_cmp_total}
-use Rattle.std.proofs.lemmas.Bool.{cases_eq}
-use Rattle.std.proofs.lemmas.Bool.Decides.{nat_tests}
-use Rattle.std.proofs.lemmas.Option.{same_Some, none-some}
-use Rattle.stamp_base.specs.declared.stores.Mark.{Mark}
-use Rattle.stamp_base.specs.declared.stores.Mark.TheVariants.{Committed as CommittedMark, Invalid as InvalidMark}
-use Rattle.history_book.specs.Isolation.{Committed, Stamped}
-use Rattle.history_book.specs.declared.item.Item.{Item}
-use Rattle.system_parts.specs.Rows.{Row, looked, put_row, with_shadow, without_bare, shadowed}
-use Rattle.system_parts.specs.Pairs.{Pairs, mark_of, put_pair, put_over, removed_from}
-use Rattle.system_parts.proofs.RowLaws.{looked-put_other, looked-shadow_other, looked-shadow_same, looked-without_other}
-use Rattle.system_parts.proofs.RowVersions.{without_bare_shadowed}
-use Rattle.system_parts.specs.declared.asks.Ask.{Ask}
+use Rattle.isolation_laws.proofs.Names.{◌≡◌, ◌≢◌, ℕ, Bool, true, false, cond, if◌then◌else◌, IsTrue, List, [], ◌∷◌}
+use Rattle.isolation_laws.proofs.Names.{Option, Some, None, ◌⊎◌, inl, inr, refl, sym, ◌∙◌, ap, subst, arith, nat_cmp}
+use Rattle.isolation_laws.proofs.Names.{eq_by_cmp, get-insert, get-remove, nat_cmp_total, cases_eq, nat_tests}
+use Rattle.isolation_laws.proofs.Names.{same_Some, none-some, Mark, CommittedMark, InvalidMark, Committed, Stamped}
+use Rattle.isolation_laws.proofs.Names.{Item, Row, looked, put_row, with_shadow, without_bare, shadowed, Pairs, mark_of}
+use Rattle.isolation_laws.proofs.Names.{put_pair, put_over, removed_from, looked-put_other, looked-shadow_other}
+use Rattle.isolation_laws.proofs.Names.{looked-shadow_same, looked-without_other, without_bare_shadowed, Ask}
+use Rattle.isolation_laws.proofs.Names.{SessionState, has_transaction, finish_asks, undo_asks, first_ask, Sweeping}
+use Rattle.isolation_laws.proofs.Names.{SweepPoint, Marking, Listing, Left, Undecided, sweep_ask, sweep_ask_at, State}
+use Rattle.isolation_laws.proofs.Names.{rows_after, pairs_after, Marked, HasShadow, IsSweptAt, IsolationInvariant}
+use Rattle.isolation_laws.proofs.Names.{MayHaveMarked, CompletedOne}
 use Rattle.system_parts.specs.declared.asks.Ask.TheVariants as ask
-use Rattle.system_parts.specs.declared.session.State.{State as SessionState}
 use Rattle.system_parts.specs.declared.session.State.TheVariants as phase
-use Rattle.system_parts.specs.SessionSteps.{has_transaction}
-use Rattle.system_parts.specs.Completion.{finish_asks, undo_asks, first_ask}
-use Rattle.system_parts.specs.Sweep.{Sweeping, SweepPoint, Table, Marking, Listing, Left, Undecided, sweep_ask, sweep_ask_at}
-use Rattle.machine.specs.State.{State}
-use Rattle.machine.specs.StoreSteps.{rows_after, pairs_after}
-use Rattle.isolation_laws.specs.Words.{Marked}
-use Rattle.isolation_laws.specs.UnderWay.{HasShadow, IsSweptAt}
-use Rattle.isolation_laws.specs.IsolationInvariant.{IsolationInvariant}
-use Rattle.machine.specs.Outcome.OutcomesOfWork.{MayHaveMarked, CompletedOne}
+use Rattle.system_parts.specs.Sweep.{Table}
 use Rattle.isolation_laws.proofs.OnceEach.{one_commit}
 
 -- ---- the table

@@ -1,23 +1,13 @@
 -- What a client has under way after its transaction or its request has ended, or a read has gone on.
-use Rattle.std.proofs.Common.{◌≡◌, ℕ, Bool, true, false, ◌||◌, is_some, ◌==◌, List, [], ◌∷◌, Option, Some, None, inl, inr, refl, sym, ◌∙◌, ap, subst}
-use Rattle.std.proofs.lemmas.Bool.{cases_Bool}
-use Rattle.std.proofs.lemmas.Option.{same_Some, none-some}
-use Rattle.history_book.specs.Members.{◌∈◌}
-use Rattle.history_book.specs.Isolation.{Committed}
-use Rattle.history_book.specs.declared.item.Item.{Item}
-use Rattle.system_parts.specs.declared.rows.Cell.{Cell}
-use Rattle.system_parts.specs.Rows.{Row}
-use Rattle.system_parts.specs.declared.asks.Ask.{Ask}
-use Rattle.system_parts.specs.declared.session.State.{State as SessionState}
+use Rattle.isolation_laws.proofs.Names.{◌≡◌, ℕ, Bool, true, false, ◌||◌, is_some, ◌==◌, List, [], ◌∷◌, Option, Some}
+use Rattle.isolation_laws.proofs.Names.{None, inl, inr, refl, sym, ◌∙◌, ap, subst, cases_Bool, same_Some, none-some}
+use Rattle.isolation_laws.proofs.Names.{◌∈◌, Committed, Item, Cell, Row, Ask, SessionState, SessionEntry, aborted_by}
+use Rattle.isolation_laws.proofs.Names.{asked_state, finish_asks, undo_asks, Settling, Reading, ReadTurn, Asks, Answers}
+use Rattle.isolation_laws.proofs.Names.{after_passed, turn_at, read_over, Nothing, Reads, Settles, Completes, Client}
+use Rattle.isolation_laws.proofs.Names.{emptied, undo_of, finish_of, client_begun, client_asked, client_freed}
+use Rattle.isolation_laws.proofs.Names.{client_aborted, client_handed, client_committed, client_opened, client_vanished}
+use Rattle.isolation_laws.proofs.Names.{unless_gone, unless_gone_by, client_read, written_keys}
 use Rattle.system_parts.specs.declared.session.State.TheVariants as phase
-use Rattle.system_parts.specs.SessionSteps.{SessionEntry, aborted_by, asked_state}
-use Rattle.system_parts.specs.Completion.{finish_asks, undo_asks}
-use Rattle.system_parts.specs.Resolve.{Settling}
-use Rattle.system_parts.specs.KeyRead.{Reading, ReadTurn, Asks, Answers, after_passed, turn_at, read_over}
-use Rattle.machine.specs.State.{Nothing, Reads, Settles, Completes, Client}
-use Rattle.machine.specs.Clients.{emptied, undo_of, finish_of, client_begun, client_asked, client_freed, client_aborted, client_handed, client_committed, client_opened, client_vanished, unless_gone, unless_gone_by}
-use Rattle.machine.specs.Events.Fetch.{client_read}
-use Rattle.isolation_laws.specs.Words.{written_keys}
 use Rattle.isolation_laws.proofs.Requests.WrittenKeys.{wrote_in_keys}
 use Rattle.isolation_laws.proofs.UnderWay.Works.{KnowsCommit, Works, works_idle, no_settling}
 

@@ -1,29 +1,15 @@
 -- What a session's client is before its next event, and what all clients have under way after a quiet one.
-use Rattle.std.proofs.Common.{◌≡◌, ℕ, Bool, IsTrue, List, Some, inl, inr, sym, ◌∙◌, ap, subst}
-use Rattle.std.specs.Prelude.{slice_set}
-use Rattle.history_book.specs.Isolation.{Committed}
-use Rattle.history_book.specs.declared.item.Item.{Item}
-use Rattle.system_parts.specs.Rows.{Row}
-use Rattle.system_parts.specs.Pairs.{Pairs}
-use Rattle.system_parts.proofs.PairLaws.{entry_stays-put_pair}
-use Rattle.stamp_base.specs.declared.stores.Mark.TheVariants.{Invalid as InvalidMark}
-use Rattle.system_parts.specs.declared.session.State.{State as SessionState}
+use Rattle.isolation_laws.proofs.Names.{◌≡◌, ℕ, Bool, IsTrue, List, Some, inl, inr, sym, ◌∙◌, ap, subst, slice_set}
+use Rattle.isolation_laws.proofs.Names.{Committed, Item, Row, Pairs, entry_stays-put_pair, InvalidMark, SessionState}
+use Rattle.isolation_laws.proofs.Names.{has_transaction, Settling, Settles, Client, State, ClientAt, Begun, Marked}
+use Rattle.isolation_laws.proofs.Names.{Live, IsOpen, CellFacts, UnderWayFacts, IsolationInvariant, one_client}
+use Rattle.isolation_laws.proofs.Names.{MayHaveMarked}
 use Rattle.system_parts.specs.declared.session.State.TheVariants as phase
-use Rattle.system_parts.specs.SessionSteps.{has_transaction}
-use Rattle.system_parts.specs.Resolve.{Settling}
-use Rattle.machine.specs.State.{Settles, Client, State}
-use Rattle.isolation_laws.specs.Words.{ClientAt, Begun, Marked}
-use Rattle.isolation_laws.specs.Pending.{Live, IsOpen}
-use Rattle.isolation_laws.specs.Cells.{CellFacts}
-use Rattle.isolation_laws.specs.UnderWay.{UnderWayFacts}
-use Rattle.isolation_laws.specs.IsolationInvariant.{IsolationInvariant}
-use Rattle.machine.proofs.Lookups.{one_client}
 use Rattle.isolation_laws.proofs.OnceEach.{begun_once}
 use Rattle.isolation_laws.proofs.Owners.{NoneInFlight, not_in_flight, open_unplaced}
 use Rattle.isolation_laws.proofs.Numbers.NumbersKept.{open_begun}
 use Rattle.isolation_laws.proofs.Requests.RequestsOfMoves.{opens}
 use Rattle.isolation_laws.proofs.Requests.ClientsAfter.{has_by}
-use Rattle.machine.specs.Outcome.OutcomesOfWork.{MayHaveMarked}
 use Rattle.isolation_laws.proofs.Stores.Calm.{Calm, calm_same}
 use Rattle.isolation_laws.proofs.Stores.CellsStay.{cells_pairs, marking_moves}
 use Rattle.isolation_laws.proofs.UnderWay.Works.{Works, AllWork, all_work, under_way, work_set, KeepsPlaced, work_on, sweeping_on}

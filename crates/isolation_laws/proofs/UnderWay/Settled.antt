@@ -1,23 +1,13 @@
 -- What a resolve decides: a commit that was placed, or, at the last look of an own commit, that there is none.
-use Rattle.std.proofs.Common.{◌≡◌, ℕ, Bool, true, false, List, Option, Some, None, inl, inr, refl, sym, ◌∙◌, ap, subst}
-use Rattle.std.proofs.lemmas.Option.{none-some}
-use Rattle.stamp_base.specs.declared.stores.Mark.{Mark}
-use Rattle.stamp_base.specs.declared.stores.Mark.TheVariants.{Committed as CommittedMark, Invalid as InvalidMark}
-use Rattle.history_book.specs.Isolation.{Committed, Wrote, last_write}
-use Rattle.history_book.specs.declared.item.Item.{Item}
-use Rattle.system_parts.specs.declared.rows.Cell.{Cell}
-use Rattle.system_parts.specs.Rows.{Row, looked}
-use Rattle.system_parts.specs.Pairs.{Pairs, mark_of}
-use Rattle.system_parts.specs.declared.resolve.SettlePoint.{SettlePoint}
+use Rattle.isolation_laws.proofs.Names.{◌≡◌, ℕ, Bool, true, false, List, Option, Some, None, inl, inr, refl, sym, ◌∙◌}
+use Rattle.isolation_laws.proofs.Names.{ap, subst, none-some, Mark, CommittedMark, InvalidMark, Committed, Wrote}
+use Rattle.isolation_laws.proofs.Names.{last_write, Item, Cell, Row, looked, Pairs, mark_of, SettlePoint, CommittedAt}
+use Rattle.isolation_laws.proofs.Names.{Dead, Settling, Goes, Decides, ask_at, settle_ask, settle_turn, settle_turn_at}
+use Rattle.isolation_laws.proofs.Names.{after_first_look, after_table, after_marking, after_last_look, State}
+use Rattle.isolation_laws.proofs.Names.{told_entry, told_mark, told_shadow, told_cell, told_by, HasRecord, cell_with}
+use Rattle.isolation_laws.proofs.Names.{HasShadow, IsShownAt, IsolationInvariant}
 use Rattle.system_parts.specs.declared.resolve.SettlePoint.TheVariants as point
 use Rattle.system_parts.specs.declared.resolve.Outcome.{Outcome}
-use Rattle.system_parts.specs.declared.resolve.Outcome.TheVariants.{Committed as CommittedAt, Dead}
-use Rattle.system_parts.specs.Resolve.{Settling, Goes, Decides, ask_at, settle_ask, settle_turn, settle_turn_at, after_first_look, after_table, after_marking, after_last_look}
-use Rattle.machine.specs.State.{State}
-use Rattle.machine.specs.StoreSteps.{told_entry, told_mark, told_shadow, told_cell, told_by}
-use Rattle.isolation_laws.specs.Words.{HasRecord, cell_with}
-use Rattle.isolation_laws.specs.UnderWay.{HasShadow, IsShownAt}
-use Rattle.isolation_laws.specs.IsolationInvariant.{IsolationInvariant}
 
 goes_no_decision : (p : SettlePoint) (o : Outcome) → Goes p ≡ Decides o → ⊥
 goes_no_decision p o same = cc

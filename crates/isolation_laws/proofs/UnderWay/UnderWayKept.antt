@@ -1,10 +1,7 @@
 -- Every outcome keeps the facts on what sessions and the janitor have under way.
-use Rattle.std.proofs.Common.{List, ◌++◌, refl}
-use Rattle.history_book.specs.declared.item.Item.{Item}
-use Rattle.machine.specs.State.{State}
-use Rattle.isolation_laws.specs.UnderWay.{UnderWayFacts}
-use Rattle.isolation_laws.specs.IsolationInvariant.{IsolationInvariant}
-use Rattle.machine.specs.Outcome.Outcomes.{Outcome, OfAskedBegin, OfAskedCommit, OfPlaced, OfOwnPlaced, OfAnsweredBegin, OfWrote, OfFetched, OfReadStepped, OfSweepListed, left_by, told_by_outcome}
+use Rattle.isolation_laws.proofs.Names.{List, ◌++◌, refl, Item, State, UnderWayFacts, IsolationInvariant, Outcome}
+use Rattle.isolation_laws.proofs.Names.{OfAskedBegin, OfAskedCommit, OfPlaced, OfOwnPlaced, OfAnsweredBegin, OfWrote}
+use Rattle.isolation_laws.proofs.Names.{OfFetched, OfReadStepped, OfSweepListed, left_by, told_by_outcome}
 use Rattle.isolation_laws.proofs.Holding.LeftAlone.{alone}
 use Rattle.isolation_laws.proofs.UnderWay.UnderWayOfRequests.{under_way_asked_begin, under_way_asked_commit, under_way_placed, under_way_answered_begin}
 use Rattle.isolation_laws.proofs.UnderWay.UnderWayOfPlacings.{under_way_own_placed}

@@ -1,18 +1,9 @@
 -- What is under way where a completion makes a step.
-use Rattle.std.proofs.Common.{◌≡◌, ℕ, if◌then◌else◌, Bool, true, false, List, [], ◌∷◌, ◌++◌, inl, inr, refl, sym, ◌∙◌, ap, subst}
-use Rattle.history_book.specs.declared.item.Item.{Item}
-use Rattle.system_parts.specs.Rows.{Row}
-use Rattle.system_parts.specs.declared.asks.Ask.{Ask}
+use Rattle.isolation_laws.proofs.Names.{◌≡◌, ℕ, if◌then◌else◌, Bool, true, false, List, [], ◌∷◌, ◌++◌, inl, inr, refl}
+use Rattle.isolation_laws.proofs.Names.{sym, ◌∙◌, ap, subst, Item, Row, Ask, undo_asks, Settling, Settles, Completes}
+use Rattle.isolation_laws.proofs.Names.{Client, State, rows_after, pairs_after, after_asks, Marked, IsUndo}
+use Rattle.isolation_laws.proofs.Names.{UnderWayFacts, IsolationInvariant, CompletedOne, completed_state}
 use Rattle.system_parts.specs.declared.session.State.TheVariants as phase
-use Rattle.system_parts.specs.Completion.{undo_asks}
-use Rattle.system_parts.specs.Resolve.{Settling}
-use Rattle.machine.specs.State.{Settles, Completes, Client, State}
-use Rattle.machine.specs.StoreSteps.{rows_after, pairs_after}
-use Rattle.machine.specs.Events.Step.{after_asks}
-use Rattle.isolation_laws.specs.Words.{Marked}
-use Rattle.isolation_laws.specs.UnderWay.{IsUndo, UnderWayFacts}
-use Rattle.isolation_laws.specs.IsolationInvariant.{IsolationInvariant}
-use Rattle.machine.specs.Outcome.OutcomesOfWork.{CompletedOne, completed_state}
 use Rattle.isolation_laws.proofs.Stores.Calm.{calm_same, calm_quiet}
 use Rattle.isolation_laws.proofs.UnderWay.Works.{Works, Finishes, KeepsPlaced}
 use Rattle.isolation_laws.proofs.UnderWay.ClientWorks.{works_freed, asks_same}

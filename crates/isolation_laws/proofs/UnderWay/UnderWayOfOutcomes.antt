@@ -1,21 +1,13 @@
 -- What is under way where a session resolves its own commit, whose outcome is open.
-use Rattle.std.proofs.Common.{◌≡◌, ℕ, Bool, true, false, List, [], ◌∷◌, ◌++◌, Option, Some, None, inl, inr, refl, sym, ◌∙◌, subst}
-use Rattle.std.proofs.lemmas.Option.{same_Some, none-some}
-use Rattle.history_book.specs.Members.{◌∈◌}
-use Rattle.history_book.specs.Isolation.{Committed, Wrote}
-use Rattle.history_book.specs.declared.item.Item.{Item}
-use Rattle.system_parts.specs.Rows.{Row}
-use Rattle.system_parts.specs.declared.asks.Ask.{Ask}
+use Rattle.isolation_laws.proofs.Names.{◌≡◌, ℕ, Bool, true, false, List, [], ◌∷◌, ◌++◌, Option, Some, None, inl, inr}
+use Rattle.isolation_laws.proofs.Names.{refl, sym, ◌∙◌, subst, same_Some, none-some, ◌∈◌, Committed, Wrote, Item, Row}
+use Rattle.isolation_laws.proofs.Names.{Ask, Settling, SettleTurn, Goes, Decides, own_settling, settle_ask, settle_turn}
+use Rattle.isolation_laws.proofs.Names.{Nothing, Settles, Completes, Client, State, told_by, client_settled}
+use Rattle.isolation_laws.proofs.Names.{own_resolve, written_keys, IsShownAt, IsOwnResolve, UnderWayFacts}
+use Rattle.isolation_laws.proofs.Names.{IsolationInvariant, OutcomeStepped, outcome_state, OutcomeFailed}
+use Rattle.isolation_laws.proofs.Names.{outcome_failed_state}
 use Rattle.system_parts.specs.declared.resolve.Outcome.TheVariants as outcome
 use Rattle.system_parts.specs.declared.session.State.TheVariants as phase
-use Rattle.system_parts.specs.Resolve.{Settling, SettleTurn, Goes, Decides, own_settling, settle_ask, settle_turn}
-use Rattle.machine.specs.State.{Nothing, Settles, Completes, Client, State}
-use Rattle.machine.specs.StoreSteps.{told_by}
-use Rattle.machine.specs.Events.Step.{client_settled, own_resolve}
-use Rattle.isolation_laws.specs.Words.{written_keys}
-use Rattle.isolation_laws.specs.UnderWay.{IsShownAt, IsOwnResolve, UnderWayFacts}
-use Rattle.isolation_laws.specs.IsolationInvariant.{IsolationInvariant}
-use Rattle.machine.specs.Outcome.OutcomesOfWork.{OutcomeStepped, outcome_state, OutcomeFailed, outcome_failed_state}
 use Rattle.isolation_laws.proofs.Stores.Calm.{calm_quiet}
 use Rattle.isolation_laws.proofs.Requests.WrittenKeys.{key_was_written, first_key_in}
 use Rattle.isolation_laws.proofs.UnderWay.Works.{Works, no_settling}

@@ -1,14 +1,8 @@
 -- What is under way where a session places its own commit, or finds that it never will be placed.
-use Rattle.std.proofs.Common.{ℕ, List, ◌++◌, inl, inr, refl, sym, ◌∙◌, subst}
-use Rattle.history_book.specs.Isolation.{Committed}
-use Rattle.history_book.specs.declared.item.Item.{Item}
-use Rattle.system_parts.specs.declared.instance.Settled.{Settled}
-use Rattle.machine.specs.State.{State}
-use Rattle.isolation_laws.specs.UnderWay.{UnderWayFacts}
-use Rattle.isolation_laws.specs.IsolationInvariant.{IsolationInvariant}
+use Rattle.isolation_laws.proofs.Names.{ℕ, List, ◌++◌, inl, inr, refl, sym, ◌∙◌, subst, Committed, Item, Settled, State}
+use Rattle.isolation_laws.proofs.Names.{UnderWayFacts, IsolationInvariant, answered_client, AtPlacing, OwnPlaced}
+use Rattle.isolation_laws.proofs.Names.{own_placed_state, own_placed_items, OwnNotPlaced, own_not_placed_state}
 use Rattle.isolation_laws.proofs.Owners.{pending_unplaced}
-use Rattle.machine.specs.Outcome.OutcomesOfStamps.{answered_client}
-use Rattle.machine.specs.Outcome.OutcomesOfPlacings.{AtPlacing, OwnPlaced, own_placed_state, own_placed_items, OwnNotPlaced, own_not_placed_state}
 use Rattle.isolation_laws.proofs.Numbers.Placings.{is_placing_now, own_in_flight, own_placing, by_its_session}
 use Rattle.isolation_laws.proofs.Requests.SettledNow.{Places, places}
 use Rattle.isolation_laws.proofs.Stores.Calm.{calm_quiet}

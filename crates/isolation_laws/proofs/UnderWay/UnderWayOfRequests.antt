@@ -1,37 +1,23 @@
 -- What is under way where a request is asked, is over, or is answered, and where a commit is placed.
-use Rattle.std.proofs.Common.{◌≡◌, ℕ, true, IsTrue, List, [], ◌∷◌, ◌++◌, append_assoc, Some, ◌⊎◌, inl, inr, refl, sym, ◌∙◌, ap, subst}
-use Rattle.std.proofs.lemmas.Option.{same_Some}
-use Rattle.stamp_base.specs.declared.stores.Mark.TheVariants.{Committed as CommittedMark, Invalid as InvalidMark}
-use Rattle.history_book.specs.Isolation.{Committed, last_write}
-use Rattle.history_book.specs.declared.item.Item.{Item}
-use Rattle.history_book.specs.declared.item.Item.TheVariants.{AskBegin, Begin as BeginItem, Placed}
-use Rattle.system_parts.specs.Rows.{Row}
-use Rattle.system_parts.proofs.PairLaws.{entry_stays-put_pair}
-use Rattle.system_parts.specs.declared.session.State.{State as SessionState}
+use Rattle.isolation_laws.proofs.Names.{◌≡◌, ℕ, true, IsTrue, List, [], ◌∷◌, ◌++◌, append_assoc, Some, ◌⊎◌, inl, inr}
+use Rattle.isolation_laws.proofs.Names.{refl, sym, ◌∙◌, ap, subst, same_Some, CommittedMark, InvalidMark, Committed}
+use Rattle.isolation_laws.proofs.Names.{last_write, Item, AskBegin, BeginItem, Placed, Row, entry_stays-put_pair}
+use Rattle.isolation_laws.proofs.Names.{SessionState, has_transaction, Held, Request, Commit, Settled, InstanceEntry}
+use Rattle.isolation_laws.proofs.Names.{held_of, session_of, Client, State, client_begun, client_asked, client_freed}
+use Rattle.isolation_laws.proofs.Names.{client_aborted, client_opened, client_handed, unless_gone, after_refusal}
+use Rattle.isolation_laws.proofs.Names.{after_loss, InstanceAt, ClientAt, Begun, Waits, Taken, IsPending, WaitsFor}
+use Rattle.isolation_laws.proofs.Names.{IsSettled, AllQuiet, UnderWayFacts, IsolationInvariant, held_by, Crashed}
+use Rattle.isolation_laws.proofs.Names.{crashed_state, AskedBegin, asked_begin_state, asked_begin_items, AskedCommit}
+use Rattle.isolation_laws.proofs.Names.{asked_commit_state, Ended, ended_state, AnsweredBegin, answered_begin_state}
+use Rattle.isolation_laws.proofs.Names.{answered_begin_items, answered_client, AnsweredCommit, answered_commit_state}
+use Rattle.isolation_laws.proofs.Names.{HandedOver, handed_over_state}
 use Rattle.system_parts.specs.declared.session.State.TheVariants as phase
-use Rattle.system_parts.specs.SessionSteps.{has_transaction}
-use Rattle.system_parts.specs.declared.instance.Held.{Held}
 use Rattle.system_parts.specs.declared.instance.Progress.TheVariants as progress
-use Rattle.system_parts.specs.declared.instance.Request.{Request}
-use Rattle.system_parts.specs.declared.instance.Request.TheVariants.{Begin, Commit}
-use Rattle.system_parts.specs.declared.instance.Settled.{Settled}
+use Rattle.system_parts.specs.declared.instance.Request.TheVariants.{Begin}
 use Rattle.system_parts.specs.declared.instance.Settled.TheVariants as how
-use Rattle.system_parts.specs.Instance.{InstanceEntry, held_of, session_of}
-use Rattle.machine.specs.State.{Client, State}
-use Rattle.machine.specs.Clients.{client_begun, client_asked, client_freed, client_aborted, client_opened, client_handed, unless_gone, after_refusal}
-use Rattle.machine.specs.Events.Crash.{after_loss}
-use Rattle.isolation_laws.specs.Words.{InstanceAt, ClientAt, Begun}
-use Rattle.isolation_laws.specs.Pending.{Waits, Taken, IsPending}
-use Rattle.isolation_laws.specs.Requests.{WaitsFor, IsSettled}
-use Rattle.machine.specs.Quiet.{AllQuiet}
-use Rattle.isolation_laws.specs.UnderWay.{UnderWayFacts}
-use Rattle.isolation_laws.specs.IsolationInvariant.{IsolationInvariant}
-use Rattle.machine.proofs.Lookups.{held_by}
 use Rattle.isolation_laws.proofs.Pushed.{last_write-quiet}
 use Rattle.isolation_laws.proofs.Owners.{NoneInFlight, not_in_flight, pending_unplaced}
 use Rattle.isolation_laws.proofs.Requests.OpenAfter.{crashed_at}
-use Rattle.machine.specs.Outcome.OutcomesOfRequests.{Crashed, crashed_state, AskedBegin, asked_begin_state, asked_begin_items, AskedCommit, asked_commit_state, Ended, ended_state}
-use Rattle.machine.specs.Outcome.OutcomesOfStamps.{AnsweredBegin, answered_begin_state, answered_begin_items, answered_client, AnsweredCommit, answered_commit_state, HandedOver, handed_over_state}
 use Rattle.isolation_laws.proofs.Requests.SettledNow.{Places, places}
 use Rattle.isolation_laws.proofs.Stores.Calm.{Calm, calm_same, calm_quiet, calm_push, last_write-other}
 use Rattle.isolation_laws.proofs.Stores.CellsMove.{IsPlacing}

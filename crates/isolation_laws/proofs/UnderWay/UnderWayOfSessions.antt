@@ -1,28 +1,19 @@
 -- What is under way where a session ends, sets an offered shadow or reads.
-use Rattle.std.proofs.Common.{◌≡◌, ℕ, nat_lt, if◌then◌else◌, Bool, true, false, List, ◌++◌, Option, Some, None, ◌⊎◌, inl, inr, refl, sym, ◌∙◌, ap, subst}
-use Rattle.std.proofs.lemmas.Bool.{cases_Bool}
-use Rattle.std.proofs.lemmas.Option.{same_Some, none-some}
-use Rattle.history_book.specs.Isolation.{Committed}
-use Rattle.history_book.specs.declared.item.Item.{Item}
-use Rattle.system_parts.specs.Rows.{Row, with_shadow}
-use Rattle.system_parts.specs.declared.known.Known.{Known}
+use Rattle.isolation_laws.proofs.Names.{◌≡◌, ℕ, nat_lt, if◌then◌else◌, Bool, true, false, List, ◌++◌, Option, Some}
+use Rattle.isolation_laws.proofs.Names.{None, ◌⊎◌, inl, inr, refl, sym, ◌∙◌, ap, subst, cases_Bool, same_Some}
+use Rattle.isolation_laws.proofs.Names.{none-some, Committed, Item, Row, with_shadow, Known, Told, SettleTurn, Goes}
+use Rattle.isolation_laws.proofs.Names.{Decides, settle_turn, Reading, ReadTurn, Answers, settling_of, found_by}
+use Rattle.isolation_laws.proofs.Names.{read_by, read_ask, Cache, put_fresh, outcome_known, AnyCache, Recalls}
+use Rattle.isolation_laws.proofs.Names.{over_holds, told_holds, UnderWay, Nothing, Client, State, client_freed}
+use Rattle.isolation_laws.proofs.Names.{client_aborted, client_vanished, told_by, marks_every, client_read}
+use Rattle.isolation_laws.proofs.Names.{UnderWayFacts, IsolationInvariant, EndedReadOnly, read_only_state, Aborted}
+use Rattle.isolation_laws.proofs.Names.{aborted_state, Vanished, vanished_state, Healed, healed_state, Fetched}
+use Rattle.isolation_laws.proofs.Names.{fetched_turn, fetched_client, fetched_state, fetched_items, ReadDropped}
+use Rattle.isolation_laws.proofs.Names.{read_dropped_state, ReadStepped, read_turn, read_client, read_stepped_state}
+use Rattle.isolation_laws.proofs.Names.{read_stepped_items}
 use Rattle.system_parts.specs.declared.known.Known.TheVariants as known
-use Rattle.system_parts.specs.declared.asks.Told.{Told}
 use Rattle.system_parts.specs.declared.resolve.Outcome.TheVariants as outcome
 use Rattle.system_parts.specs.declared.session.State.TheVariants as phase
-use Rattle.system_parts.specs.Resolve.{SettleTurn, Goes, Decides, settle_turn}
-use Rattle.system_parts.specs.KeyRead.{Reading, ReadTurn, Answers, settling_of, found_by, read_by, read_ask}
-use Rattle.system_parts.specs.Cache.{Cache, put_fresh}
-use Rattle.system_parts.specs.Recalled.{outcome_known}
-use Rattle.system_parts.proofs.RecalledLemmas.{AnyCache, Recalls, over_holds, told_holds}
-use Rattle.machine.specs.State.{UnderWay, Nothing, Client, State}
-use Rattle.machine.specs.Clients.{client_freed, client_aborted, client_vanished}
-use Rattle.machine.specs.StoreSteps.{told_by}
-use Rattle.machine.specs.Events.Fetch.{marks_every, client_read}
-use Rattle.isolation_laws.specs.UnderWay.{UnderWayFacts}
-use Rattle.isolation_laws.specs.IsolationInvariant.{IsolationInvariant}
-use Rattle.machine.specs.Outcome.OutcomesOfSessions.{EndedReadOnly, read_only_state, Aborted, aborted_state, Vanished, vanished_state, Healed, healed_state}
-use Rattle.machine.specs.Outcome.OutcomesOfWork.{Fetched, fetched_turn, fetched_client, fetched_state, fetched_items, ReadDropped, read_dropped_state, ReadStepped, read_turn, read_client, read_stepped_state, read_stepped_items}
 use Rattle.isolation_laws.proofs.Stores.Calm.{calm_same, calm_quiet, calm_turn}
 use Rattle.isolation_laws.proofs.UnderWay.Works.{Works, KeepsPlaced, no_settling}
 use Rattle.isolation_laws.proofs.UnderWay.ClientWorks.{IsPlain, works_freed, works_vanished, works_aborted, plain_open, works_plain, plain_reading, TurnHeals, read_over_heals, works_read}

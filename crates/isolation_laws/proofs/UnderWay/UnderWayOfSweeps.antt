@@ -1,30 +1,16 @@
 -- What is under way where a sweep is opened, makes a step, lists the keys or fails.
-use Rattle.std.proofs.Common.{◌≡◌, ℕ, ◌==◌, nat_lt, List, [], ◌∷◌, ◌++◌, Option, Some, None, inl, inr, refl, sym, ◌∙◌, ap, subst}
-use Rattle.std.proofs.lemmas.List.{append-nil}
-use Rattle.std.proofs.lemmas.Bool.{cases_Bool, eq-eqb}
-use Rattle.std.proofs.lemmas.Option.{same_Some, none-some}
-use Rattle.stamp_base.specs.declared.stores.Mark.{Mark}
-use Rattle.stamp_base.specs.declared.stores.Mark.TheVariants.{Committed as CommittedMark, Invalid as InvalidMark}
-use Rattle.history_book.specs.Members.{◌∈◌}
-use Rattle.history_book.specs.declared.item.Actor.TheVariants.{Janitor}
-use Rattle.history_book.specs.declared.item.StoreStep.TheVariants.{Keys as KeysStep}
-use Rattle.history_book.specs.declared.item.Item.{Item}
-use Rattle.history_book.specs.declared.item.Item.TheVariants.{Placed, Step}
-use Rattle.history_book.proofs.MemberLemmas.{in_last}
-use Rattle.system_parts.specs.declared.rows.Cell.{Cell}
-use Rattle.system_parts.specs.Rows.{Row, looked, keys_of_version}
-use Rattle.system_parts.specs.Pairs.{Pairs, mark_of, put_pair}
-use Rattle.system_parts.proofs.RowLaws.{is_row-cases}
-use Rattle.system_parts.proofs.PairLaws.{entry_or, mark_of-put_pair}
-use Rattle.system_parts.specs.declared.asks.Ask.{Ask}
+use Rattle.isolation_laws.proofs.Names.{◌≡◌, ℕ, ◌==◌, nat_lt, List, [], ◌∷◌, ◌++◌, Option, Some, None, inl, inr, refl}
+use Rattle.isolation_laws.proofs.Names.{sym, ◌∙◌, ap, subst, append-nil, cases_Bool, eq-eqb, same_Some, none-some, Mark}
+use Rattle.isolation_laws.proofs.Names.{CommittedMark, InvalidMark, ◌∈◌, Janitor, KeysStep, Item, Placed, Step, in_last}
+use Rattle.isolation_laws.proofs.Names.{Cell, Row, looked, keys_of_version, Pairs, mark_of, put_pair, is_row-cases}
+use Rattle.isolation_laws.proofs.Names.{entry_or, mark_of-put_pair, Ask, first_ask, SweepPoint, Marking, Listing, Left}
+use Rattle.isolation_laws.proofs.Names.{Undecided, Sweeping, sweep_open, sweep_ask, sweep_ask_at, sweep_after_table}
+use Rattle.isolation_laws.proofs.Names.{sweep_after_marking, sweep_point_after, sweep_told, sweep_point_listed}
+use Rattle.isolation_laws.proofs.Names.{sweep_listed, State, rows_after, pairs_after, told_entry, told_mark, told_by}
+use Rattle.isolation_laws.proofs.Names.{still_open, sweep_left, IsSweptAt, IsSweeping, UnderWayFacts}
+use Rattle.isolation_laws.proofs.Names.{IsolationInvariant}
 use Rattle.system_parts.specs.declared.asks.Ask.TheVariants as ask
-use Rattle.system_parts.specs.Completion.{first_ask}
-use Rattle.system_parts.specs.Sweep.{SweepPoint, Table, Marking, Listing, Left, Undecided, Sweeping, sweep_open, sweep_ask, sweep_ask_at, sweep_after_table, sweep_after_marking, sweep_point_after, sweep_told, sweep_point_listed, sweep_listed}
-use Rattle.machine.specs.State.{State}
-use Rattle.machine.specs.StoreSteps.{rows_after, pairs_after, told_entry, told_mark, told_by}
-use Rattle.machine.specs.Events.SweepStep.{still_open, sweep_left}
-use Rattle.isolation_laws.specs.UnderWay.{IsSweptAt, IsSweeping, UnderWayFacts}
-use Rattle.isolation_laws.specs.IsolationInvariant.{IsolationInvariant}
+use Rattle.system_parts.specs.Sweep.{Table}
 use Rattle.machine.specs.Outcome.OutcomesOfSweeps.{SweepOpened, sweep_opened_state, SweptOne, swept_state, SweepListed, sweep_listed_state, sweep_listed_items, SweepFailed, sweep_failed_state}
 use Rattle.isolation_laws.proofs.Stores.Calm.{Calm, calm_same, calm_quiet, calm_push}
 use Rattle.isolation_laws.proofs.UnderWay.Works.{AllWork, all_work, under_way, KeepsPlaced, swept_at_on, sweeping_none, work_on}

@@ -1,23 +1,13 @@
 -- What one client has under way, and that it stays right where the history goes on and rows with shadows stay.
-use Rattle.std.proofs.Common.{◌≡◌, ℕ, Bool, true, false, List, Option, Some, None, ◌⊎◌, inl, inr, sym, ◌∙◌, subst}
-use Rattle.std.specs.Prelude.{slice_set}
-use Rattle.std.proofs.lemmas.Option.{none-some}
-use Rattle.stamp_base.specs.declared.stores.Mark.TheVariants.{Committed as CommittedMark, Invalid as InvalidMark}
-use Rattle.history_book.specs.Isolation.{Committed, last_write}
-use Rattle.history_book.specs.declared.item.Item.{Item}
-use Rattle.history_book.specs.declared.item.Item.TheVariants.{Placed}
-use Rattle.system_parts.specs.Rows.{Row}
-use Rattle.system_parts.specs.Pairs.{Pairs}
-use Rattle.system_parts.specs.declared.asks.Ask.{Ask}
-use Rattle.system_parts.specs.declared.resolve.SettlePoint.{SettlePoint}
+use Rattle.isolation_laws.proofs.Names.{◌≡◌, ℕ, Bool, true, false, List, Option, Some, None, ◌⊎◌, inl, inr, sym, ◌∙◌}
+use Rattle.isolation_laws.proofs.Names.{subst, slice_set, none-some, CommittedMark, InvalidMark, Committed, last_write}
+use Rattle.isolation_laws.proofs.Names.{Item, Placed, Row, Pairs, Ask, SettlePoint, Settling, SweepPoint, Marking}
+use Rattle.isolation_laws.proofs.Names.{Listing, Left, Undecided, Sweeping, Nothing, Settles, Completes, Client}
+use Rattle.isolation_laws.proofs.Names.{ClientAt, Marked, HasShadow, IsFinish, IsUndo, IsShownAt, IsOwnResolve}
+use Rattle.isolation_laws.proofs.Names.{IsSweptAt, IsSweeping, UnderWayFacts, client_set}
 use Rattle.system_parts.specs.declared.resolve.SettlePoint.TheVariants as point
 use Rattle.system_parts.specs.declared.session.State.TheVariants as phase
-use Rattle.system_parts.specs.Resolve.{Settling}
-use Rattle.system_parts.specs.Sweep.{SweepPoint, Table, Marking, Listing, Left, Undecided, Sweeping}
-use Rattle.machine.specs.State.{Nothing, Settles, Completes, Client}
-use Rattle.isolation_laws.specs.Words.{ClientAt, Marked}
-use Rattle.isolation_laws.specs.UnderWay.{HasShadow, IsFinish, IsUndo, IsShownAt, IsOwnResolve, IsSweptAt, IsSweeping, UnderWayFacts}
-use Rattle.machine.proofs.Lookups.{client_set}
+use Rattle.system_parts.specs.Sweep.{Table}
 use Rattle.isolation_laws.proofs.Requests.CommitsInFlight.{GoesOn}
 use Rattle.isolation_laws.proofs.Stores.Calm.{listed_goes_on}
 

@@ -1,28 +1,16 @@
 -- The cells, the commit table and what is under way where a session writes, and where its write fails.
 use Rattle.isolation_laws.proofs.Requests.ClientMoves.{at_work_after}
-use Rattle.machine.specs.Outcome.Outcomes.{OfWriteFailed}
-use Rattle.std.proofs.Common.{◌≡◌, ℕ, List, ◌++◌, Option, Some, None, ◌⊎◌, inl, inr, refl, sym, ◌∙◌, ap, subst}
-use Rattle.std.proofs.lemmas.Option.{same_Some, none-some}
-use Rattle.history_book.specs.Isolation.{Committed, last_write}
-use Rattle.history_book.specs.declared.item.Item.{Item}
-use Rattle.system_parts.specs.declared.rows.Cell.{Cell}
-use Rattle.system_parts.specs.Rows.{Row, looked, put_row}
-use Rattle.machine.specs.State.{Client, State}
-use Rattle.machine.specs.Clients.{client_aborted}
-use Rattle.machine.specs.Events.Write.{client_wrote}
-use Rattle.isolation_laws.specs.Words.{cell_with}
-use Rattle.isolation_laws.specs.Pending.{Live}
-use Rattle.isolation_laws.specs.Cells.{CellFacts}
-use Rattle.isolation_laws.specs.UnderWay.{UnderWayFacts}
-use Rattle.isolation_laws.specs.IsolationInvariant.{IsolationInvariant}
-use Rattle.machine.proofs.Lookups.{client_set}
+use Rattle.isolation_laws.proofs.Names.{OfWriteFailed, ◌≡◌, ℕ, List, ◌++◌, Option, Some, None, ◌⊎◌, inl, inr, refl, sym}
+use Rattle.isolation_laws.proofs.Names.{◌∙◌, ap, subst, same_Some, none-some, Committed, last_write, Item, Cell, Row}
+use Rattle.isolation_laws.proofs.Names.{looked, put_row, Client, State, client_aborted, client_wrote, cell_with, Live}
+use Rattle.isolation_laws.proofs.Names.{CellFacts, UnderWayFacts, IsolationInvariant, client_set, AtOpen, WroteOne}
+use Rattle.isolation_laws.proofs.Names.{wrote_state, wrote_items, WriteFailed, write_failed_state}
 use Rattle.isolation_laws.proofs.OnceEach.{begun_once}
 use Rattle.isolation_laws.proofs.Owners.{open_not_pending}
 use Rattle.isolation_laws.proofs.Requests.PendingAfter.{fewer_pending}
 use Rattle.isolation_laws.proofs.Requests.PendingFewer.{same_served, fewer_is_pending}
 use Rattle.isolation_laws.proofs.Requests.ClientsOpen.{aborted_rests}
 use Rattle.isolation_laws.proofs.Requests.OpenAfter.{at_work_wrote}
-use Rattle.machine.specs.Outcome.OutcomesOfSessions.{AtOpen, WroteOne, wrote_state, wrote_items, WriteFailed, write_failed_state}
 use Rattle.isolation_laws.proofs.Requests.RequestsOfMoves.{opens}
 use Rattle.isolation_laws.proofs.Requests.CommitsInFlight.{goes_on}
 use Rattle.isolation_laws.proofs.Stores.LiveAfter.{live_by_clients}

@@ -1,15 +1,8 @@
 -- Items whose refusals are due: none, one, and any that are due whatever stands before them.
-use Rattle.std.proofs.Common.{◌≡◌, ℕ, zero, suc, Bool, true, false, if◌then◌else◌, List, [], ◌∷◌, Some, inl, inr, refl, subst}
-use Rattle.std.specs.Prelude.{slice_get, take, All}
-use Rattle.std.proofs.lemmas.Option.{same_Some}
-use Rattle.std.proofs.lemmas.List.Elements.{All-nil, All-cons, All-head, All-tail}
-use Rattle.history_book.proofs.MemberLemmas.{AtEach-push}
-use Rattle.history_book.specs.declared.cause.Cause.{Cause}
-use Rattle.history_book.specs.declared.item.Actor.{Actor}
-use Rattle.history_book.specs.declared.item.Item.{Item}
+use Rattle.machine.proofs.Names.{◌≡◌, ℕ, zero, suc, Bool, true, false, if◌then◌else◌, List, [], ◌∷◌, Some, inl, inr}
+use Rattle.machine.proofs.Names.{refl, subst, slice_get, take, All, same_Some, All-nil, All-cons, All-head, All-tail}
+use Rattle.machine.proofs.Names.{AtEach-push, Cause, Actor, Item, State, DueNow, NeedsNoRow, Due, AreDue}
 use Rattle.history_book.specs.declared.item.Item.TheVariants as item
-use Rattle.machine.specs.State.{State}
-use Rattle.machine.specs.Due.{DueNow, NeedsNoRow, Due, AreDue}
 
 -- ---- due whatever stands before
 abbrev pub DueAnyway : State → Item → Type 0

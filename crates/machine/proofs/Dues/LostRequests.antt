@@ -1,23 +1,12 @@
 -- What a crash tells the sessions whose requests it has lost is due.
-use Rattle.std.proofs.Common.{◌≡◌, ℕ, zero, suc, List, [], ◌∷◌, Option, Some, None, inl, inr, refl, sym, ap, subst}
-use Rattle.std.specs.Prelude.{slice_get, slice_index_or, take, All}
-use Rattle.std.proofs.lemmas.Option.{same_Some}
-use Rattle.std.proofs.lemmas.List.Elements.{All-nil, All-cons, All-take, All-head, All-tail, All-append}
-use Rattle.history_book.specs.declared.item.Actor.TheVariants.{Session}
-use Rattle.history_book.specs.declared.item.Item.{Item}
+use Rattle.machine.proofs.Names.{◌≡◌, ℕ, zero, suc, List, [], ◌∷◌, Option, Some, None, inl, inr, refl, sym, ap, subst}
+use Rattle.machine.proofs.Names.{slice_get, slice_index_or, take, All, same_Some, All-nil, All-cons, All-take, All-head}
+use Rattle.machine.proofs.Names.{All-tail, All-append, Session, Item, SessionState, Held, Request, Begin, Commit}
+use Rattle.machine.proofs.Names.{InstanceEntry, session_of, Client, State, loss_heard, loss_items, crashed_items}
+use Rattle.machine.proofs.Names.{all_crashed_items, InstanceAt, AreOwnRequests, cause_of_loss, IsRefusal, Due, AreDue}
 use Rattle.history_book.specs.declared.item.Item.TheVariants as item
-use Rattle.system_parts.specs.declared.session.State.{State as SessionState}
 use Rattle.system_parts.specs.declared.session.State.TheVariants as phase
-use Rattle.system_parts.specs.declared.instance.Held.{Held}
-use Rattle.system_parts.specs.declared.instance.Request.{Request}
-use Rattle.system_parts.specs.declared.instance.Request.TheVariants.{Begin, Commit}
-use Rattle.system_parts.specs.Instance.{InstanceEntry, session_of}
-use Rattle.machine.specs.State.{Client, State}
-use Rattle.machine.specs.Events.Crash.{loss_heard, loss_items, crashed_items, all_crashed_items}
-use Rattle.machine.specs.FoundAt.{InstanceAt}
-use Rattle.machine.specs.Fits.{AreOwnRequests}
 use Rattle.machine.proofs.Lookups.{held_by}
-use Rattle.machine.specs.Due.{cause_of_loss, IsRefusal, Due, AreDue}
 
 -- the item tells a session of a request among these that was lost
 pub record TellsLoss (node term : ℕ) (requests : List (Option Held)) (x : Item) : Type 0 where

@@ -1,22 +1,10 @@
 -- What a session tells of the placing of its own commit is due.
-use Rattle.std.proofs.Common.{◌≡◌, ℕ, List, [], ◌∷◌, ◌++◌, Option, Some, None, inl, inr, refl}
-use Rattle.stamp_base.specs.declared.stores.Mark.{Mark}
-use Rattle.stamp_base.specs.declared.stores.Store.TheVariants.{Table}
-use Rattle.port_io.specs.declared.weather.Fate.{Fate}
-use Rattle.port_io.specs.declared.weather.Fate.TheVariants.{Works, FailsUnchanged, FailsApplied}
-use Rattle.history_book.specs.declared.cause.Cause.{Cause}
+use Rattle.machine.proofs.Names.{◌≡◌, ℕ, List, [], ◌∷◌, ◌++◌, Option, Some, None, inl, inr, refl, Mark, Table, Fate}
+use Rattle.machine.proofs.Names.{Works, FailsUnchanged, FailsApplied, Cause, Session, PutFound, Item, AtEach-push}
+use Rattle.machine.proofs.Names.{Pairs, mark_of, Client, State, place_by, Places, HowPlaced, Due, AreDue, StepsFit}
 use Rattle.history_book.specs.declared.cause.Cause.TheVariants as cause
-use Rattle.history_book.specs.declared.item.Actor.TheVariants.{Session}
-use Rattle.history_book.specs.declared.item.StoreStep.TheVariants.{PutFound}
-use Rattle.history_book.specs.declared.item.Item.{Item}
 use Rattle.history_book.specs.declared.item.Item.TheVariants as item
-use Rattle.history_book.proofs.MemberLemmas.{AtEach-push}
-use Rattle.system_parts.specs.Pairs.{Pairs, mark_of}
-use Rattle.machine.specs.State.{Client, State}
-use Rattle.machine.specs.Events.Place.{place_by}
-use Rattle.machine.specs.Due.{Places, HowPlaced, Due, AreDue}
 use Rattle.machine.proofs.Dues.DueItems.{two_free, all_due, plain_due}
-use Rattle.machine.specs.Fits.{StepsFit}
 
 -- what the session tells last of a placing, behind items that are due
 last_due : (w : State) (s start commit : ℕ) (told : List Item) (why : Cause) → Places w s start commit → AreDue w told → HowPlaced w s start commit told why → AreDue w (told ++ item.Refused (Session s) why ∷ [])

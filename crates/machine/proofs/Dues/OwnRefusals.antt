@@ -1,24 +1,14 @@
 -- A session is refused by its own state: it has vanished, or the cause needs nothing shown.
-use Rattle.std.proofs.Common.{◌≡◌, ℕ, ◌||◌, Bool, true, false, if◌then◌else◌, [], ◌∷◌, Option, Some, None, ◌⊎◌, inl, inr, refl, sym, subst}
-use Rattle.std.specs.Prelude.{length, nat_lt}
-use Rattle.std.specs.Option.{option_or}
-use Rattle.std.proofs.lemmas.Option.{same_Some}
+use Rattle.machine.proofs.Names.{◌≡◌, ℕ, ◌||◌, Bool, true, false, if◌then◌else◌, [], ◌∷◌, Option, Some, None, ◌⊎◌, inl}
+use Rattle.machine.proofs.Names.{inr, refl, sym, subst, length, nat_lt, option_or, same_Some, SetupNumbers, Cause}
+use Rattle.machine.proofs.Names.{Session, SessionState, step_refusal, begin_refusal, work_refusal, vanish_refusal}
+use Rattle.machine.proofs.Names.{key_refusal, has_key, Client, State, is_reading, keeps_read, reads_refusal, ClientAt}
+use Rattle.machine.proofs.Names.{NeedsNoRow, AreDue, no_offer_cause}
 use Rattle.stamp_base.specs.declared.limits.TheConstants.{KEY_LIMIT}
-use Rattle.stamp_base.specs.SetupNumbers.{SetupNumbers}
-use Rattle.history_book.specs.declared.cause.Cause.{Cause}
 use Rattle.history_book.specs.declared.cause.Cause.TheVariants as cause
-use Rattle.history_book.specs.declared.item.Actor.TheVariants.{Session}
 use Rattle.history_book.specs.declared.item.Item.TheVariants as item
-use Rattle.system_parts.specs.declared.session.State.{State as SessionState}
 use Rattle.system_parts.specs.declared.session.State.TheVariants as phase
-use Rattle.system_parts.specs.SessionSteps.{step_refusal, begin_refusal, work_refusal, vanish_refusal, key_refusal, has_key}
-use Rattle.machine.specs.State.{Client, State}
-use Rattle.machine.specs.Clients.{is_reading}
-use Rattle.machine.specs.Events.Fetch.{keeps_read, reads_refusal}
-use Rattle.machine.specs.FoundAt.{ClientAt}
-use Rattle.machine.specs.Due.{NeedsNoRow, AreDue}
 use Rattle.machine.proofs.Dues.DueItems.{refusal_due, no_row_due}
-use Rattle.machine.specs.Events.Heal.{no_offer_cause}
 
 -- it has vanished, or the cause has no row
 abbrev pub IsOwn : SessionState → Cause → Type 0

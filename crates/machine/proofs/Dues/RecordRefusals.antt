@@ -1,14 +1,8 @@
 -- What the master record refuses: a take by its lease or its ceiling, and what an instance keeps of a refusal.
-use Rattle.machine.specs.Due.{DueToNode, DueEarly, DueSpent}
-use Rattle.std.proofs.Common.{inl, inr, refl, sym, subst, ◌≡◌, ℕ, ◌+◌, ◌<◌, ◌^◌, Bool, true, false, if◌then◌else◌, Some, None, arith}
-use Rattle.history_book.specs.declared.cause.Cause.{Cause}
-use Rattle.std.specs.Prelude.{nat_lt, is_some}
-use Rattle.std.proofs.lemmas.Bool.{and_parts, ltb-true}
+use Rattle.machine.proofs.Names.{DueToNode, DueEarly, DueSpent, inl, inr, refl, sym, subst, ◌≡◌, ℕ, ◌+◌, ◌<◌, ◌^◌, Bool}
+use Rattle.machine.proofs.Names.{true, false, if◌then◌else◌, Some, None, arith, Cause, nat_lt, is_some, and_parts}
+use Rattle.machine.proofs.Names.{ltb-true, take_refused, is_early, is_spent, State, rules_of, Stopped}
 use Rattle.system_parts.specs.declared.record.TakeRefused.TheVariants as take
-use Rattle.system_parts.specs.Record.{take_refused, is_early, is_spent}
-use Rattle.machine.specs.State.{State}
-use Rattle.machine.specs.Events.Take.{rules_of}
-use Rattle.machine.specs.Outcome.OutcomesOfRecord.{Stopped}
 
 pub early_spent : (early spent : Bool) (reading until ceiling at found : ℕ) → (if early then Some (take.Early reading until) else if spent then Some (take.Spent ceiling) else None) ≡ Some (take.Early at found) → (early ≡ true) × (reading ≡ at) × (until ≡ found)
 early_spent true spent reading until ceiling at found is = (refl, cc, cc)

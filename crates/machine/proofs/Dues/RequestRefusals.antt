@@ -1,27 +1,13 @@
 -- What a request is refused by: the lease or the epoch of its instance, the verdict on it, and the end of the stamps.
-use Rattle.std.proofs.Common.{◌∙◌, ap, ◌≡◌, ℕ, ◌≤◌, Bool, true, false, if◌then◌else◌, List, [], ◌∷◌, Some, None, refl, sym, subst}
-use Rattle.machine.specs.Outcome.OutcomesOfStamps.{answered_item}
-use Rattle.std.specs.Prelude.{nat_lt, nat_le}
-use Rattle.std.proofs.lemmas.Bool.{ltb-false, leb-true}
-use Rattle.std.proofs.lemmas.Option.{same_Some}
-use Rattle.history_book.specs.declared.cause.Cause.{Cause}
+use Rattle.machine.proofs.Names.{◌∙◌, ap, ◌≡◌, ℕ, ◌≤◌, Bool, true, false, if◌then◌else◌, List, [], ◌∷◌, Some, None}
+use Rattle.machine.proofs.Names.{refl, sym, subst, answered_item, nat_lt, nat_le, ltb-false, leb-true, same_Some, Cause}
+use Rattle.machine.proofs.Names.{Session, Verdict, Free, Held, Progress, Request, Begin, Commit, InstanceEntry, held_of}
+use Rattle.machine.proofs.Names.{least_unsettled, epoch_refusal, Client, State, both_verdict, draw_item, InstanceAt}
+use Rattle.machine.proofs.Names.{ClientAt, Serves, DueOldEpoch, DueExpired, DueStop, DueNoStamp, DueVerdict, DueNotYet}
+use Rattle.machine.proofs.Names.{DueSettled, AreDue, Settled}
 use Rattle.history_book.specs.declared.cause.Cause.TheVariants as cause
-use Rattle.history_book.specs.declared.item.Actor.TheVariants.{Session}
-use Rattle.system_parts.specs.declared.buckets.Verdict.{Verdict}
-use Rattle.system_parts.specs.declared.buckets.Verdict.TheVariants.{Free}
-use Rattle.system_parts.specs.declared.instance.Held.{Held}
-use Rattle.system_parts.specs.declared.instance.Progress.{Progress}
 use Rattle.system_parts.specs.declared.instance.Progress.TheVariants as progress
-use Rattle.system_parts.specs.declared.instance.Request.{Request}
-use Rattle.system_parts.specs.declared.instance.Request.TheVariants.{Begin, Commit}
-use Rattle.system_parts.specs.Instance.{InstanceEntry, held_of, least_unsettled}
-use Rattle.system_parts.specs.InstanceSteps.{epoch_refusal}
-use Rattle.machine.specs.State.{Client, State}
-use Rattle.machine.specs.Events.Decide.{both_verdict, draw_item}
-use Rattle.machine.specs.FoundAt.{InstanceAt, ClientAt}
-use Rattle.machine.specs.Due.{Serves, DueOldEpoch, DueExpired, DueStop, DueNoStamp, DueVerdict, DueNotYet, DueSettled, AreDue}
 use Rattle.machine.proofs.Dues.DueItems.{plain_due, refusal_due}
-use Rattle.system_parts.specs.declared.instance.Settled.{Settled}
 use Rattle.system_parts.specs.declared.instance.Settled.TheVariants as how
 
 -- the request that is held, as it was asked and as far as it has come

@@ -1,28 +1,13 @@
 -- What the steps on the stores tell is due: they refuse nothing, but that a sweep ends undecided.
-use Rattle.std.proofs.Common.{ℕ, Bool, true, false, [], ◌∷◌, ◌++◌, Option, Some, None}
-use Rattle.std.proofs.lemmas.List.Elements.{All-append}
-use Rattle.stamp_base.specs.declared.stores.Mark.{Mark}
-use Rattle.stamp_base.specs.declared.stores.Store.{Store}
-use Rattle.port_io.specs.declared.weather.Fate.{Fate}
-use Rattle.port_io.specs.declared.weather.Fate.TheVariants.{Works, FailsUnchanged, FailsApplied}
+use Rattle.machine.proofs.Names.{ℕ, Bool, true, false, [], ◌∷◌, ◌++◌, Option, Some, None, All-append, Mark, Store, Fate}
+use Rattle.machine.proofs.Names.{Works, FailsUnchanged, FailsApplied, Actor, Janitor, Ask, Told, ReadTurn, Asks}
+use Rattle.machine.proofs.Names.{Answers, SettleTurn, Goes, Decides, Sweeping, State, entry_of, mark_item, step_item}
+use Rattle.machine.proofs.Names.{mark_kept, effect_items, read_items, settle_items, undecided_items, AreDue}
 use Rattle.history_book.specs.declared.cause.Cause.TheVariants as cause
-use Rattle.history_book.specs.declared.item.Actor.{Actor}
-use Rattle.history_book.specs.declared.item.Actor.TheVariants.{Janitor}
 use Rattle.history_book.specs.declared.item.Item.TheVariants as item
-use Rattle.system_parts.specs.declared.asks.Ask.{Ask}
 use Rattle.system_parts.specs.declared.asks.Ask.TheVariants as ask
-use Rattle.system_parts.specs.declared.asks.Told.{Told}
 use Rattle.system_parts.specs.declared.asks.Told.TheVariants as told
 use Rattle.system_parts.specs.declared.resolve.Outcome.TheVariants as outcome
-use Rattle.system_parts.specs.KeyRead.{ReadTurn, Asks, Answers}
-use Rattle.system_parts.specs.Resolve.{SettleTurn, Goes, Decides}
-use Rattle.system_parts.specs.Sweep.{Sweeping}
-use Rattle.machine.specs.State.{State}
-use Rattle.machine.specs.StoreSteps.{entry_of, mark_item, step_item, mark_kept, effect_items}
-use Rattle.machine.specs.Events.Fetch.{read_items}
-use Rattle.machine.specs.Events.Step.{settle_items}
-use Rattle.machine.specs.Events.SweepStep.{undecided_items}
-use Rattle.machine.specs.Due.{AreDue}
 use Rattle.machine.proofs.Dues.DueItems.{DueAnyway, AllDue, none_free, one_free, no_row_free, all_due}
 
 pub mark_free : (w : State) (actor : Actor) (txn : ℕ) (found : Option Mark) → DueAnyway w (mark_item actor txn found)

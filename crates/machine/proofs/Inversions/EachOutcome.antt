@@ -1,13 +1,7 @@
 -- For isolation_laws, and through it for cause_laws, request_completion and grant_laws.
 -- What each outcome makes so, each event makes so: a table over outcomes names those that matter, and has a catch-all for the others.
-use Rattle.std.proofs.Common.{List, sym, subst}
-use Rattle.port_io.specs.declared.weather.Fate.{Fate}
-use Rattle.history_book.specs.declared.item.Item.{Item}
-use Rattle.machine.specs.declared.event.Event.{Event}
-use Rattle.machine.specs.State.{State}
-use Rattle.machine.specs.Machine.{stepped}
-use Rattle.machine.specs.Fits.{Fits}
-use Rattle.machine.specs.Outcome.Outcomes.{Outcome, left_by, told_by_outcome}
+use Rattle.machine.proofs.Names.{List, sym, subst, Fate, Item, Event, State, stepped, Fits, Outcome, left_by}
+use Rattle.machine.proofs.Names.{told_by_outcome}
 use Rattle.machine.proofs.Inversions.Inversion.{comes_to}
 
 pub each_outcome : (P : State → List Item → Type 0) (w : State) (e : Event) (fate : Fate) → Fits w → ((o : Outcome w) → P (left_by w o) (told_by_outcome w o)) → P (stepped w e fate).state (stepped w e fate).items

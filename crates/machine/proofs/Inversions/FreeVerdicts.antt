@@ -1,13 +1,7 @@
 -- For grant_laws too.
 -- A verdict on what a request writes and its client has read is free only where both are.
-use Rattle.std.proofs.Common.{◌≡◌, ℕ, List, refl, sym, ◌∙◌, ap}
-use Rattle.system_parts.specs.declared.buckets.Verdict.{Verdict}
-use Rattle.system_parts.specs.declared.buckets.Verdict.TheVariants.{Free, Conflict, Hidden}
-use Rattle.system_parts.specs.declared.instance.Request.{Request}
-use Rattle.system_parts.specs.declared.instance.Request.TheVariants.{Begin, Commit}
-use Rattle.system_parts.specs.Buckets.{Bucket, first_refusal, verdict}
-use Rattle.system_parts.specs.InstanceSteps.{request_verdict}
-use Rattle.machine.specs.Events.Decide.{both_verdict}
+use Rattle.machine.proofs.Names.{◌≡◌, ℕ, List, refl, sym, ◌∙◌, ap, Verdict, Free, Conflict, Hidden, Request, Begin}
+use Rattle.machine.proofs.Names.{Commit, Bucket, first_refusal, verdict, request_verdict, both_verdict}
 
 both_free : (first later : Verdict) → first_refusal first later ≡ Free → (first ≡ Free) × (later ≡ Free)
 both_free Free later free = (refl, free)

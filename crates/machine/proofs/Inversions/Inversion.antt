@@ -1,36 +1,14 @@
 -- For isolation_laws too.
 -- Each event of the machine comes to one outcome.
-use Rattle.std.proofs.Common.{◌≡◌, ℕ, ◌≤◌, max, [], Option, Some, refl}
-use Rattle.std.specs.Prelude.{slice_get}
-use Rattle.port_io.specs.declared.weather.Fate.{Fate}
+use Rattle.machine.proofs.Names.{◌≡◌, ℕ, ◌≤◌, max, [], Option, Some, refl, slice_get, Fate, InstanceEntry, Event}
+use Rattle.machine.proofs.Names.{Client, State, Step, with_reading, at_post, at_client, at_both, stepped, reading_of}
+use Rattle.machine.proofs.Names.{take_on, renew_on, extend_on, crash_on, ask_begin_on, ask_commit_on, accept_on}
+use Rattle.machine.proofs.Names.{decide_on, put_on, answer_on, write_on, fetch_on, step_on, heal_on, abort_on}
+use Rattle.machine.proofs.Names.{vanish_on, sweep_open_on, ClientAt, Fits, ComesAt}
 use Rattle.history_book.specs.declared.item.Item.TheVariants as item
-use Rattle.system_parts.specs.Instance.{InstanceEntry}
-use Rattle.machine.specs.declared.event.Event.{Event}
 use Rattle.machine.specs.declared.event.Event.TheVariants as event
-use Rattle.machine.specs.State.{Client, State}
-use Rattle.machine.specs.Machine.{Step, with_reading, at_post, at_client, at_both, stepped, reading_of}
-use Rattle.machine.specs.Events.Take.{take_on}
-use Rattle.machine.specs.Events.Renew.{renew_on}
-use Rattle.machine.specs.Events.Extend.{extend_on}
-use Rattle.machine.specs.Events.Crash.{crash_on}
-use Rattle.machine.specs.Events.AskBegin.{ask_begin_on}
-use Rattle.machine.specs.Events.AskCommit.{ask_commit_on}
-use Rattle.machine.specs.Events.Accept.{accept_on}
-use Rattle.machine.specs.Events.Decide.{decide_on}
-use Rattle.machine.specs.Events.Put.{put_on}
-use Rattle.machine.specs.Events.Answer.{answer_on}
-use Rattle.machine.specs.Events.Write.{write_on}
-use Rattle.machine.specs.Events.Fetch.{fetch_on}
-use Rattle.machine.specs.Events.Step.{step_on}
-use Rattle.machine.specs.Events.Heal.{heal_on}
-use Rattle.machine.specs.Events.Abort.{abort_on}
-use Rattle.machine.specs.Events.Vanish.{vanish_on}
-use Rattle.machine.specs.Events.SweepOpen.{sweep_open_on}
 use Rattle.machine.proofs.LookedUp.{of_post, of_client, of_both}
-use Rattle.machine.specs.FoundAt.{ClientAt}
-use Rattle.machine.specs.Fits.{Fits}
 use Rattle.machine.proofs.Inversions.InversionParts.{nothing_told, one_told, ComesTo, ComesBy, comes_at, rests, still_all}
-use Rattle.machine.specs.Outcome.Inverted.{ComesAt}
 use Rattle.machine.proofs.Inversions.InversionOfSessions.{for_client, for_cells, abort_at, vanish_at, write_at, heal_at_client}
 use Rattle.machine.proofs.Inversions.InversionOfFetches.{fetch_at}
 use Rattle.machine.proofs.Inversions.InversionOfRecord.{for_record, take_at, renew_at_post}

@@ -1,44 +1,25 @@
 -- For isolation_laws and cause_laws too.
 -- What a node's put of a commit and its answer to a request come to.
-use Rattle.std.proofs.Common.{subst, ◌≡◌, ℕ, true, List, [], ◌∷◌, ◌++◌, if◌then◌else◌, Option, Some, None, ◌⊎◌, inl, inr, refl, sym, ◌∙◌, ap, arith}
-use Rattle.machine.specs.Due.{AreDue}
+use Rattle.machine.proofs.Names.{subst, ◌≡◌, ℕ, true, List, [], ◌∷◌, ◌++◌, if◌then◌else◌, Option, Some, None, ◌⊎◌, inl}
+use Rattle.machine.proofs.Names.{inr, refl, sym, ◌∙◌, ap, arith, AreDue, slice_get, slice_set, Mark, CommittedMark}
+use Rattle.machine.proofs.Names.{Table, Fate, Works, FailsUnchanged, FailsApplied, fated, Node, Session, PutFound}
+use Rattle.machine.proofs.Names.{Handed, Item, Pairs, mark_of, put_over, Held, Progress, Reply, Request, Begin, Commit}
+use Rattle.machine.proofs.Names.{Settled, InstanceEntry, held_of, was_told_not_yet, stamps_by, stamps_of_held}
+use Rattle.machine.proofs.Names.{unsettled_by, least_unsettled, InstanceStep, without_request, moved, not_yet_told}
+use Rattle.machine.proofs.Names.{settle_if_drawn, settle_held, instance_settle, answer_begin, answer_if_ready}
+use Rattle.machine.proofs.Names.{answer_held, Client, State, Effect, refused, client_handed, unless_gone, Step, step_by}
+use Rattle.machine.proofs.Names.{with_post, with_client, to_place_by, to_place, put_by, put_commit, put_on, answer_by}
+use Rattle.machine.proofs.Names.{answer_on, InstanceAt, ClientAt, Quiet, AllQuiet, AtDrawn, fault_of, found_items}
+use Rattle.machine.proofs.Names.{answered_client, answered_item, OfPlaced, OfNotPlaced, OfAnsweredBegin}
+use Rattle.machine.proofs.Names.{OfAnsweredCommit, OfHanded}
 use Rattle.machine.proofs.Dues.DueItems.{DueAnyway, none_due, plain_due, all_due, two_free, once_due}
 use Rattle.machine.proofs.Dues.RequestRefusals.{waits_due, settled_due}
-use Rattle.std.specs.Prelude.{slice_get, slice_set}
-use Rattle.stamp_base.specs.declared.stores.Mark.{Mark}
-use Rattle.stamp_base.specs.declared.stores.Mark.TheVariants.{Committed as CommittedMark}
-use Rattle.stamp_base.specs.declared.stores.Store.TheVariants.{Table}
-use Rattle.port_io.specs.declared.weather.Fate.{Fate}
-use Rattle.port_io.specs.declared.weather.Fate.TheVariants.{Works, FailsUnchanged, FailsApplied}
-use Rattle.port_io.specs.Fates.{fated}
 use Rattle.history_book.specs.declared.cause.Cause.TheVariants as cause
-use Rattle.history_book.specs.declared.item.Actor.TheVariants.{Node, Session}
-use Rattle.history_book.specs.declared.item.StoreStep.TheVariants.{PutFound, Handed}
-use Rattle.history_book.specs.declared.item.Item.{Item}
 use Rattle.history_book.specs.declared.item.Item.TheVariants as item
-use Rattle.system_parts.specs.Pairs.{Pairs, mark_of, put_over}
-use Rattle.system_parts.specs.declared.instance.Held.{Held}
-use Rattle.system_parts.specs.declared.instance.Progress.{Progress}
 use Rattle.system_parts.specs.declared.instance.Progress.TheVariants as progress
-use Rattle.system_parts.specs.declared.instance.Reply.{Reply}
-use Rattle.system_parts.specs.declared.instance.Request.{Request}
-use Rattle.system_parts.specs.declared.instance.Request.TheVariants.{Begin, Commit}
-use Rattle.system_parts.specs.declared.instance.Settled.{Settled}
 use Rattle.system_parts.specs.declared.instance.Settled.TheVariants as how
-use Rattle.system_parts.specs.Instance.{InstanceEntry, held_of, was_told_not_yet, stamps_by, stamps_of_held, unsettled_by, least_unsettled}
-use Rattle.system_parts.specs.InstanceSteps.{InstanceStep, without_request, moved, not_yet_told, settle_if_drawn, settle_held, instance_settle, answer_begin, answer_if_ready, answer_held}
-use Rattle.machine.specs.State.{Client, State}
-use Rattle.machine.specs.Effect.{Effect, refused}
-use Rattle.machine.specs.Clients.{client_handed, unless_gone}
-use Rattle.machine.specs.Machine.{Step, step_by, with_post, with_client}
-use Rattle.machine.specs.Events.Put.{to_place_by, to_place, put_by, put_commit, put_on}
-use Rattle.machine.specs.Events.Answer.{answer_by, answer_on}
-use Rattle.machine.specs.FoundAt.{InstanceAt, ClientAt}
-use Rattle.machine.specs.Quiet.{Quiet, AllQuiet}
 use Rattle.machine.proofs.Outcome.PlainItems.{once_silent}
 use Rattle.machine.specs.Outcome.OutcomesOfRecord.{Told}
-use Rattle.machine.specs.Outcome.OutcomesOfStamps.{AtDrawn, fault_of, found_items, answered_client, answered_item}
-use Rattle.machine.specs.Outcome.Outcomes.{OfPlaced, OfNotPlaced, OfAnsweredBegin, OfAnsweredCommit, OfHanded}
 use Rattle.machine.proofs.Inversions.InversionParts.{node_told, no_request_told, ComesTo, ComesBy, tells, still_post, client_back}
 use Rattle.machine.proofs.Inversions.InversionOfRequests.{for_request, Served, decide_still}
 use Rattle.machine.proofs.Outcome.QuietItems.{one_quiet, none_quiet, told_quiet}

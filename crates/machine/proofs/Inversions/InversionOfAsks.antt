@@ -1,41 +1,24 @@
 -- For isolation_laws and command_semantics too.
 -- What a crash and the asks of a session come to.
-use Rattle.machine.specs.Fits.{AreOwnRequests}
+use Rattle.machine.proofs.Names.{AreOwnRequests, eqb-true, ◌≡◌, ◌≢◌, ℕ, ◌==◌, Bool, true, false, if◌then◌else◌, List}
+use Rattle.machine.proofs.Names.{[], ◌∷◌, Option, Some, None, refl, ap, arith, slice_get, slice_set, All-cons}
+use Rattle.machine.proofs.Names.{All-append, Cause, Session, ReadOnly, Item, SessionState, begin_refusal, work_refusal}
+use Rattle.machine.proofs.Names.{Held, Request, Begin, Commit, InstanceEntry, in_flight, session_of, with_request}
+use Rattle.machine.proofs.Names.{InstanceStep, stays, just_asked, Client, State, Effect, is_reading, client_freed, Step}
+use Rattle.machine.proofs.Names.{step_by, with_post, with_client, loss_heard, loss_items, crashed_items}
+use Rattle.machine.proofs.Names.{all_crashed_items, crash_on, asked_by, ask_begin_by, ask_begin_on, commit_of}
+use Rattle.machine.proofs.Names.{ask_commit_by, ask_commit_on, InstanceAt, ClientAt, Quiet, AllQuiet, OfCrashed}
+use Rattle.machine.proofs.Names.{OfAskedBegin, OfAskedCommit, OfEndedReadOnly, Mild}
 use Rattle.machine.proofs.Dues.DueItems.{plain_due}
 use Rattle.machine.proofs.Dues.OwnRefusals.{begin_own, work_own}
 use Rattle.machine.proofs.Dues.LostRequests.{crash_due}
-use Rattle.std.proofs.lemmas.Bool.{eqb-true}
-use Rattle.std.proofs.Common.{◌≡◌, ◌≢◌, ℕ, ◌==◌, Bool, true, false, if◌then◌else◌, List, [], ◌∷◌, Option, Some, None, refl, ap, arith}
-use Rattle.std.specs.Prelude.{slice_get, slice_set, Ok}
-use Rattle.std.proofs.lemmas.List.Elements.{All-cons, All-append}
-use Rattle.history_book.specs.declared.cause.Cause.{Cause}
+use Rattle.std.specs.Prelude.{Ok}
 use Rattle.history_book.specs.declared.cause.Cause.TheVariants as cause
-use Rattle.history_book.specs.declared.item.Actor.TheVariants.{Session}
-use Rattle.history_book.specs.declared.item.Ending.TheVariants.{ReadOnly}
-use Rattle.history_book.specs.declared.item.Item.{Item}
 use Rattle.history_book.specs.declared.item.Item.TheVariants as item
-use Rattle.system_parts.specs.declared.session.State.{State as SessionState}
 use Rattle.system_parts.specs.declared.session.State.TheVariants as phase
-use Rattle.system_parts.specs.SessionSteps.{begin_refusal, work_refusal}
-use Rattle.system_parts.specs.declared.instance.Held.{Held}
-use Rattle.system_parts.specs.declared.instance.Request.{Request}
-use Rattle.system_parts.specs.declared.instance.Request.TheVariants.{Begin, Commit}
-use Rattle.system_parts.specs.Instance.{InstanceEntry, in_flight, session_of, with_request}
-use Rattle.system_parts.specs.InstanceSteps.{InstanceStep, stays, just_asked}
-use Rattle.machine.specs.State.{Client, State}
-use Rattle.machine.specs.Effect.{Effect}
-use Rattle.machine.specs.Clients.{is_reading, client_freed}
-use Rattle.machine.specs.Machine.{Step, step_by, with_post, with_client}
-use Rattle.machine.specs.Events.Crash.{loss_heard, loss_items, crashed_items, all_crashed_items, crash_on}
-use Rattle.machine.specs.Events.AskBegin.{asked_by, ask_begin_by, ask_begin_on}
-use Rattle.machine.specs.Events.AskCommit.{commit_of, ask_commit_by, ask_commit_on}
-use Rattle.machine.specs.FoundAt.{InstanceAt, ClientAt}
-use Rattle.machine.specs.Quiet.{Quiet, AllQuiet}
 use Rattle.machine.proofs.Lookups.{set_same}
-use Rattle.machine.specs.Outcome.Outcomes.{OfCrashed, OfAskedBegin, OfAskedCommit, OfEndedReadOnly}
 use Rattle.machine.proofs.Inversions.InversionParts.{PlainDue, nothing_told, node_told, state_told, session_told, ComesTo, ComesBy, still_post, still_both}
 use Rattle.machine.proofs.Outcome.PlainItems.{one_silent, mild_is}
-use Rattle.machine.specs.Plain.{Mild}
 use Rattle.machine.proofs.Inversions.InversionOfSessions.{work_open, work_mild, open_by_work}
 use Rattle.machine.proofs.Outcome.QuietItems.{one_quiet, none_quiet, refusal_quiet}
 

@@ -1,26 +1,14 @@
 -- What one step on the stores shows and changes.
-use Rattle.std.proofs.Common.{◌≡◌, ℕ, List, [], ◌∷◌, ◌++◌, Option, Some, None, inl, inr, refl}
-use Rattle.std.proofs.lemmas.List.Elements.{All-append}
-use Rattle.stamp_base.specs.declared.stores.Mark.{Mark}
-use Rattle.stamp_base.specs.declared.stores.Store.{Store}
-use Rattle.port_io.specs.declared.weather.Fate.{Fate}
-use Rattle.port_io.specs.declared.weather.Fate.TheVariants.{Works, FailsUnchanged, FailsApplied}
-use Rattle.history_book.specs.declared.item.Actor.{Actor}
+use Rattle.machine.proofs.Names.{◌≡◌, ℕ, List, [], ◌∷◌, ◌++◌, Option, Some, None, inl, inr, refl, All-append, Mark}
+use Rattle.machine.proofs.Names.{Store, Fate, Works, FailsUnchanged, FailsApplied, Actor, Row, Pairs, Ask, Told, ask_at}
+use Rattle.machine.proofs.Names.{rows_after, pairs_after, entry_of, mark_item, step_item, mark_kept, effect_items}
+use Rattle.machine.proofs.Names.{Plain, AllPlain, NoList, MayHaveMarked}
 use Rattle.history_book.specs.declared.item.Item.TheVariants as item
-use Rattle.system_parts.specs.Rows.{Row}
-use Rattle.system_parts.specs.Pairs.{Pairs}
-use Rattle.system_parts.specs.declared.asks.Ask.{Ask}
 use Rattle.system_parts.specs.declared.asks.Ask.TheVariants as ask
-use Rattle.system_parts.specs.declared.asks.Told.{Told}
 use Rattle.system_parts.specs.declared.asks.Told.TheVariants as told
 use Rattle.system_parts.specs.declared.resolve.SettlePoint.{SettlePoint}
 use Rattle.system_parts.specs.declared.resolve.SettlePoint.TheVariants as point
-use Rattle.system_parts.specs.Resolve.{ask_at}
-use Rattle.machine.specs.StoreSteps.{rows_after, pairs_after, entry_of, mark_item, step_item, mark_kept, effect_items}
-use Rattle.machine.specs.Plain.{Plain, AllPlain}
-use Rattle.machine.specs.Fits.{NoList}
 use Rattle.machine.proofs.Outcome.PlainItems.{none_plain, one_plain}
-use Rattle.machine.specs.Outcome.OutcomesOfWork.{MayHaveMarked}
 
 mark_plain : (actor : Actor) (txn : ℕ) (found : Option Mark) → Plain (mark_item actor txn found)
 mark_plain actor txn None = (refl, refl)

@@ -1,33 +1,17 @@
 -- For cause_laws too.
 -- What an extension comes to.
 use Rattle.machine.proofs.Dues.DueItems.{plain_due, all_due, two_free}
-use Rattle.std.proofs.Common.{[], ◌≡◌, ℕ, ◌+◌, ◌==◌, Bool, true, false, if◌then◌else◌, List, ◌∷◌, Option, Some, None, inr, refl, arith}
-use Rattle.std.specs.Prelude.{slice_get}
-use Rattle.std.proofs.lemmas.Bool.{eqb-true}
-use Rattle.stamp_base.specs.declared.stores.Store.TheVariants.{Master}
-use Rattle.port_io.specs.declared.weather.Fate.{Fate}
-use Rattle.port_io.specs.declared.weather.Fate.TheVariants.{Works, FailsUnchanged, FailsApplied}
-use Rattle.port_io.specs.Fates.{fated}
+use Rattle.machine.proofs.Names.{[], ◌≡◌, ℕ, ◌+◌, ◌==◌, Bool, true, false, if◌then◌else◌, List, ◌∷◌, Option, Some, None}
+use Rattle.machine.proofs.Names.{inr, refl, arith, slice_get, eqb-true, Master, Fate, Works, FailsUnchanged}
+use Rattle.machine.proofs.Names.{FailsApplied, fated, Node, Item, ExtendRefused, unless_refused, extend_refused}
+use Rattle.machine.proofs.Names.{is_spent, answered, InstanceEntry, State, kept_items, with_post, rules_of, extend_by}
+use Rattle.machine.proofs.Names.{extend_on, InstanceAt, AllQuiet, OfExtended, Extended, Stopped, fault_if}
 use Rattle.history_book.specs.declared.cause.Cause.TheVariants as cause
-use Rattle.history_book.specs.declared.item.Actor.TheVariants.{Node}
-use Rattle.history_book.specs.declared.item.Item.{Item}
 use Rattle.history_book.specs.declared.item.Item.TheVariants as item
-use Rattle.system_parts.specs.declared.record.ExtendRefused.{ExtendRefused}
 use Rattle.system_parts.specs.declared.record.ExtendRefused.TheVariants as extend
-use Rattle.system_parts.specs.Record.{unless_refused, extend_refused, is_spent, answered}
-use Rattle.system_parts.specs.Instance.{InstanceEntry}
-use Rattle.machine.specs.State.{State}
-use Rattle.machine.specs.Effect.{kept_items}
-use Rattle.machine.specs.Machine.{with_post}
-use Rattle.machine.specs.Events.Take.{rules_of}
-use Rattle.machine.specs.Events.Extend.{extend_by, extend_on}
-use Rattle.machine.specs.FoundAt.{InstanceAt}
-use Rattle.machine.specs.Quiet.{AllQuiet}
-use Rattle.machine.specs.Outcome.Outcomes.{OfExtended}
 use Rattle.machine.proofs.Inversions.InversionParts.{PlainDue, one_told, node_told, ComesTo, ComesBy, stops, still_post}
 use Rattle.machine.proofs.Inversions.InversionOfRecord.{for_record, alike_stopped, replaced, put_back}
 use Rattle.machine.proofs.Outcome.QuietItems.{one_quiet, two_quiet}
-use Rattle.machine.specs.Outcome.OutcomesOfRecord.{Extended, Stopped, fault_if}
 
 -- ---- extend
 if_room : {E : Type 0} (own spent : Bool) (full other : E) → (if own then (if spent then Some full else None) else Some other) ≡ None → (own ≡ true) × (spent ≡ false)

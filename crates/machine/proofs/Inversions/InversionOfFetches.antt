@@ -2,27 +2,14 @@
 use Rattle.machine.proofs.Dues.DueItems.{DueAnyway, plain_due, all_due}
 use Rattle.machine.proofs.Dues.OwnRefusals.{fetch_own}
 use Rattle.machine.proofs.Dues.StepsDue.{read_free}
-use Rattle.std.proofs.lemmas.List.Elements.{All-cons}
-use Rattle.machine.specs.Events.Fetch.{read_items, client_put_fresh, keeps_read, reads_refusal, fetch_refused, fetch_by, fetch_open, fetch_on}
-use Rattle.std.proofs.Common.{[], ◌≡◌, ℕ, Bool, true, false, if◌then◌else◌, ◌∷◌, Option, Some, None, inl, inr, refl}
-use Rattle.std.specs.Prelude.{length}
-use Rattle.stamp_base.specs.declared.stores.Store.TheVariants.{Cells}
-use Rattle.stamp_base.specs.SetupNumbers.{SetupNumbers}
-use Rattle.port_io.specs.declared.weather.Fate.{Fate}
-use Rattle.port_io.specs.declared.weather.Fate.TheVariants.{Works, FailsUnchanged, FailsApplied}
-use Rattle.history_book.specs.declared.cause.Cause.{Cause}
-use Rattle.history_book.specs.declared.item.Actor.TheVariants.{Session}
+use Rattle.machine.proofs.Names.{All-cons, read_items, client_put_fresh, keeps_read, reads_refusal, fetch_refused}
+use Rattle.machine.proofs.Names.{fetch_by, fetch_open, fetch_on, [], ◌≡◌, ℕ, Bool, true, false, if◌then◌else◌, ◌∷◌}
+use Rattle.machine.proofs.Names.{Option, Some, None, inl, inr, refl, length, Cells, SetupNumbers, Fate, Works}
+use Rattle.machine.proofs.Names.{FailsUnchanged, FailsApplied, Cause, Session, fetched, work_refusal, key_refusal}
+use Rattle.machine.proofs.Names.{Client, State, is_reading, with_client, ClientAt, OfFetched, OfReadDropped, Mild}
 use Rattle.history_book.specs.declared.item.StoreStep.TheVariants as step
 use Rattle.history_book.specs.declared.item.Item.TheVariants as item
-use Rattle.system_parts.specs.Rows.{fetched}
-use Rattle.system_parts.specs.SessionSteps.{work_refusal, key_refusal}
-use Rattle.machine.specs.State.{Client, State}
-use Rattle.machine.specs.Clients.{is_reading}
-use Rattle.machine.specs.Machine.{with_client}
-use Rattle.machine.specs.FoundAt.{ClientAt}
-use Rattle.machine.specs.Outcome.Outcomes.{OfFetched, OfReadDropped}
 use Rattle.machine.proofs.Outcome.PlainItems.{one_silent, mild_is}
-use Rattle.machine.specs.Plain.{Mild}
 use Rattle.machine.proofs.Inversions.InversionParts.{nothing_told, state_told, ComesTo, ComesBy, still_client}
 use Rattle.machine.proofs.Inversions.InversionOfSessions.{for_client, work_open, work_mild, open_by_work, full_mild, either_mild, write_may}
 use Rattle.machine.proofs.Outcome.QuietItems.{one_quiet}

@@ -1,33 +1,16 @@
 -- What it comes to that a session places its commit.
-use Rattle.std.proofs.Common.{◌≡◌, ℕ, [], ◌∷◌, Option, Some, None, ◌⊎◌, inl, inr, refl, sym, ap}
-use Rattle.machine.specs.State.{State, Client}
-use Rattle.machine.specs.Due.{AreDue, Places}
-use Rattle.machine.specs.Fits.{StepsFit}
+use Rattle.machine.proofs.Names.{◌≡◌, ℕ, [], ◌∷◌, Option, Some, None, ◌⊎◌, inl, inr, refl, sym, ap, State, Client}
+use Rattle.machine.proofs.Names.{AreDue, Places, StepsFit, same_Some, Mark, CommittedMark, Table, Fate, Works}
+use Rattle.machine.proofs.Names.{FailsUnchanged, FailsApplied, fated, Session, PutFound, mark_of, put_over}
+use Rattle.machine.proofs.Names.{SessionState, handed_by, handed_commit, Settled, place_by, place_on, placed_among}
+use Rattle.machine.proofs.Names.{ClientAt, AllQuiet, OfOwnPlaced, OfOwnNotPlaced}
 use Rattle.machine.proofs.Dues.OwnPlacings.{placing_due}
-use Rattle.std.proofs.lemmas.Option.{same_Some}
-use Rattle.stamp_base.specs.declared.stores.Mark.{Mark}
-use Rattle.stamp_base.specs.declared.stores.Mark.TheVariants.{Committed as CommittedMark}
-use Rattle.stamp_base.specs.declared.stores.Store.TheVariants.{Table}
-use Rattle.port_io.specs.declared.weather.Fate.{Fate}
-use Rattle.port_io.specs.declared.weather.Fate.TheVariants.{Works, FailsUnchanged, FailsApplied}
-use Rattle.port_io.specs.Fates.{fated}
 use Rattle.history_book.specs.declared.cause.Cause.TheVariants as cause
-use Rattle.history_book.specs.declared.item.Actor.TheVariants.{Session}
-use Rattle.history_book.specs.declared.item.StoreStep.TheVariants.{PutFound}
 use Rattle.history_book.specs.declared.item.Item.TheVariants as item
-use Rattle.system_parts.specs.Pairs.{mark_of, put_over}
-use Rattle.system_parts.specs.declared.session.State.{State as SessionState}
 use Rattle.system_parts.specs.declared.session.State.TheVariants as phase
-use Rattle.system_parts.specs.SessionSteps.{handed_by, handed_commit}
-use Rattle.system_parts.specs.declared.instance.Settled.{Settled}
 use Rattle.system_parts.specs.declared.instance.Settled.TheVariants as how
-use Rattle.machine.specs.Events.Place.{place_by, place_on}
-use Rattle.machine.specs.Events.Step.{placed_among}
-use Rattle.machine.specs.FoundAt.{ClientAt}
-use Rattle.machine.specs.Quiet.{AllQuiet}
 use Rattle.machine.proofs.Outcome.QuietItems.{one_quiet, two_quiet}
 use Rattle.machine.specs.Outcome.OutcomesOfPlacings.{AtPlacing, own_clients, own_told}
-use Rattle.machine.specs.Outcome.Outcomes.{OfOwnPlaced, OfOwnNotPlaced}
 use Rattle.machine.proofs.Inversions.InversionParts.{ComesTo, ComesBy}
 use Rattle.machine.proofs.Inversions.InversionOfSteps.{for_stores}
 use Rattle.machine.proofs.Inversions.InversionOfAnswers.{not_invalid}

@@ -1,36 +1,18 @@
 -- What a take and a renewal come to.
 use Rattle.machine.proofs.Dues.DueItems.{plain_due, all_due, two_free}
 use Rattle.machine.proofs.Dues.RecordRefusals.{early_due, spent_due}
-use Rattle.std.proofs.Common.{[], ◌≡◌, ℕ, ◌==◌, max, Bool, true, false, if◌then◌else◌, List, ◌∷◌, Option, Some, None, inl, refl, ap}
-use Rattle.std.specs.Prelude.{slice_get}
-use Rattle.std.proofs.lemmas.Bool.{eqb-true, eqb-false}
-use Rattle.stamp_base.specs.declared.stores.Store.TheVariants.{Master}
-use Rattle.port_io.specs.declared.weather.Fate.{Fate}
-use Rattle.port_io.specs.declared.weather.Fate.TheVariants.{Works, FailsUnchanged, FailsApplied}
-use Rattle.port_io.specs.Fates.{fated}
-use Rattle.history_book.specs.declared.cause.Cause.{Cause}
+use Rattle.machine.proofs.Names.{[], ◌≡◌, ℕ, ◌==◌, max, Bool, true, false, if◌then◌else◌, List, ◌∷◌, Option, Some, None}
+use Rattle.machine.proofs.Names.{inl, refl, ap, slice_get, eqb-true, eqb-false, Master, Fate, Works, FailsUnchanged}
+use Rattle.machine.proofs.Names.{FailsApplied, fated, Cause, Node, Item, Grant, TakeRefused, RenewRefused, MasterRecord}
+use Rattle.machine.proofs.Names.{take_refused, granted, held_by, unless_refused, renewed_until, answered, InstanceEntry}
+use Rattle.machine.proofs.Names.{instance_stopped, State, Effect, kept_items, Step, step_by, with_post, with_reading}
+use Rattle.machine.proofs.Names.{rules_of, take_item, take_by, take_on, renew_by, renew_on, InstanceAt, AllQuiet}
+use Rattle.machine.proofs.Names.{Renewed, Granted, Alike, Stopped, fault_if, OfGranted, OfRenewed}
 use Rattle.history_book.specs.declared.cause.Cause.TheVariants as cause
-use Rattle.history_book.specs.declared.item.Actor.TheVariants.{Node}
-use Rattle.history_book.specs.declared.item.Item.{Item}
 use Rattle.history_book.specs.declared.item.Item.TheVariants as item
-use Rattle.system_parts.specs.declared.record.Grant.{Grant}
-use Rattle.system_parts.specs.declared.record.TakeRefused.{TakeRefused}
 use Rattle.system_parts.specs.declared.record.TakeRefused.TheVariants as take
-use Rattle.system_parts.specs.declared.record.RenewRefused.{RenewRefused}
 use Rattle.system_parts.specs.declared.record.RenewRefused.TheVariants as renew
-use Rattle.system_parts.specs.Record.{MasterRecord, take_refused, granted, held_by, unless_refused, renewed_until, answered}
-use Rattle.system_parts.specs.Instance.{InstanceEntry}
-use Rattle.system_parts.specs.InstanceSteps.{instance_stopped}
-use Rattle.machine.specs.State.{State}
-use Rattle.machine.specs.Effect.{Effect, kept_items}
-use Rattle.machine.specs.Machine.{Step, step_by, with_post, with_reading}
-use Rattle.machine.specs.Events.Take.{rules_of, take_item, take_by, take_on}
-use Rattle.machine.specs.Events.Renew.{renew_by, renew_on}
-use Rattle.machine.specs.FoundAt.{InstanceAt}
-use Rattle.machine.specs.Quiet.{AllQuiet}
 use Rattle.machine.proofs.Lookups.{set_same}
-use Rattle.machine.specs.Outcome.OutcomesOfRecord.{Renewed, Granted, Alike, Stopped, fault_if}
-use Rattle.machine.specs.Outcome.Outcomes.{OfGranted, OfRenewed}
 use Rattle.machine.proofs.Inversions.InversionParts.{PlainDue, one_told, node_told, ComesTo, ComesBy, stops, still_post}
 use Rattle.machine.proofs.Orders.{max_left}
 use Rattle.machine.proofs.Outcome.QuietItems.{one_quiet, two_quiet}

@@ -1,40 +1,25 @@
 -- What a node's acceptance and decision of a request come to.
-use Rattle.machine.specs.Due.{AreDue, DueToSession}
+use Rattle.machine.proofs.Names.{AreDue, DueToSession, ◌∙◌, ap, ◌≡◌, ℕ, ◌+◌, ◌≤◌, ◌==◌, max, Bool, true, false}
+use Rattle.machine.proofs.Names.{if◌then◌else◌, [], ◌∷◌, Option, Some, None, ◌⊎◌, inl, inr, refl, sym, subst, arith}
+use Rattle.machine.proofs.Names.{eqb-true, ltb-true, eqb-false, slice_get, slice_set, nat_lt, nat_le, Cause, Node}
+use Rattle.machine.proofs.Names.{Session, Item, Verdict, Free, Conflict, Hidden, Decided, Held, Progress, Request}
+use Rattle.machine.proofs.Names.{Begin, Commit, InstanceEntry, held_of, InstanceStep, decided_by, IsStop, moved}
+use Rattle.machine.proofs.Names.{without_request, no_stamp_told, epoch_refusal, accept_unless, accept_if_asked}
+use Rattle.machine.proofs.Names.{accept_held, out_of_stamps, decide_drawn, verdict_by, stamp_of, Client, State, Effect}
+use Rattle.machine.proofs.Names.{after_refusal, Step, step_by, with_post, with_client, with_reading, accept_by}
+use Rattle.machine.proofs.Names.{accept_request, accept_on, draw_item, both_verdict, both_if_accepted, both_held}
+use Rattle.machine.proofs.Names.{decide_by, decide_request, decide_on, InstanceAt, ClientAt, StopOf, AreStops}
+use Rattle.machine.proofs.Names.{OfAccepted, OfEnded, OfDrew, ComesAt}
 use Rattle.machine.proofs.Dues.DueItems.{plain_due, refusal_due, once_due}
 use Rattle.machine.proofs.Dues.RequestRefusals.{old_due, late_due, kept_due, used_up_due, draw_due, verdict_due}
-use Rattle.std.proofs.Common.{◌∙◌, ap, ◌≡◌, ℕ, ◌+◌, ◌≤◌, ◌==◌, max, Bool, true, false, if◌then◌else◌, [], ◌∷◌, Option, Some, None, ◌⊎◌, inl, inr, refl, sym, subst, arith}
-use Rattle.std.proofs.lemmas.Bool.{eqb-true, ltb-true, eqb-false}
-use Rattle.std.specs.Prelude.{IsTrue, slice_get, slice_set, nat_lt, nat_le}
-use Rattle.history_book.specs.declared.cause.Cause.{Cause}
+use Rattle.std.specs.Prelude.{IsTrue}
 use Rattle.history_book.specs.declared.cause.Cause.TheVariants as cause
-use Rattle.history_book.specs.declared.item.Actor.TheVariants.{Node, Session}
-use Rattle.history_book.specs.declared.item.Item.{Item}
 use Rattle.history_book.specs.declared.item.Item.TheVariants as item
-use Rattle.system_parts.specs.declared.buckets.Verdict.{Verdict}
-use Rattle.system_parts.specs.declared.buckets.Verdict.TheVariants.{Free, Conflict, Hidden}
-use Rattle.system_parts.specs.declared.instance.Decided.{Decided}
-use Rattle.system_parts.specs.declared.instance.Held.{Held}
-use Rattle.system_parts.specs.declared.instance.Progress.{Progress}
 use Rattle.system_parts.specs.declared.instance.Progress.TheVariants as progress
-use Rattle.system_parts.specs.declared.instance.Request.{Request}
-use Rattle.system_parts.specs.declared.instance.Request.TheVariants.{Begin, Commit}
-use Rattle.system_parts.specs.Instance.{InstanceEntry, held_of}
-use Rattle.system_parts.specs.InstanceSteps.{InstanceStep, decided_by, IsStop, moved, without_request, no_stamp_told, epoch_refusal, accept_unless, accept_if_asked, accept_held, out_of_stamps, decide_drawn, decide_by as verdict_by}
-use Rattle.system_parts.specs.InstanceLaws.{stamp_of}
-use Rattle.machine.specs.State.{Client, State}
-use Rattle.machine.specs.Effect.{Effect}
-use Rattle.machine.specs.Clients.{after_refusal}
-use Rattle.machine.specs.Machine.{Step, step_by, with_post, with_client, with_reading}
-use Rattle.machine.specs.Events.Accept.{accept_by, accept_request, accept_on}
-use Rattle.machine.specs.Events.Decide.{draw_item, both_verdict, both_if_accepted, both_held, decide_by, decide_request, decide_on}
-use Rattle.machine.specs.FoundAt.{InstanceAt, ClientAt}
-use Rattle.machine.specs.Fits.{StopOf, AreStops}
-use Rattle.machine.specs.Outcome.Outcomes.{OfAccepted, OfEnded, OfDrew}
 use Rattle.cause_rules.specs.OpenAsks.{ends_request}
 use Rattle.machine.proofs.Outcome.PlainItems.{once_silent}
 use Rattle.machine.specs.Outcome.OutcomesOfRecord.{Told}
 use Rattle.machine.proofs.Inversions.InversionParts.{PlainDue, node_told, no_request_told, ComesTo, ComesBy, comes_at, tells, still_both, client_back}
-use Rattle.machine.specs.Outcome.Inverted.{ComesAt}
 use Rattle.machine.proofs.Inversions.FreeVerdicts.{writes_free, reads_free}
 use Rattle.machine.proofs.Orders.{max_left}
 use Rattle.machine.proofs.Outcome.QuietItems.{one_quiet, refusal_quiet, told_quiet}

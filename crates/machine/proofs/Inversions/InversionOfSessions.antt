@@ -2,36 +2,18 @@
 -- What the events of a session alone come to, but for a fetch: an abort, a vanish, a write, a heal.
 use Rattle.machine.proofs.Dues.DueItems.{plain_due, all_due, two_free}
 use Rattle.machine.proofs.Dues.OwnRefusals.{work_own, vanish_own, write_own, heal_own}
-use Rattle.std.proofs.Common.{[], ◌≡◌, ℕ, Bool, true, false, if◌then◌else◌, List, ◌∷◌, Option, Some, None, ◌⊎◌, inl, inr, refl}
-use Rattle.std.specs.Option.{option_or}
-use Rattle.stamp_base.specs.declared.stores.Store.TheVariants.{Cells}
-use Rattle.port_io.specs.declared.weather.Fate.{Fate}
-use Rattle.port_io.specs.declared.weather.Fate.TheVariants.{Works, FailsUnchanged, FailsApplied}
-use Rattle.port_io.specs.Fates.{fated}
-use Rattle.history_book.specs.declared.cause.Cause.{Cause}
-use Rattle.history_book.specs.declared.cause.Cause.TheVariants.{TooManyKeys}
-use Rattle.history_book.specs.declared.item.Actor.TheVariants.{Session}
+use Rattle.machine.proofs.Names.{[], ◌≡◌, ℕ, Bool, true, false, if◌then◌else◌, List, ◌∷◌, Option, Some, None, ◌⊎◌, inl}
+use Rattle.machine.proofs.Names.{inr, refl, option_or, Cells, Fate, Works, FailsUnchanged, FailsApplied, fated, Cause}
+use Rattle.machine.proofs.Names.{TooManyKeys, Session, Item, Row, put_row, with_shadow, SessionState, work_refusal}
+use Rattle.machine.proofs.Names.{key_refusal, vanish_refusal, Client, State, Effect, is_reading, Step, step_by}
+use Rattle.machine.proofs.Names.{with_client, abort_by, abort_on, vanish_by, vanish_on, write_refused, write_by}
+use Rattle.machine.proofs.Names.{write_open, write_on, offer_by, offer_of, no_offer_cause, heal_at, heal_on, ClientAt}
+use Rattle.machine.proofs.Names.{Mild, AtOpen, OfAborted, OfVanished, OfWrote, OfWriteFailed, OfHealed}
 use Rattle.history_book.specs.declared.item.Ending.TheVariants as ending
 use Rattle.history_book.specs.declared.item.StoreStep.TheVariants as step
-use Rattle.history_book.specs.declared.item.Item.{Item}
 use Rattle.history_book.specs.declared.item.Item.TheVariants as item
-use Rattle.system_parts.specs.Rows.{Row, put_row, with_shadow}
-use Rattle.system_parts.specs.declared.session.State.{State as SessionState}
 use Rattle.system_parts.specs.declared.session.State.TheVariants as phase
-use Rattle.system_parts.specs.SessionSteps.{work_refusal, key_refusal, vanish_refusal}
-use Rattle.machine.specs.State.{Client, State}
-use Rattle.machine.specs.Effect.{Effect}
-use Rattle.machine.specs.Clients.{is_reading}
-use Rattle.machine.specs.Machine.{Step, step_by, with_client}
-use Rattle.machine.specs.Events.Abort.{abort_by, abort_on}
-use Rattle.machine.specs.Events.Vanish.{vanish_by, vanish_on}
-use Rattle.machine.specs.Events.Write.{write_refused, write_by, write_open, write_on}
-use Rattle.machine.specs.Events.Heal.{offer_by, offer_of, no_offer_cause, heal_at, heal_on}
-use Rattle.machine.specs.FoundAt.{ClientAt}
 use Rattle.machine.proofs.Outcome.PlainItems.{all_quiet, all_silent, one_silent, two_silent, mild_is}
-use Rattle.machine.specs.Plain.{Mild}
-use Rattle.machine.specs.Outcome.OutcomesOfSessions.{AtOpen}
-use Rattle.machine.specs.Outcome.Outcomes.{OfAborted, OfVanished, OfWrote, OfWriteFailed, OfHealed}
 use Rattle.machine.proofs.Inversions.InversionParts.{PlainDue, nothing_told, one_told, state_told, ComesTo, ComesBy, still_client, at_open}
 use Rattle.machine.proofs.Outcome.QuietItems.{one_quiet, two_quiet}
 

@@ -1,46 +1,26 @@
 -- For isolation_laws too.
 -- What the next step of a session comes to: of a read, of the resolve of its own commit, of a completion.
-use Rattle.machine.specs.Due.{AreDue}
+use Rattle.machine.proofs.Names.{AreDue, All-append, All-cons, step_recall, StepParts, read_step, settle_items}
+use Rattle.machine.proofs.Names.{client_settled, settle_step, complete_step, after_asks, client_put_fresh}
+use Rattle.machine.proofs.Names.{client_recalled, ◌≡◌, ℕ, ◌≤◌, Bool, true, false, cond, if◌then◌else◌, List, [], ◌∷◌}
+use Rattle.machine.proofs.Names.{◌++◌, Option, Some, None, ◌⊎◌, inl, inr, refl, ap, arith, Store, Fate, Works}
+use Rattle.machine.proofs.Names.{FailsUnchanged, FailsApplied, Actor, Session, DeadEnd, Item, Row, Pairs, Ask, Told}
+use Rattle.machine.proofs.Names.{Settling, settle_ask, SettleTurn, Goes, Decides, settle_turn, Reading, read_ask}
+use Rattle.machine.proofs.Names.{Nothing, Reads, Client, State, Effect, client_freed, met, store_of, told_by, step_item}
+use Rattle.machine.proofs.Names.{rows_after, pairs_after, effect_items, Step, step_by, with_client, ClientAt, Quiet}
+use Rattle.machine.proofs.Names.{AllQuiet, Plain, AllPlain, CompletedOne, MayHaveMarked, OfReadStepped, OfReadDropped}
+use Rattle.machine.proofs.Names.{OfOutcome, OfOutcomeFailed, OfCompleted, IsResolve, IsCompletion, MarksTold}
 use Rattle.machine.proofs.Dues.DueItems.{DueAnyway, all_due}
 use Rattle.machine.proofs.Dues.StepsDue.{worked_free, failed_due, settle_free, read_free}
-use Rattle.std.proofs.lemmas.List.Elements.{All-append, All-cons}
-use Rattle.machine.specs.Events.Step.{step_recall, StepParts, read_step, settle_items, client_settled, settle_step, complete_step, after_asks}
-use Rattle.machine.specs.Events.Fetch.{client_put_fresh, client_recalled}
-use Rattle.std.proofs.Common.{◌≡◌, ℕ, ◌≤◌, Bool, true, false, cond, if◌then◌else◌, List, [], ◌∷◌, ◌++◌, Option, Some, None, ◌⊎◌, inl, inr, refl, ap, arith}
 use Rattle.std.proofs.lemmas.List.Sums.{sum_by-append}
-use Rattle.stamp_base.specs.declared.stores.Store.{Store}
-use Rattle.port_io.specs.declared.weather.Fate.{Fate}
-use Rattle.port_io.specs.declared.weather.Fate.TheVariants.{Works, FailsUnchanged, FailsApplied}
-use Rattle.history_book.specs.declared.item.Actor.{Actor}
-use Rattle.history_book.specs.declared.item.Actor.TheVariants.{Session}
-use Rattle.history_book.specs.declared.item.Ending.TheVariants.{Dead as DeadEnd}
-use Rattle.history_book.specs.declared.item.Item.{Item}
 use Rattle.history_book.specs.declared.item.Item.TheVariants as item
-use Rattle.system_parts.specs.Rows.{Row}
-use Rattle.system_parts.specs.Pairs.{Pairs}
-use Rattle.system_parts.specs.declared.asks.Ask.{Ask}
-use Rattle.system_parts.specs.declared.asks.Told.{Told}
 use Rattle.system_parts.specs.declared.resolve.Outcome.TheVariants as outcome
 use Rattle.system_parts.specs.declared.session.State.TheVariants as phase
-use Rattle.system_parts.specs.Resolve.{Settling, settle_ask, SettleTurn, Goes, Decides, settle_turn}
-use Rattle.system_parts.specs.KeyRead.{Reading, read_ask}
-use Rattle.machine.specs.State.{Nothing, Reads, Client, State}
-use Rattle.machine.specs.Effect.{Effect}
-use Rattle.machine.specs.Clients.{client_freed}
-use Rattle.machine.specs.StoreSteps.{met, store_of, told_by, step_item, rows_after, pairs_after, effect_items}
-use Rattle.machine.specs.Machine.{Step, step_by, with_client}
-use Rattle.machine.specs.FoundAt.{ClientAt}
-use Rattle.machine.specs.Quiet.{Quiet, AllQuiet}
 use Rattle.machine.specs.Faults.{is_fault, faults_in}
-use Rattle.machine.specs.Plain.{Plain, AllPlain}
 use Rattle.machine.proofs.Outcome.PlainItems.{all_quiet, all_silent, none_plain}
-use Rattle.machine.specs.Outcome.OutcomesOfWork.{CompletedOne, MayHaveMarked}
-use Rattle.machine.specs.Outcome.Outcomes.{OfReadStepped, OfReadDropped, OfOutcome, OfOutcomeFailed, OfCompleted}
 use Rattle.machine.proofs.Inversions.InversionParts.{ComesTo, ComesBy}
-use Rattle.machine.specs.Fits.{IsResolve, IsCompletion}
 use Rattle.machine.proofs.Inversions.InversionOfCalls.{step_plain, failed_plain, resolve_no_list, resolve_rows, resolve_marks}
 use Rattle.machine.proofs.Outcome.QuietItems.{one_quiet, none_quiet}
-use Rattle.machine.specs.MarksTold.{MarksTold}
 use Rattle.machine.proofs.MarksTold.{marks_behind, met_marks}
 
 -- the effect on a client and the stores

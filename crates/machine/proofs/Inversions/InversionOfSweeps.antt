@@ -1,32 +1,18 @@
 -- What the events of the janitor come to. An open sweep always asks something.
 use Rattle.machine.proofs.Dues.DueItems.{DueAnyway, all_due, none_due, plain_due, refusal_due, no_row_due}
 use Rattle.machine.proofs.Dues.StepsDue.{worked_free, failed_due, undecided_free}
-use Rattle.std.specs.Prelude.{slice_get}
-use Rattle.std.proofs.Common.{◌≡◌, ℕ, Bool, true, false, List, [], ◌∷◌, ◌++◌, Option, Some, None, refl, sym, ap, length}
-use Rattle.std.proofs.lemmas.List.Elements.{All-append, All-cons}
-use Rattle.stamp_base.specs.declared.stores.Store.TheVariants.{Cells}
-use Rattle.port_io.specs.declared.weather.Fate.{Fate}
-use Rattle.port_io.specs.declared.weather.Fate.TheVariants.{Works, FailsUnchanged, FailsApplied}
+use Rattle.machine.proofs.Names.{slice_get, ◌≡◌, ℕ, Bool, true, false, List, [], ◌∷◌, ◌++◌, Option, Some, None, refl}
+use Rattle.machine.proofs.Names.{sym, ap, All-append, All-cons, Cells, Fate, Works, FailsUnchanged, FailsApplied}
+use Rattle.machine.proofs.Names.{Janitor, Item, keys_of_version, Ask, Told, Sweeping, sweep_ask, sweep_told}
+use Rattle.machine.proofs.Names.{is_undecided, InstanceEntry, State, Effect, met, store_of, told_by, pairs_after}
+use Rattle.machine.proofs.Names.{step_item, Step, step_by, on_swept, sweep_open_on, undecided_items, sweep_met}
+use Rattle.machine.proofs.Names.{sweep_at, sweep_lists, sweep_step_on, Plain, AllPlain, SweepAsks, NoList}
+use Rattle.machine.proofs.Names.{OfSweepOpened, OfSwept, OfSweepListed, OfSweepFailed}
+use Rattle.std.proofs.Common.{length}
 use Rattle.history_book.specs.declared.cause.Cause.TheVariants as cause
-use Rattle.history_book.specs.declared.item.Actor.TheVariants.{Janitor}
-use Rattle.history_book.specs.declared.item.Item.{Item}
 use Rattle.history_book.specs.declared.item.Item.TheVariants as item
-use Rattle.system_parts.specs.Rows.{keys_of_version}
-use Rattle.system_parts.specs.declared.asks.Ask.{Ask}
 use Rattle.system_parts.specs.declared.asks.Ask.TheVariants as ask
-use Rattle.system_parts.specs.declared.asks.Told.{Told}
-use Rattle.system_parts.specs.Sweep.{Sweeping, sweep_ask, sweep_told, is_undecided}
-use Rattle.system_parts.specs.Instance.{InstanceEntry}
-use Rattle.machine.specs.State.{State}
-use Rattle.machine.specs.Effect.{Effect}
-use Rattle.machine.specs.StoreSteps.{met, store_of, told_by, pairs_after, step_item}
-use Rattle.machine.specs.Machine.{Step, step_by, on_swept}
-use Rattle.machine.specs.Events.SweepOpen.{sweep_open_on}
-use Rattle.machine.specs.Events.SweepStep.{undecided_items, sweep_met, sweep_at, sweep_lists, sweep_step_on}
-use Rattle.machine.specs.Plain.{Plain, AllPlain}
 use Rattle.machine.proofs.Outcome.PlainItems.{all_quiet, all_silent, none_plain, one_plain, one_silent}
-use Rattle.machine.specs.Fits.{SweepAsks, NoList}
-use Rattle.machine.specs.Outcome.Outcomes.{OfSweepOpened, OfSwept, OfSweepListed, OfSweepFailed}
 use Rattle.machine.proofs.Inversions.InversionParts.{PlainDue, ComesTo, ComesBy, still_all}
 use Rattle.machine.proofs.Inversions.InversionOfCalls.{step_plain, failed_plain}
 use Rattle.machine.proofs.Outcome.QuietItems.{one_quiet}

@@ -1,17 +1,9 @@
 -- What the next step of a session comes to, by what it has under way.
-use Rattle.std.proofs.Common.{◌≡◌, ℕ, Bool, true, false, if◌then◌else◌, [], ◌∷◌, Option, Some, None, refl}
-use Rattle.port_io.specs.declared.weather.Fate.{Fate}
-use Rattle.history_book.specs.declared.cause.Cause.{Cause}
-use Rattle.history_book.specs.declared.cause.Cause.TheVariants.{Idle}
-use Rattle.system_parts.specs.declared.session.State.{State as SessionState}
+use Rattle.machine.proofs.Names.{◌≡◌, ℕ, Bool, true, false, if◌then◌else◌, [], ◌∷◌, Option, Some, None, refl, Fate}
+use Rattle.machine.proofs.Names.{Cause, Idle, SessionState, step_refusal, handed_commit, UnderWay, Nothing, Reads}
+use Rattle.machine.proofs.Names.{Settles, Completes, Client, State, is_reading, work_of, step_at, step_due, step_on}
+use Rattle.machine.proofs.Names.{step_unless, ClientAt, Mild, IsWork, StepsFit}
 use Rattle.system_parts.specs.declared.session.State.TheVariants as phase
-use Rattle.system_parts.specs.SessionSteps.{step_refusal, handed_commit}
-use Rattle.machine.specs.State.{UnderWay, Nothing, Reads, Settles, Completes, Client, State}
-use Rattle.machine.specs.Clients.{is_reading}
-use Rattle.machine.specs.Events.Step.{work_of, step_at, step_due, step_on, step_by as step_unless}
-use Rattle.machine.specs.FoundAt.{ClientAt}
-use Rattle.machine.specs.Plain.{Mild}
-use Rattle.machine.specs.Fits.{IsWork, StepsFit}
 use Rattle.machine.proofs.Outcome.PlainItems.{mild_is}
 use Rattle.machine.proofs.Dues.OwnRefusals.{step_own}
 use Rattle.machine.proofs.Inversions.InversionParts.{nothing_told, state_told, ComesBy, still_client}

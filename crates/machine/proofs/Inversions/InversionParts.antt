@@ -1,32 +1,19 @@
 -- What it is for an event to come to an outcome, and what comes to nothing.
-use Rattle.machine.specs.Due.{AreDue, DueToNode, DueToSession}
+use Rattle.machine.proofs.Names.{AreDue, DueToNode, DueToSession, Session, Node, ℕ, ◌≡◌, ◌≤◌, false, List, [], ◌∷◌}
+use Rattle.machine.proofs.Names.{Option, None, Some, inl, inr, refl, sym, ◌∙◌, ap, subst, arith, Plain, Mild, AllPlain}
+use Rattle.machine.proofs.Names.{slice_get, slice_set, same_Some, Cause, Item, Held, InstanceEntry, held_of}
+use Rattle.machine.proofs.Names.{with_request, instance_stopped, Client, State, is_reading, Step, with_post}
+use Rattle.machine.proofs.Names.{with_client, InstanceAt, ClientAt, AllQuiet, Alike, AlikeNodes, Stopped, StillBy}
+use Rattle.machine.proofs.Names.{Rests, Stops, Tells, AtOpen, ComesAt, OfStill}
 use Rattle.machine.proofs.Dues.DueItems.{DueAnyway, none_due, plain_due, refusal_due, no_row_due}
 use Rattle.machine.proofs.Dues.OwnRefusals.{IsOwn, own_due}
 use Rattle.machine.proofs.Dues.RecordRefusals.{stopped_due}
-use Rattle.history_book.specs.declared.item.Actor.TheVariants.{Session, Node}
 use Rattle.history_book.specs.declared.cause.Cause.TheVariants as cause
-use Rattle.std.proofs.Common.{ℕ, ◌≡◌, ◌≤◌, false, List, [], ◌∷◌, Option, None, Some, inl, inr, refl, sym, ◌∙◌, ap, subst, arith}
-use Rattle.machine.specs.Plain.{Plain, Mild, AllPlain}
 use Rattle.machine.proofs.Outcome.PlainItems.{none_plain, one_plain, node_plain, session_plain, all_quiet}
-use Rattle.std.specs.Prelude.{slice_get, slice_set}
-use Rattle.std.proofs.lemmas.Option.{same_Some}
-use Rattle.history_book.specs.declared.cause.Cause.{Cause}
-use Rattle.history_book.specs.declared.item.Item.{Item}
 use Rattle.history_book.specs.declared.item.Item.TheVariants as item
 use Rattle.system_parts.specs.declared.session.State.TheVariants as phase
-use Rattle.system_parts.specs.declared.instance.Held.{Held}
-use Rattle.system_parts.specs.Instance.{InstanceEntry, held_of, with_request}
-use Rattle.system_parts.specs.InstanceSteps.{instance_stopped}
-use Rattle.machine.specs.State.{Client, State}
-use Rattle.machine.specs.Clients.{is_reading}
-use Rattle.machine.specs.Machine.{Step, with_post, with_client}
-use Rattle.machine.specs.FoundAt.{InstanceAt, ClientAt}
-use Rattle.machine.specs.Quiet.{AllQuiet}
 use Rattle.machine.proofs.Lookups.{set_same, instance_changed, held_set}
-use Rattle.machine.specs.Outcome.OutcomesOfRecord.{Alike, AlikeNodes, Stopped, Told, StillBy, Rests, Stops, Tells}
-use Rattle.machine.specs.Outcome.OutcomesOfSessions.{AtOpen}
-use Rattle.machine.specs.Outcome.Inverted.{ComesAt}
-use Rattle.machine.specs.Outcome.Outcomes.{OfStill}
+use Rattle.machine.specs.Outcome.OutcomesOfRecord.{Told}
 use Rattle.machine.proofs.Outcome.Readings.{whatever_handed}
 use Rattle.machine.proofs.Outcome.QuietItems.{refusal_quiet}
 

@@ -1,14 +1,10 @@
 -- For cause_laws and request_completion too.
 -- Short lists of items that say nothing of requests and instances, and of those that no fact reads either.
-use Rattle.std.proofs.Common.{Bool, true, false, List, [], ◌∷◌, Option, Some, ◌≡◌, refl, subst}
+use Rattle.machine.proofs.Names.{Bool, true, false, List, [], ◌∷◌, Option, Some, ◌≡◌, refl, subst, All-nil, All-cons}
+use Rattle.machine.proofs.Names.{All-weaker, Cause, Node, Session, Item, Quiet, AllQuiet, Silent, AllSilent, Plain}
+use Rattle.machine.proofs.Names.{AllPlain, Mild}
 use Rattle.std.specs.Prelude.{ℕ, if◌then◌else◌}
-use Rattle.std.proofs.lemmas.List.Elements.{All-nil, All-cons, All-weaker}
-use Rattle.history_book.specs.declared.cause.Cause.{Cause}
-use Rattle.history_book.specs.declared.item.Actor.TheVariants.{Node, Session}
-use Rattle.history_book.specs.declared.item.Item.{Item}
 use Rattle.history_book.specs.declared.item.Item.TheVariants as item
-use Rattle.machine.specs.Quiet.{Quiet, AllQuiet}
-use Rattle.machine.specs.Plain.{Silent, AllSilent, Plain, AllPlain, Mild}
 
 -- ---- silent items
 pub none_silent : AllSilent []

@@ -1,12 +1,8 @@
 -- For isolation_laws and cause_laws too.
 -- Short lists of quiet items.
-use Rattle.std.proofs.Common.{Bool, true, false, if◌then◌else◌, [], ◌∷◌, refl}
-use Rattle.std.proofs.lemmas.List.Elements.{All-nil, All-cons}
-use Rattle.history_book.specs.declared.cause.Cause.{Cause}
-use Rattle.history_book.specs.declared.item.Actor.{Actor}
-use Rattle.history_book.specs.declared.item.Item.{Item}
+use Rattle.machine.proofs.Names.{Bool, true, false, if◌then◌else◌, [], ◌∷◌, refl, All-nil, All-cons, Cause, Actor, Item}
+use Rattle.machine.proofs.Names.{Quiet, AllQuiet}
 use Rattle.history_book.specs.declared.item.Item.TheVariants as item
-use Rattle.machine.specs.Quiet.{Quiet, AllQuiet}
 
 pub none_quiet : AllQuiet []
 none_quiet = All-nil Quiet

@@ -1,9 +1,6 @@
 -- For isolation_laws too.
 -- The reading at which a request was accepted, and the one that the event handed in.
-use Rattle.std.proofs.Common.{ℕ, Option, None, subst}
-use Rattle.machine.specs.State.{State}
-use Rattle.machine.specs.Machine.{IsSteadyAt}
-use Rattle.machine.specs.Outcome.Outcomes.{Outcome, OfAccepted, IsTimely, AcceptsAt}
+use Rattle.machine.proofs.Names.{ℕ, Option, None, subst, State, IsSteadyAt, Outcome, OfAccepted, IsTimely, AcceptsAt}
 
 pub steadily : (w : State) (handed : Option ℕ) (o : Outcome w) → AcceptsAt handed o → IsSteadyAt w.setup.skew w.seen handed → IsTimely w o
 steadily w handed (OfAccepted k) at steady = (subst (λ (r : Option ℕ). IsSteadyAt w.setup.skew w.seen r) at steady).1

@@ -1,6 +1,5 @@
 use Rattle.isolation_rules.specs.declared.verdict.Rule.TheVariants as rule
-use Rattle.isolation_rules.proofs.WalkLemmas.{all_kept}
-use Rattle.isolation_rules.proofs.StampedLaw.{kept_stamped}
+use Rattle.si_judge.proofs.Names.{all_kept, kept_stamped}
 use Rattle.si_judge.proofs.VerdictLemmas.{before_apart}
 use Rattle.si_judge.proofs.after_stamped.Goals as goal
 

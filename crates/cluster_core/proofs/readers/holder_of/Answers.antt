@@ -1,5 +1,4 @@
-use Rattle.std.proofs.Common.{refl, sym, ◌∙◌}
-use Rattle.machine.specs.Readers.{held_at}
+use Rattle.cluster_core.proofs.Names.{refl, sym, ◌∙◌, held_at}
 use Rattle.cluster_core.proofs.RequestHolders.{holder_here, holder_later, holder_found, none_behind}
 use Rattle.cluster_core.proofs.readers.holder_of.Goals as goal
 

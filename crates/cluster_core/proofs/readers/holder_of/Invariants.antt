@@ -1,5 +1,4 @@
-use Rattle.std.proofs.Common.{◌≡◌, drop}
-use Rattle.machine.specs.Readers.{holder_from}
+use Rattle.cluster_core.proofs.Names.{◌≡◌, drop, holder_from}
 use Rattle.cluster_core.proofs.readers.holder_of.Given as goal
 
 abbrev pub invariant-loop-i : goal.invariant-loop-i

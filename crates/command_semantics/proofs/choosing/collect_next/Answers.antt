@@ -1,11 +1,7 @@
-use Rattle.std.proofs.Common.{◌≡◌, ℕ, Option, None, Some, ◌∙◌, ap}
-use Rattle.std.proofs.lemmas.Option.{none-some}
-use Rattle.system_parts.specs.declared.instance.Place.{Place}
-use Rattle.script_data.specs.declared.line.Verb.{Verb}
+use Rattle.command_semantics.proofs.Names.{◌≡◌, ℕ, Option, None, Some, ◌∙◌, ap, none-some, Place, Verb, View, Clocks}
+use Rattle.command_semantics.proofs.Names.{drive_next, collect_next}
 use Rattle.script_data.specs.declared.line.Verb.TheVariants as verb
-use Rattle.command_semantics.specs.declared.point.View.{View}
 use Rattle.command_semantics.specs.Clocks.{clocks}
-use Rattle.command_semantics.specs.Next.{Clocks, drive_next, collect_next}
 use Rattle.command_semantics.proofs.choosing.collect_next.Goals as goal
 
 driven : (times : Clocks) (s : ℕ) (line : Verb) (view : View) (request : Option (ℕ × Place)) (r : ℕ × Place) → line ≡ verb.Collect → request ≡ Some r → drive_next times s line view request ≡ collect_next times s view request

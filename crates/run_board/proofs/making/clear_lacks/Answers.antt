@@ -1,5 +1,4 @@
-use Rattle.std.proofs.Common.{arith, false, Bool}
-use Rattle.std.proofs.lemmas.List.Edits.{map_over_more}
+use Rattle.run_board.proofs.Names.{arith, false, Bool, map_over_more}
 use Rattle.run_board.proofs.making.clear_lacks.Goals as goal
 
 pub loop-number-preserved : goal.loop-number-preserved

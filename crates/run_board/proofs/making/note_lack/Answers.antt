@@ -1,6 +1,4 @@
-use Rattle.std.proofs.Common.{◌∙◌, sym, ap}
-use Rattle.turn_rules.specs.declared.turn.Turn.{Turn}
-use Rattle.run_board.specs.Making.{lacking_after}
+use Rattle.run_board.proofs.Names.{◌∙◌, sym, ap, Turn, lacking_after}
 use Rattle.run_board.proofs.Lacking.{noted}
 use Rattle.run_board.proofs.making.note_lack.Goals as goal
 

@@ -1,7 +1,5 @@
-use Rattle.std.proofs.Common.{◌≡◌, ◌+◌, List, [], ◌∷◌, ◌++◌, take, sym, ◌∙◌, ap, subst}
-use Rattle.std.proofs.lemmas.List.{take_more}
-use Rattle.script_data.specs.declared.line.Line.{Line}
-use Rattle.run_board.specs.Seating.{AreSeatedFirst}
+use Rattle.run_board.proofs.Names.{◌≡◌, ◌+◌, List, [], ◌∷◌, ◌++◌, sym, ◌∙◌, ap, subst, take_more, Line, AreSeatedFirst}
+use Rattle.std.proofs.Common.{take}
 use Rattle.run_board.proofs.SeatedOnce.{first_sit_once}
 use Rattle.run_board.proofs.seated.all_seated.Goals as goal
 

@@ -1,5 +1,4 @@
-use Rattle.std.specs.Prelude.{take}
-use Rattle.run_board.specs.Seating.{AreSeatedFirst}
+use Rattle.run_board.proofs.Names.{take, AreSeatedFirst}
 use Rattle.run_board.proofs.seated.all_seated.Given as goal
 
 abbrev pub invariant-loop-line : goal.invariant-loop-line

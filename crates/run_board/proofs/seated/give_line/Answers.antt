@@ -1,7 +1,5 @@
-use Rattle.std.proofs.Common.{◌≡◌, List, [], ◌∷◌, ◌++◌, true, length, refl, ◌∙◌, ap, subst, sym}
-use Rattle.std.proofs.lemmas.Option.{slice_get_read}
-use Rattle.run_board.specs.declared.seated.Seated.{Seated}
-use Rattle.run_board.specs.Seating.{seated_of, sits_at}
+use Rattle.run_board.proofs.Names.{◌≡◌, List, [], ◌∷◌, ◌++◌, true, length, refl, ◌∙◌, ap, subst, sym, slice_get_read}
+use Rattle.run_board.proofs.Names.{Seated, seated_of, sits_at}
 use Rattle.run_board.proofs.Giving.{is_given, is_left}
 use Rattle.run_board.proofs.seated.give_line.Goals as goal
 

@@ -1,9 +1,6 @@
-use Rattle.std.proofs.Common.{◌≡◌, List, true, length, slice_set, ◌∙◌, ap, subst, sym}
-use Rattle.std.specs.Prelude.{map}
-use Rattle.std.proofs.lemmas.Option.{slice_get_read}
-use Rattle.turn_rules.specs.declared.turn.Turn.{Turn}
-use Rattle.run_board.specs.declared.seated.Seated.{Seated}
-use Rattle.run_board.specs.Seating.{after_turn, gone_on_with, seated_of, sits_at}
+use Rattle.run_board.proofs.Names.{◌≡◌, List, true, length, ◌∙◌, ap, subst, sym, map, slice_get_read, Turn, Seated}
+use Rattle.run_board.proofs.Names.{after_turn, gone_on_with, seated_of, sits_at}
+use Rattle.std.proofs.Common.{slice_set}
 use Rattle.run_board.proofs.ByIndex.{changed_at, changed_nowhere, unmoved}
 use Rattle.run_board.proofs.seated.go_on.Goals as goal
 

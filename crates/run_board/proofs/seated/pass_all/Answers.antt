@@ -1,8 +1,5 @@
-use Rattle.std.proofs.Common.{arith, ◌∙◌, ap, slice_set}
-use Rattle.std.proofs.lemmas.List.Edits.{map_over_more}
-use Rattle.planned_cluster.specs.Standing.{clocks_at}
-use Rattle.run_board.specs.declared.seated.Seated.{Seated}
-use Rattle.run_board.specs.Seating.{after_passing}
+use Rattle.run_board.proofs.Names.{arith, ◌∙◌, ap, map_over_more, clocks_at, Seated, after_passing}
+use Rattle.std.proofs.Common.{slice_set}
 use Rattle.run_board.proofs.seated.pass_all.Goals as goal
 
 pub loop-number-preserved : goal.loop-number-preserved

@@ -1,6 +1,5 @@
-use Rattle.std.specs.Prelude.{◌≡◌, ◌++◌, drop, take, map, vec_len}
-use Rattle.planned_cluster.specs.Standing.{clocks_at}
-use Rattle.run_board.specs.Seating.{after_passing}
+use Rattle.run_board.proofs.Names.{take, map, vec_len, clocks_at, after_passing}
+use Rattle.std.specs.Prelude.{◌≡◌, ◌++◌, drop}
 use Rattle.run_board.proofs.seated.pass_all.Given as goal
 
 abbrev pub invariant-loop-number : goal.invariant-loop-number

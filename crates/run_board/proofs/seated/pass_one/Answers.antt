@@ -1,9 +1,6 @@
-use Rattle.std.proofs.Common.{◌≡◌, List, true, length, slice_set, ◌∙◌, ap, subst, sym}
-use Rattle.std.proofs.lemmas.Option.{slice_get_read}
-use Rattle.history_book.specs.declared.item.Actor.TheVariants.{Session}
-use Rattle.planned_cluster.specs.Standing.{clocks_at}
-use Rattle.run_board.specs.declared.seated.Seated.{Seated}
-use Rattle.run_board.specs.Seating.{after_passing, seated_of, sits_at}
+use Rattle.run_board.proofs.Names.{◌≡◌, List, true, length, ◌∙◌, ap, subst, sym, slice_get_read, Session, clocks_at}
+use Rattle.run_board.proofs.Names.{Seated, after_passing, seated_of, sits_at}
+use Rattle.std.proofs.Common.{slice_set}
 use Rattle.run_board.proofs.ByIndex.{changed_at, changed_nowhere}
 use Rattle.run_board.proofs.seated.pass_one.Goals as goal
 

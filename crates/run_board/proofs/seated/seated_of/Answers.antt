@@ -1,5 +1,4 @@
-use Rattle.std.proofs.Common.{length, refl}
-use Rattle.std.proofs.lemmas.Option.{slice_get_read}
+use Rattle.run_board.proofs.Names.{length, refl, slice_get_read}
 use Rattle.run_board.proofs.ByIndex.{found_at}
 use Rattle.run_board.proofs.seated.seated_of.Goals as goal
 

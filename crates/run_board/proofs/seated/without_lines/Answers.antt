@@ -1,6 +1,4 @@
-use Rattle.std.proofs.Common.{[], ◌∷◌, arith}
-use Rattle.history_book.specs.declared.item.Actor.TheVariants.{Clock}
-use Rattle.turn_rules.specs.Seats.{first_seat}
+use Rattle.run_board.proofs.Names.{[], ◌∷◌, arith, Clock, first_seat}
 use Rattle.run_board.proofs.Sitting.{with_nodes, with_sessions, none_sits, no_node, one_more_node, no_session, one_more_session}
 use Rattle.run_board.proofs.seated.without_lines.Goals as goal
 

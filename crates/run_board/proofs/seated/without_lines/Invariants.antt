@@ -1,5 +1,4 @@
-use Rattle.std.proofs.Common.{[]}
-use Rattle.run_board.specs.Seating.{AreSeated}
+use Rattle.run_board.proofs.Names.{[], AreSeated}
 use Rattle.run_board.proofs.Sitting.{with_nodes, with_sessions}
 use Rattle.run_board.proofs.seated.without_lines.Given as goal
 

@@ -1,5 +1,4 @@
-use Rattle.std.proofs.Common.{arith}
-use Rattle.planned_cluster.proofs.Fitting.{one_more_there}
+use Rattle.run_board.proofs.Names.{arith, one_more_there}
 use Rattle.run_board.proofs.sessions.see_sessions.Goals as goal
 
 pub loop-line-preserved : goal.loop-line-preserved

@@ -1,8 +1,6 @@
-use Rattle.std.proofs.Common.{◌≡◌, ◌-◌, ◌<◌, ℕ, suc, Option, None, Some, length, slice_get, refl, sym, subst, ◌∙◌, arith}
-use Rattle.std.proofs.lemmas.Option.{slice_get_read}
-use Rattle.std.proofs.lemmas.List.{length-set, get_or_read}
+use Rattle.si_judge.proofs.Names.{◌≡◌, ◌-◌, ◌<◌, ℕ, suc, Option, None, Some, length, slice_get, refl, sym, subst, ◌∙◌}
+use Rattle.si_judge.proofs.Names.{arith, slice_get_read, length-set, get_or_read, IsNotAbove}
 use Rattle.isolation_rules.specs.declared.verdict.Rule.TheVariants as rule
-use Rattle.si_judge.specs.AskStarts.{IsNotAbove}
 use Rattle.si_judge.proofs.SuspectLemmas.{mark_passes}
 use Rattle.si_judge.proofs.AskIndexLemmas.{KnowsLeast, below_passes, least_more}
 use Rattle.si_judge.proofs.ask_index.start_suspects.Goals as goal

@@ -1,5 +1,4 @@
-use Rattle.std.proofs.Common.{◌≡◌, ◌<◌, Some, length, slice_get, refl, arith}
-use Rattle.std.proofs.lemmas.Option.{slice_get_read}
+use Rattle.si_judge.proofs.Names.{◌≡◌, ◌<◌, Some, length, slice_get, refl, arith, slice_get_read}
 use Rattle.si_judge.proofs.CommitLemmas.{commits_empty, commits_more}
 use Rattle.si_judge.proofs.commits.commits_by_start.Goals as goal
 

@@ -1,7 +1,5 @@
-use Rattle.std.proofs.Common.{ℕ, Some, subst}
-use Rattle.std.specs.Prelude.{nat_eq}
+use Rattle.si_judge.proofs.Names.{ℕ, Some, subst, nat_eq, commit_at}
 use Rattle.std.specs.HashMap.{Updates}
-use Rattle.si_judge.specs.Commits.{commit_at}
 use Rattle.si_judge.proofs.CommitLemmas.{commit_noted}
 use Rattle.si_judge.proofs.commits.note_commit.Goals as goal
 

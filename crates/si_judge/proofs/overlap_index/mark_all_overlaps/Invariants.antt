@@ -1,5 +1,4 @@
-use Rattle.si_judge.specs.Marks.{KeepsMarks}
-use Rattle.si_judge.specs.OverlapIndex.{HasReached}
+use Rattle.si_judge.proofs.Names.{KeepsMarks, HasReached}
 use Rattle.si_judge.proofs.OverlapIndexLemmas.{IsDoneBut}
 use Rattle.si_judge.proofs.overlap_index.mark_all_overlaps.Given as goal
 

@@ -1,5 +1,4 @@
-use Rattle.std.proofs.Common.{ap, ◌∙◌}
-use Rattle.si_judge.specs.Commits.{commit_of}
+use Rattle.si_judge.proofs.Names.{ap, ◌∙◌, commit_of}
 use Rattle.si_judge.proofs.OverlapIndexLemmas.{write_noted, write_missing, writes_kept}
 use Rattle.si_judge.proofs.overlap_index.note_write.Goals as goal
 

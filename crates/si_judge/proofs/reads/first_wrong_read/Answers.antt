@@ -1,9 +1,6 @@
-use Rattle.std.proofs.Common.{◌≡◌, ◌<◌, ℕ, List, length, take, inl, inr, subst, arith, length-take}
-use Rattle.std.proofs.lemmas.Bool.{cases_lt}
-use Rattle.history_book.specs.declared.item.Item.{Item}
+use Rattle.si_judge.proofs.Names.{◌≡◌, ◌<◌, ℕ, List, length, take, inl, inr, subst, arith, length-take, cases_lt, Item}
+use Rattle.si_judge.proofs.Names.{Passes, HasLastWrites, HasListed}
 use Rattle.isolation_rules.specs.declared.verdict.Rule.TheVariants as rule
-use Rattle.isolation_rules.specs.Judged.{Passes}
-use Rattle.si_judge.specs.Indexed.{HasLastWrites, HasListed}
 use Rattle.si_judge.proofs.PushLemmas.{one_more}
 use Rattle.si_judge.proofs.reads.first_wrong_read.Goals as goal
 

@@ -1,7 +1,5 @@
-use Rattle.std.proofs.Common.{◌<◌, ℕ, take}
+use Rattle.si_judge.proofs.Names.{◌<◌, ℕ, take, Passes, HasLastWrites, HasListed}
 use Rattle.isolation_rules.specs.declared.verdict.Rule.TheVariants as rule
-use Rattle.isolation_rules.specs.Judged.{Passes}
-use Rattle.si_judge.specs.Indexed.{HasLastWrites, HasListed}
 use Rattle.si_judge.proofs.reads.first_wrong_read.Given as goal
 
 abbrev pub invariant-loop-first : goal.invariant-loop-first

@@ -1,7 +1,5 @@
-use Rattle.std.proofs.Common.{◌≡◌, ℕ, Option, Some, None, inl, inr, subst, arith}
-use Rattle.std.proofs.lemmas.Bool.{cases_lt}
-use Rattle.isolation_rules.specs.Judged.{IsSecond, Passes}
-use Rattle.isolation_rules.proofs.WalkLemmas.{passes_no}
+use Rattle.si_judge.proofs.Names.{◌≡◌, ℕ, Option, Some, None, inl, inr, subst, arith, cases_lt, IsSecond, Passes}
+use Rattle.si_judge.proofs.Names.{passes_no}
 use Rattle.si_judge.proofs.search.first_of.Goals as goal
 
 pub returns-in-Some-clause-pair : goal.returns-in-Some-clause-pair

@@ -1,5 +1,4 @@
-use Rattle.std.proofs.Common.{◌<◌, ℕ}
-use Rattle.isolation_rules.specs.Judged.{Passes}
+use Rattle.si_judge.proofs.Names.{◌<◌, ℕ, Passes}
 use Rattle.si_judge.proofs.search.first_of.Given as goal
 
 abbrev pub invariant-loop-first : goal.invariant-loop-first

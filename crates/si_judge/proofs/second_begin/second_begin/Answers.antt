@@ -1,7 +1,5 @@
-use Rattle.std.proofs.Common.{◌≡◌, ◌∙◌, ◌<◌, Some, length, take, slice_get, refl, sym, arith}
-use Rattle.std.proofs.lemmas.Bool.{false≢true}
-use Rattle.std.proofs.lemmas.List.{length-take-le}
-use Rattle.std.proofs.lemmas.Option.{slice_get_read}
+use Rattle.si_judge.proofs.Names.{◌≡◌, ◌∙◌, ◌<◌, Some, length, take, slice_get, refl, sym, arith, false≢true}
+use Rattle.si_judge.proofs.Names.{length-take-le, slice_get_read}
 use Rattle.si_judge.proofs.StaleLemmas.{asks_next, none_next, stale_of, stale_within}
 use Rattle.si_judge.proofs.second_begin.second_begin.Goals as goal
 

@@ -1,6 +1,4 @@
-use Rattle.std.proofs.Common.{◌<◌, ℕ, take}
-use Rattle.isolation_rules.specs.FreshPairs.{BreaksFresh}
-use Rattle.si_judge.specs.AskStarts.{AreLastAsks}
+use Rattle.si_judge.proofs.Names.{◌<◌, ℕ, take, BreaksFresh, AreLastAsks}
 use Rattle.si_judge.proofs.second_begin.second_begin.Given as goal
 
 abbrev pub invariant-loop-second : goal.invariant-loop-second

@@ -1,7 +1,5 @@
-use Rattle.std.proofs.Common.{◌≡◌, ◌∙◌, ℕ, Some, length, slice_get, inl, inr, refl, sym, subst, arith}
-use Rattle.std.proofs.lemmas.Bool.{cases_lt, false≢true}
-use Rattle.std.proofs.lemmas.Option.{slice_get_read}
-use Rattle.isolation_rules.specs.ApartPairs.{BreaksApart}
+use Rattle.si_judge.proofs.Names.{◌≡◌, ◌∙◌, ℕ, Some, length, slice_get, inl, inr, refl, sym, subst, arith, cases_lt}
+use Rattle.si_judge.proofs.Names.{false≢true, slice_get_read, BreaksApart}
 use Rattle.si_judge.proofs.SecondLemmas.{breaks_at, broken_at, apart_within}
 use Rattle.si_judge.proofs.second_commit.first_overlap.Goals as goal
 

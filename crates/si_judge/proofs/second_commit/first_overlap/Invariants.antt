@@ -1,5 +1,4 @@
-use Rattle.std.proofs.Common.{◌<◌, ℕ}
-use Rattle.isolation_rules.specs.ApartPairs.{BreaksApart}
+use Rattle.si_judge.proofs.Names.{◌<◌, ℕ, BreaksApart}
 use Rattle.si_judge.proofs.second_commit.first_overlap.Given as goal
 
 abbrev pub invariant-loop-second : goal.invariant-loop-second

@@ -1,6 +1,4 @@
-use Rattle.std.proofs.Common.{ℕ, true, subst}
-use Rattle.std.specs.Prelude.{nat_eq}
-use Rattle.std.specs.HashSet.{Updates}
+use Rattle.si_judge.proofs.Names.{ℕ, true, subst, nat_eq, Updates}
 use Rattle.si_judge.proofs.SharerLemmas.{sharer_entered}
 use Rattle.si_judge.proofs.sharers.enter.Goals as goal
 

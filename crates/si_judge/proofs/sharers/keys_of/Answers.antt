@@ -1,8 +1,5 @@
-use Rattle.std.proofs.Common.{◌≡◌, ◌<◌, ◌+◌, ◌++◌, ◌||◌, Bool, false, List, length, slice_index_or, take, drop, sym, subst, ap, ◌∙◌, arith}
-use Rattle.std.proofs.lemmas.List.{take_at}
-use Rattle.history_book.specs.declared.item.Item.{Item}
-use Rattle.isolation_rules.specs.ApartPairs.{writes}
-use Rattle.si_judge.specs.Sharers.{HasKeys}
+use Rattle.si_judge.proofs.Names.{◌≡◌, ◌<◌, ◌+◌, ◌++◌, ◌||◌, Bool, false, List, length, slice_index_or, take, drop, sym}
+use Rattle.si_judge.proofs.Names.{subst, ap, ◌∙◌, arith, take_at, Item, writes, HasKeys}
 use Rattle.si_judge.proofs.PushLemmas.{one_more}
 use Rattle.si_judge.proofs.SharerLemmas.{more_keys}
 use Rattle.si_judge.proofs.sharers.keys_of.Goals as goal

@@ -1,5 +1,4 @@
-use Rattle.std.proofs.Common.{take}
-use Rattle.si_judge.specs.Sharers.{HasKeys}
+use Rattle.si_judge.proofs.Names.{take, HasKeys}
 use Rattle.si_judge.proofs.sharers.keys_of.Given as goal
 
 abbrev pub invariant-loop-item : goal.invariant-loop-item

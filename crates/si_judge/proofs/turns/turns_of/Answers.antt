@@ -1,6 +1,4 @@
-use Rattle.std.proofs.Common.{◌≡◌, ◌<◌, ℕ, Some, length, slice_get, refl, subst, arith}
-use Rattle.std.proofs.lemmas.Option.{slice_get_read}
-use Rattle.si_judge.specs.Turns.{IsTold}
+use Rattle.si_judge.proofs.Names.{◌≡◌, ◌<◌, ℕ, Some, length, slice_get, refl, subst, arith, slice_get_read, IsTold}
 use Rattle.si_judge.proofs.TurnLemmas.{turns_none, turn_more}
 use Rattle.si_judge.proofs.turns.turns_of.Goals as goal
 

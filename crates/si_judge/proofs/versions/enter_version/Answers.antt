@@ -1,8 +1,4 @@
-use Rattle.std.proofs.Common.{◌∷◌, ◌++◌, [], ap, sym, subst, ◌∙◌}
-use Rattle.std.specs.Option.{option_copied}
-use Rattle.history_book.specs.declared.item.Item.{Item}
-use Rattle.si_judge.specs.Commits.{commit_of}
-use Rattle.si_judge.specs.Indexed.{HasVersions}
+use Rattle.si_judge.proofs.Names.{◌∷◌, ◌++◌, [], ap, sym, subst, ◌∙◌, option_copied, Item, commit_of, HasVersions}
 use Rattle.si_judge.proofs.IndexLemmas.{versions_skip, no_write_skips, open_write_skips, versions_entered}
 use Rattle.si_judge.proofs.versions.enter_version.Goals as goal
 

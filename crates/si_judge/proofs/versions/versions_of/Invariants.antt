@@ -1,5 +1,4 @@
-use Rattle.std.proofs.Common.{take}
-use Rattle.si_judge.specs.Indexed.{HasVersions}
+use Rattle.si_judge.proofs.Names.{take, HasVersions}
 use Rattle.si_judge.proofs.versions.versions_of.Given as goal
 
 abbrev pub invariant-loop-place : goal.invariant-loop-place

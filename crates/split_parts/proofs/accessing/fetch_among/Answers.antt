@@ -1,10 +1,6 @@
-use Rattle.std.proofs.Common.{None, ap, ◌∙◌, arith}
-use Rattle.std.specs.Prelude.{slice_index_or}
-use Rattle.machine.specs.Events.Fetch.{fetch_on}
+use Rattle.split_parts.proofs.Names.{None, ap, ◌∙◌, arith, slice_index_or, fetch_on, numbers_of, on_rows, Parts, behind}
+use Rattle.split_parts.proofs.Names.{cells_of, seen, session_of}
 use Rattle.machine.specs.declared.event.Event.TheVariants as event
-use Rattle.stamp_base.specs.Setups.{numbers_of}
-use Rattle.split_parts.specs.Direct.{on_rows}
-use Rattle.split_parts.specs.Parts.{Parts, behind, cells_of, seen, session_of}
 use Rattle.split_parts.proofs.Directly.{among, made_moved, cells_made, fetch_is}
 use Rattle.split_parts.proofs.accessing.fetch_among.Goals as goal
 

@@ -1,9 +1,7 @@
 use Rattle.std.specs.FinMap as map
-use Rattle.std.proofs.Common.{None, ap, ◌∙◌, arith}
-use Rattle.std.specs.Prelude.{slice_index_or}
-use Rattle.machine.specs.Events.Heal.{heal_on}
+use Rattle.split_parts.proofs.Names.{None, ap, ◌∙◌, arith, slice_index_or, heal_on, Parts, behind, cells_of, seen}
+use Rattle.split_parts.proofs.Names.{session_of}
 use Rattle.machine.specs.declared.event.Event.TheVariants as event
-use Rattle.split_parts.specs.Parts.{Parts, behind, cells_of, seen, session_of}
 use Rattle.split_parts.proofs.Directly.{among, made_moved, cells_made, heal_is, may_heal}
 use Rattle.split_parts.proofs.accessing.heal_among.Goals as goal
 

@@ -1,8 +1,6 @@
-use Rattle.std.proofs.Common.{None, refl, ap, ◌∙◌, arith}
-use Rattle.std.specs.Prelude.{slice_index_or}
-use Rattle.machine.specs.Events.Write.{write_on}
+use Rattle.split_parts.proofs.Names.{None, refl, ap, ◌∙◌, arith, slice_index_or, write_on, Parts, behind, cells_of}
+use Rattle.split_parts.proofs.Names.{seen, session_of}
 use Rattle.machine.specs.declared.event.Event.TheVariants as event
-use Rattle.split_parts.specs.Parts.{Parts, behind, cells_of, seen, session_of}
 use Rattle.split_parts.proofs.Directly.{among, made_moved, cells_made, may_write_of}
 use Rattle.split_parts.proofs.accessing.write_among.Goals as goal
 

@@ -1,9 +1,4 @@
-use Rattle.std.proofs.Common.{sym, subst}
-use Rattle.machine.specs.declared.event.Event.{Event}
-use Rattle.machine.specs.Machine.{asks}
-use Rattle.cluster_core.specs.Required.{CanMake}
-use Rattle.split_parts.specs.Agrees.{CallsFit}
-use Rattle.split_parts.specs.Parts.{filled, seen}
+use Rattle.split_parts.proofs.Names.{sym, subst, Event, asks, CanMake, CallsFit, filled, seen}
 use Rattle.split_parts.proofs.Agreement.{calls_fit, can_make}
 use Rattle.split_parts.proofs.acting.act.Goals as goal
 

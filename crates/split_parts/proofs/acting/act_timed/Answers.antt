@@ -1,6 +1,4 @@
-use Rattle.std.proofs.Common.{rules, refl, ap, ◌∙◌}
-use Rattle.machine.specs.State.{opening}
-use Rattle.split_parts.specs.Parts.{seen}
+use Rattle.split_parts.proofs.Names.{rules, refl, ap, ◌∙◌, opening, seen}
 use Rattle.split_parts.proofs.Filled.{Swap, Swapped, Round, IsMade, IsBack, calls_fit_then, can_make_then, leases_still, back_as_before, acts_by, on_err}
 use Rattle.split_parts.proofs.acting.act_timed.Goals as goal
 

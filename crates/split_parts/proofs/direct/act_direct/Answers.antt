@@ -1,6 +1,4 @@
-use Rattle.std.proofs.Common.{rules, ap, sym, subst, ◌∙◌}
-use Rattle.split_parts.specs.Agrees.{CallsFit}
-use Rattle.split_parts.specs.Parts.{fate_of, seen}
+use Rattle.split_parts.proofs.Names.{rules, ap, sym, subst, ◌∙◌, CallsFit, fate_of, seen}
 use Rattle.split_parts.proofs.Directly.{IsMadeOf, acts_directly, stays_as_before, fits_still}
 use Rattle.split_parts.proofs.Filled.{on_err}
 use Rattle.split_parts.proofs.direct.act_direct.Goals as goal

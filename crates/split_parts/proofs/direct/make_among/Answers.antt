@@ -1,8 +1,4 @@
-use Rattle.std.proofs.Common.{◌≡◌, subst}
-use Rattle.split_parts.specs.Acts.{asked_of}
-use Rattle.machine.specs.declared.event.Event.{Event}
-use Rattle.cluster_core.specs.Required.{CanMake}
-use Rattle.split_parts.specs.Parts.{fate_of, filled, seen}
+use Rattle.split_parts.proofs.Names.{◌≡◌, subst, asked_of, Event, CanMake, fate_of, filled, seen}
 use Rattle.split_parts.proofs.direct.make_among.Goals as goal
 
 pub write_among-requires-clause-can : goal.write_among-requires-clause-can

@@ -1,5 +1,4 @@
-use Rattle.std.proofs.Common.{◌≡◌, drop}
-use Rattle.port_io.specs.Planned.{planned_fate}
+use Rattle.split_parts.proofs.Names.{◌≡◌, drop, planned_fate}
 use Rattle.split_parts.proofs.fates.planned_fate.Given as goal
 
 -- the faults so far are of other calls

@@ -1,8 +1,6 @@
-use Rattle.std.proofs.Common.{None, refl, ap, ◌∙◌, arith}
-use Rattle.std.specs.Prelude.{slice_index_or}
+use Rattle.split_parts.proofs.Names.{None, refl, ap, ◌∙◌, arith, slice_index_or, behind, seen, session_of}
 use Rattle.machine.specs.Events.Abort.{abort_on}
 use Rattle.machine.specs.declared.event.Event.TheVariants as event
-use Rattle.split_parts.specs.Parts.{behind, seen, session_of}
 use Rattle.split_parts.proofs.Directly.{among_sessions, session_moved, session_made}
 use Rattle.split_parts.proofs.leaving.abort_among.Goals as goal
 

@@ -1,6 +1,4 @@
-use Rattle.std.proofs.Common.{rules, refl, ap, ◌∙◌}
-use Rattle.split_parts.specs.Acts.{noted}
-use Rattle.split_parts.specs.Parts.{seen}
+use Rattle.split_parts.proofs.Names.{rules, refl, ap, ◌∙◌, noted, seen}
 use Rattle.split_parts.proofs.NotedEvents.{acts_noted}
 use Rattle.split_parts.proofs.noting.act_noted.Goals as goal
 

@@ -1,10 +1,6 @@
-use Rattle.std.proofs.Common.{refl, subst, sym}
-use Rattle.std.specs.Prelude.{◌≡◌, IfSome}
-use Rattle.stamp_base.specs.SetupNumbers.{SetupNumbers}
-use Rattle.machine.specs.Events.Extend.{extend_on}
-use Rattle.machine.specs.Events.Take.{rules_of}
+use Rattle.split_parts.proofs.Names.{refl, subst, sym, IfSome, SetupNumbers, extend_on, rules_of, seen}
+use Rattle.std.specs.Prelude.{◌≡◌}
 use Rattle.machine.specs.declared.event.Event.TheVariants as event
-use Rattle.split_parts.specs.Parts.{seen}
 use Rattle.split_parts.proofs.RecordEvents.{kept_made, may_extend}
 use Rattle.split_parts.proofs.recording.extend_among.Goals as goal
 

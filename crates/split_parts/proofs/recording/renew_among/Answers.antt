@@ -1,10 +1,6 @@
-use Rattle.std.proofs.Common.{max, refl, subst, sym}
-use Rattle.std.specs.Prelude.{◌≡◌, IfSome}
-use Rattle.stamp_base.specs.SetupNumbers.{SetupNumbers}
-use Rattle.machine.specs.Events.Renew.{renew_on}
-use Rattle.machine.specs.Events.Take.{rules_of}
+use Rattle.split_parts.proofs.Names.{max, refl, subst, sym, IfSome, SetupNumbers, renew_on, rules_of, seen}
+use Rattle.std.specs.Prelude.{◌≡◌}
 use Rattle.machine.specs.declared.event.Event.TheVariants as event
-use Rattle.split_parts.specs.Parts.{seen}
 use Rattle.split_parts.proofs.RecordEvents.{kept_made}
 use Rattle.split_parts.proofs.recording.renew_among.Goals as goal
 

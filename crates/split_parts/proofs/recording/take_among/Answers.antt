@@ -1,9 +1,6 @@
-use Rattle.std.proofs.Common.{max, refl, subst, sym}
-use Rattle.std.specs.Prelude.{◌≡◌, IfSome}
-use Rattle.stamp_base.specs.SetupNumbers.{SetupNumbers}
-use Rattle.machine.specs.Events.Take.{rules_of, take_on}
+use Rattle.split_parts.proofs.Names.{max, refl, subst, sym, IfSome, SetupNumbers, rules_of, take_on, seen}
+use Rattle.std.specs.Prelude.{◌≡◌}
 use Rattle.machine.specs.declared.event.Event.TheVariants as event
-use Rattle.split_parts.specs.Parts.{seen}
 use Rattle.split_parts.proofs.RecordEvents.{kept_made}
 use Rattle.split_parts.proofs.recording.take_among.Goals as goal
 

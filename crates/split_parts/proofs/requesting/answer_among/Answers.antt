@@ -1,9 +1,7 @@
-use Rattle.std.proofs.Common.{None, refl, ap, ◌∙◌, arith}
-use Rattle.std.specs.Prelude.{slice_index_or}
+use Rattle.split_parts.proofs.Names.{None, refl, ap, ◌∙◌, arith, slice_index_or, turned, Parts, behind, node_of, seen}
+use Rattle.split_parts.proofs.Names.{session_of}
 use Rattle.machine.specs.Events.Answer.{answer_on}
 use Rattle.machine.specs.declared.event.Event.TheVariants as event
-use Rattle.split_parts.specs.Direct.{turned}
-use Rattle.split_parts.specs.Parts.{Parts, behind, node_of, seen, session_of}
 use Rattle.split_parts.proofs.Directly.{among_nodes, node_moved, node_made, may_serve}
 use Rattle.split_parts.proofs.requesting.answer_among.Goals as goal
 

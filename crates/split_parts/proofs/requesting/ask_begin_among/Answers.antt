@@ -1,8 +1,7 @@
-use Rattle.std.proofs.Common.{None, refl, ap, ◌∙◌, arith}
-use Rattle.std.specs.Prelude.{slice_index_or}
+use Rattle.split_parts.proofs.Names.{None, refl, ap, ◌∙◌, arith, slice_index_or, Parts, behind, node_of, seen}
+use Rattle.split_parts.proofs.Names.{session_of}
 use Rattle.machine.specs.Events.AskBegin.{ask_begin_on}
 use Rattle.machine.specs.declared.event.Event.TheVariants as event
-use Rattle.split_parts.specs.Parts.{Parts, behind, node_of, seen, session_of}
 use Rattle.split_parts.proofs.Directly.{among_nodes, node_moved, node_made, may_begin}
 use Rattle.split_parts.proofs.requesting.ask_begin_among.Goals as goal
 

@@ -1,7 +1,5 @@
-use Rattle.std.proofs.Common.{refl}
-use Rattle.machine.specs.Events.Put.{put_on}
+use Rattle.split_parts.proofs.Names.{refl, put_on, seen}
 use Rattle.machine.specs.declared.event.Event.TheVariants as event
-use Rattle.split_parts.specs.Parts.{seen}
 use Rattle.split_parts.proofs.Directly.{marks_made}
 use Rattle.split_parts.proofs.requesting.put_among.Goals as goal
 

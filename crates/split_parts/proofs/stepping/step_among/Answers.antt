@@ -1,9 +1,6 @@
-use Rattle.std.proofs.Common.{None, ap, ◌∙◌, arith}
-use Rattle.std.specs.Prelude.{slice_index_or}
-use Rattle.event_parts.specs.Made.{fate_ahead}
-use Rattle.machine.specs.Events.Step.{step_asks, step_on}
+use Rattle.split_parts.proofs.Names.{None, ap, ◌∙◌, arith, slice_index_or, fate_ahead, step_asks, step_on, Parts}
+use Rattle.split_parts.proofs.Names.{behind, cells_of, seen, session_of, table_of}
 use Rattle.machine.specs.declared.event.Event.TheVariants as event
-use Rattle.split_parts.specs.Parts.{Parts, behind, cells_of, seen, session_of, table_of}
 use Rattle.split_parts.proofs.Directly.{among_stores, stores_moved, stores_made, step_is, may_step}
 use Rattle.split_parts.proofs.stepping.step_among.Goals as goal
 

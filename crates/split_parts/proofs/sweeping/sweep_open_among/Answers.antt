@@ -1,7 +1,6 @@
-use Rattle.std.proofs.Common.{refl}
+use Rattle.split_parts.proofs.Names.{refl, seen}
 use Rattle.machine.specs.Events.SweepOpen.{sweep_open_on}
 use Rattle.machine.specs.declared.event.Event.TheVariants as event
-use Rattle.split_parts.specs.Parts.{seen}
 use Rattle.split_parts.proofs.SweepEvents.{janitor_made}
 use Rattle.split_parts.proofs.sweeping.sweep_open_among.Goals as goal
 

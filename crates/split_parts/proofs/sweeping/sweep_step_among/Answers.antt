@@ -1,8 +1,5 @@
-use Rattle.std.proofs.Common.{refl}
-use Rattle.event_parts.specs.Made.{fate_ahead}
-use Rattle.machine.specs.Events.SweepStep.{sweep_step_asks, sweep_step_on}
+use Rattle.split_parts.proofs.Names.{refl, fate_ahead, sweep_step_asks, sweep_step_on, seen}
 use Rattle.machine.specs.declared.event.Event.TheVariants as event
-use Rattle.split_parts.specs.Parts.{seen}
 use Rattle.split_parts.proofs.SweepEvents.{may_sweep, sweep_is, swept_made}
 use Rattle.split_parts.proofs.sweeping.sweep_step_among.Goals as goal
 

@@ -1,5 +1,4 @@
-use Rattle.std.proofs.Common.{◌≡◌, length, refl, arith}
-use Rattle.std.proofs.lemmas.List.{with_items_is}
+use Rattle.cluster_core.proofs.Names.{◌≡◌, length, refl, arith, with_items_is}
 use Rattle.cluster_core.proofs.PutBack.{found, missing, nothing_made}
 use Rattle.cluster_core.proofs.PartsTouched.{clients_made}
 use Rattle.cluster_core.proofs.engine.ClusterState.crash.Goals as goal

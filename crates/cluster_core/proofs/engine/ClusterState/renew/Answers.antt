@@ -1,5 +1,4 @@
-use Rattle.std.proofs.Common.{refl, arith}
-use Rattle.stamp_base.specs.Setups.{numbers_of}
+use Rattle.cluster_core.proofs.Names.{refl, arith, numbers_of}
 use Rattle.cluster_core.proofs.PutBack.{found, missing, nothing_asked, nothing_made}
 use Rattle.cluster_core.proofs.StoreCallsMade.{renew_made}
 use Rattle.cluster_core.proofs.engine.ClusterState.renew.Goals as goal

@@ -1,11 +1,6 @@
-use Rattle.std.proofs.Common.{ℕ, List, sym, ap, ◌∙◌, subst}
-use Rattle.history_book.specs.declared.item.Actor.{Actor}
-use Rattle.thread_steps.specs.declared.cursor.Cursor.{Cursor}
-use Rattle.thread_scripts.proofs.Behind.{can_come_up}
-use Rattle.run_board.specs.Steps.{place_of, Advances}
-use Rattle.thread_steps.specs.Done.{caught_up}
+use Rattle.run_board.proofs.Names.{ℕ, List, sym, ap, ◌∙◌, subst, Actor, Cursor, can_come_up, place_of, Advances}
+use Rattle.run_board.proofs.Names.{caught_up, Played, Counts, IsKeptPlay}
 use Rattle.run_board.specs.Playing as playing
-use Rattle.run_board.specs.Playing.{Played, Counts, IsKeptPlay}
 use Rattle.run_board.proofs.Advancing.{advances}
 use Rattle.run_board.proofs.PlayKept.{kept_further, place_is_small, kept_up}
 use Rattle.run_board.proofs.Counted.{counted_advanced}

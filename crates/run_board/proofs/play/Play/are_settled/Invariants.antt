@@ -1,6 +1,5 @@
 use Rattle.std.specs.Prelude.{◌≡◌, ℕ, ◌<◌, false}
-use Rattle.stamp_base.specs.declared.stage.Stage.TheVariants.{Persist}
-use Rattle.run_board.specs.Steps.{state_of, has_turn}
+use Rattle.run_board.proofs.Names.{Persist, state_of, has_turn}
 use Rattle.run_board.proofs.play.Play.are_settled.Given as goal
 
 -- none so far

@@ -1,8 +1,4 @@
-use Rattle.script_data.specs.Data.{ScriptData}
-use Rattle.command_semantics.specs.Answers.{AnswersOnThreads}
-use Rattle.command_semantics.specs.Planned.{Planned}
-use Rattle.service_rules.specs.Service.{KeepsService}
-use Rattle.run_board.specs.Playing.{IsResult}
+use Rattle.run_board.proofs.Names.{ScriptData, AnswersOnThreads, Planned, KeepsService, IsResult}
 use Rattle.run_board.proofs.Closing.{AreOf, result_at_end, answered_at_end, planned_at_end, service_at_end, of_parts}
 use Rattle.run_board.proofs.play.Play.close.Goals as goal
 

@@ -1,5 +1,4 @@
-use Rattle.stamp_base.specs.declared.stage.Stage.TheVariants.{Request}
-use Rattle.run_board.specs.Through.{MakesSteps}
+use Rattle.run_board.proofs.Names.{Request, MakesSteps}
 use Rattle.run_board.proofs.play.Play.draw.Given as goal
 
 abbrev pub invariant-loop-step : goal.invariant-loop-step

@@ -1,7 +1,4 @@
-use Rattle.std.proofs.Common.{refl, subst}
-use Rattle.script_data.specs.Data.{ScriptData}
-use Rattle.command_semantics.specs.Answers.{AnswersOnThreads}
-use Rattle.service_rules.specs.Service.{KeepsService}
+use Rattle.run_board.proofs.Names.{refl, subst, ScriptData, AnswersOnThreads, KeepsService}
 use Rattle.run_board.proofs.play.Play.finish.Goals as goal
 
 pub returns-clause-answered : goal.returns-clause-answered

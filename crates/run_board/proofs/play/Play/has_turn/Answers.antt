@@ -1,6 +1,4 @@
-use Rattle.std.proofs.Common.{◌∙◌, ap}
-use Rattle.run_board.specs.Steps.{state_of, has_turn}
-use Rattle.run_board.specs.Playing.{Played}
+use Rattle.run_board.proofs.Names.{◌∙◌, ap, state_of, has_turn, Played}
 use Rattle.run_board.proofs.play.Play.has_turn.Goals as goal
 
 pub returns : goal.returns

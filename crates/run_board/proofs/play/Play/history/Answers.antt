@@ -1,10 +1,5 @@
-use Rattle.std.proofs.Common.{subst}
-use Rattle.turn_rules.specs.Laws.{IsPlannedSoFar}
-use Rattle.thread_scripts.specs.Actors.{AreBehind}
-use Rattle.run_board.specs.Run.{reached_by}
-use Rattle.run_board.specs.Steps.{place_of}
-use Rattle.run_board.specs.Playing.{Played, AreCounted}
-use Rattle.run_board.specs.SoFar.{AreAnsweredSoFar}
+use Rattle.run_board.proofs.Names.{subst, IsPlannedSoFar, AreBehind, reached_by, place_of, Played, AreCounted}
+use Rattle.run_board.proofs.Names.{AreAnsweredSoFar}
 use Rattle.run_board.proofs.SoFar.{answered_so_far, planned_so_far}
 use Rattle.run_board.proofs.play.Play.history.Goals as goal
 

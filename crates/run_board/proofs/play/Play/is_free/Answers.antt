@@ -1,5 +1,4 @@
-use Rattle.std.proofs.Common.{◌∙◌, sym}
-use Rattle.stamp_base.specs.declared.stage.Stage.TheVariants.{Request, Persist, Reply}
+use Rattle.run_board.proofs.Names.{◌∙◌, sym, Request, Persist, Reply}
 use Rattle.run_board.proofs.StageSteps.{all_free}
 use Rattle.run_board.proofs.play.Play.is_free.Goals as goal
 

@@ -1,6 +1,4 @@
-use Rattle.std.proofs.Common.{◌∙◌, ap}
-use Rattle.run_board.specs.Steps.{IsStageHeld}
-use Rattle.run_board.specs.Playing.{Played}
+use Rattle.run_board.proofs.Names.{◌∙◌, ap, IsStageHeld, Played}
 use Rattle.run_board.proofs.play.Play.is_held.Goals as goal
 
 pub returns : goal.returns

@@ -1,7 +1,4 @@
-use Rattle.std.proofs.Common.{◌≤◌, List, All, length, subst, arith}
-use Rattle.script_data.specs.declared.line.Line.{Line}
-use Rattle.session_script.specs.Script.{data_of}
-use Rattle.planned_cluster.specs.Fitting.{SessionIsThere}
+use Rattle.run_board.proofs.Names.{◌≤◌, List, All, length, subst, arith, Line, data_of, SessionIsThere}
 use Rattle.run_board.proofs.PlayKept.{kept_at_first}
 use Rattle.run_board.proofs.Counted.{counted_at_first}
 use Rattle.run_board.proofs.play.Play.open.Goals as goal

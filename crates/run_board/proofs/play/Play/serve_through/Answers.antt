@@ -1,6 +1,4 @@
-use Rattle.std.proofs.Common.{sym, subst}
-use Rattle.run_board.specs.Playing.{Played}
-use Rattle.run_board.specs.Through.{GoesThrough}
+use Rattle.run_board.proofs.Names.{sym, subst, Played, GoesThrough}
 use Rattle.run_board.proofs.StageSteps.{none_through}
 use Rattle.run_board.proofs.play.Play.serve_through.Goals as goal
 use Rattle.run_board.proofs.play.Play.serve_through.Goals.{then-is_clear, else-is_clear}

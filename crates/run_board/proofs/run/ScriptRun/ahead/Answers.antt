@@ -1,13 +1,5 @@
-use Rattle.std.proofs.Common.{◌≡◌, List, subst, sym, ap, ◌∙◌}
-use Rattle.std.specs.Prelude.{IfSome}
-use Rattle.turn_rules.specs.declared.ahead.NextAction.TheVariants.{Passes}
-use Rattle.turn_rules.specs.Carried.{ahead_at, own_ahead}
-use Rattle.command_semantics.specs.Clocks.{HaveRoom}
-use Rattle.session_script.specs.Script.{data_of}
-use Rattle.run_board.specs.declared.seated.Seated.{Seated}
-use Rattle.run_board.specs.Run.{Ran, reached_by}
-use Rattle.run_board.specs.Seating.{seated_of, SitOnce}
-use Rattle.run_board.specs.Steps.{HasEnded}
+use Rattle.run_board.proofs.Names.{◌≡◌, List, subst, sym, ap, ◌∙◌, IfSome, Passes, ahead_at, own_ahead, HaveRoom}
+use Rattle.run_board.proofs.Names.{data_of, Seated, Ran, reached_by, seated_of, SitOnce, HasEnded}
 use Rattle.run_board.proofs.Ended.{has_ended}
 use Rattle.run_board.proofs.SeatedOnce.{sit_once}
 use Rattle.run_board.proofs.Found.{ahead_found, ahead_missing}

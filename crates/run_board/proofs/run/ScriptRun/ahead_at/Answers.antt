@@ -1,11 +1,5 @@
-use Rattle.std.proofs.Common.{ℕ, List, Bool, Option, Some, ◌∙◌, sym, ap}
-use Rattle.script_data.specs.declared.line.Line.{Line}
-use Rattle.command_semantics.specs.Clocks.{clocks}
-use Rattle.command_semantics.specs.Views.{view_of}
-use Rattle.session_script.specs.Script.{data_of}
-use Rattle.turn_rules.specs.Carried.{aimed_node, aimed_clocks, ahead_at, name_posted}
-use Rattle.turn_rules.specs.Waiting.{own_next}
-use Rattle.run_board.specs.Run.{Ran, reached_by}
+use Rattle.run_board.proofs.Names.{ℕ, List, Bool, Option, Some, ◌∙◌, sym, ap, Line, clocks, view_of, data_of}
+use Rattle.run_board.proofs.Names.{aimed_node, aimed_clocks, ahead_at, name_posted, own_next, Ran, reached_by}
 use Rattle.run_board.proofs.run.ScriptRun.ahead_at.Goals as goal
 
 pub returns-in-Some : goal.returns-in-Some

@@ -1,8 +1,5 @@
-use Rattle.std.proofs.Common.{arith, true, leb, List, subst, sym, ap, ◌∙◌}
-use Rattle.session_script.specs.Script.{data_of}
-use Rattle.run_board.specs.declared.seated.Seated.{Seated}
-use Rattle.run_board.specs.Run.{Ran}
-use Rattle.run_board.specs.Seating.{seated_of, SitOnce}
+use Rattle.run_board.proofs.Names.{arith, true, leb, List, subst, sym, ap, ◌∙◌, data_of, Seated, Ran, seated_of}
+use Rattle.run_board.proofs.Names.{SitOnce}
 use Rattle.run_board.proofs.Ended.{Ends, ends_seated, ends_unseated}
 use Rattle.run_board.proofs.SeatedOnce.{sit_once}
 use Rattle.run_board.proofs.run.ScriptRun.ends_at.Goals as goal

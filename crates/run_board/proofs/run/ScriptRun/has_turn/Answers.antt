@@ -1,9 +1,5 @@
-use Rattle.std.proofs.Common.{◌∙◌, ap}
-use Rattle.std.specs.Prelude.{is_some}
-use Rattle.machine.specs.State.{State}
+use Rattle.run_board.proofs.Names.{◌∙◌, ap, is_some, State, Ran, has_turn, state_of}
 use Rattle.turn_rules.specs.Lawful as lawful
-use Rattle.run_board.specs.Run.{Ran}
-use Rattle.run_board.specs.Steps.{has_turn, state_of}
 use Rattle.run_board.proofs.run.ScriptRun.has_turn.Goals as goal
 
 pub returns : goal.returns

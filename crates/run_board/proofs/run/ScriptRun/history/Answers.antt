@@ -1,14 +1,7 @@
-use Rattle.std.proofs.Common.{◌≡◌, Bool, List, ◌∙◌, ap, sym, subst}
-use Rattle.stamp_base.specs.SetupNumbers.{SetupNumbers}
-use Rattle.history_book.specs.declared.item.Item.{Item}
+use Rattle.run_board.proofs.Names.{◌≡◌, Bool, List, ◌∙◌, ap, sym, subst, SetupNumbers, Item, State, ScriptData, data_of}
+use Rattle.run_board.proofs.Names.{Turn, carried, Ran, IsCarriedOut}
 use Rattle.cause_rules.specs.Explained.{Explained}
 use Rattle.cause_rules.specs.Strict.{SerialIfStrict}
-use Rattle.machine.specs.State.{State}
-use Rattle.script_data.specs.Data.{ScriptData}
-use Rattle.session_script.specs.Script.{data_of}
-use Rattle.turn_rules.specs.declared.turn.Turn.{Turn}
-use Rattle.turn_rules.specs.Carried.{carried}
-use Rattle.run_board.specs.Run.{Ran, IsCarriedOut}
 use Rattle.run_board.proofs.Steady.{facts}
 use Rattle.run_board.proofs.run.ScriptRun.history.Goals as goal
 

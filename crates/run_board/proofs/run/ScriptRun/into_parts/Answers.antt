@@ -1,7 +1,4 @@
-use Rattle.std.proofs.Common.{◌∙◌, ap}
-use Rattle.cluster_core.specs.ClusterModel.{ClusterModel}
-use Rattle.turn_rules.specs.Carried.{carried_items}
-use Rattle.run_board.specs.Run.{Ran, reached_by}
+use Rattle.run_board.proofs.Names.{◌∙◌, ap, ClusterModel, carried_items, Ran, reached_by}
 use Rattle.run_board.proofs.run.ScriptRun.into_parts.Goals as goal
 
 pub returns-clause-history : goal.returns-clause-history

@@ -1,8 +1,4 @@
-use Rattle.std.proofs.Common.{List, ◌∙◌, ap}
-use Rattle.turn_rules.specs.declared.seat.Holds.{Holds}
-use Rattle.turn_rules.specs.Carried.{is_held, holds_at}
-use Rattle.run_board.specs.Run.{Ran}
-use Rattle.run_board.specs.Steps.{IsStageHeld}
+use Rattle.run_board.proofs.Names.{List, ◌∙◌, ap, Holds, is_held, holds_at, Ran, IsStageHeld}
 use Rattle.run_board.proofs.run.ScriptRun.is_held.Goals as goal
 
 pub returns : goal.returns

@@ -1,26 +1,14 @@
-use Rattle.std.proofs.Common.{◌≡◌, ℕ, Err, ◌+◌, ◌≤◌, Bool, List, [], ◌∷◌, ◌++◌, Option, Some, Result, drop, length, sym, ◌∙◌, ap, subst, arith}
-use Rattle.std.specs.Prelude.{map, option_map, is_ok, vec_len}
+use Rattle.run_board.proofs.Names.{◌≡◌, ℕ, Err, ◌+◌, ◌≤◌, Bool, List, [], ◌∷◌, ◌++◌, Option, Some, Result, drop, length}
+use Rattle.run_board.proofs.Names.{sym, ◌∙◌, ap, subst, arith, map, is_ok, vec_len, Stopped, NoMemory, ahead-value}
+use Rattle.run_board.proofs.Names.{Item, Event, data_of, Interruption, StandsAt, clocks_at, Turn, was_asked}
+use Rattle.run_board.proofs.Names.{names_after, with_name, event_of, carried, IsFree, IsInPlace, stage_of, Seated}
+use Rattle.run_board.proofs.Names.{is_told, lacking_after, cleared, serves, after_turn, after_passes, touched, SitOnce}
+use Rattle.run_board.proofs.Names.{Ran, reached_by, with_turn, SitsAt, IsCarriedOut}
+use Rattle.std.specs.Prelude.{option_map}
 use Rattle.std.specs.Vec.{vec_capacity}
-use Rattle.event_parts.specs.declared.stopped.Stopped.{Stopped}
-use Rattle.event_parts.specs.declared.stopped.Stopped.TheVariants.{NoMemory}
-use Rattle.port_io.specs.contracts.planned.PlannedWeatherWeather.TheImpl.{ahead-value}
-use Rattle.history_book.specs.declared.item.Item.{Item}
-use Rattle.machine.specs.declared.event.Event.{Event}
-use Rattle.session_script.specs.Script.{data_of}
-use Rattle.command_semantics.specs.declared.point.Interruption.{Interruption}
 use Rattle.planned_cluster.specs.declared.planned.PlannedCluster.{PlannedCluster}
-use Rattle.planned_cluster.specs.Standing.{StandsAt, clocks_at}
-use Rattle.turn_rules.specs.declared.turn.Turn.{Turn}
-use Rattle.turn_rules.specs.Seats.{was_asked}
-use Rattle.session_script.specs.PostedNames.{names_after, with_name}
-use Rattle.turn_rules.specs.Carried.{event_of, carried}
-use Rattle.turn_rules.specs.Lawful.{IsFree, IsInPlace, stage_of}
 use Rattle.run_board.specs.declared.run.ScriptRun.TheInside.{Inside}
-use Rattle.run_board.specs.declared.seated.Seated.{Seated}
-use Rattle.run_board.specs.Making.{is_told, lacking_after, cleared, serves}
-use Rattle.run_board.specs.Seating.{after_turn, after_passes, touched, SitOnce}
 use Rattle.run_board.proofs.OneActor.{one_passes}
-use Rattle.run_board.specs.Run.{Ran, reached_by, with_turn, SitsAt, IsCarriedOut}
 use Rattle.run_board.proofs.Called.{can_turn, is_steady, has_gone, same_made, may_pass, makes_turn, leaves_out}
 use Rattle.run_board.proofs.Kept.{Kept, Call, IsMade, CanTurn, since, moved_by, kept_after, kept_still}
 use Rattle.run_board.proofs.SeatedOnce.{sit_once, moved_once}

@@ -1,12 +1,6 @@
-use Rattle.std.proofs.Common.{◌≡◌, List, Err, Some, length, sym, ap, ◌∙◌, subst, arith}
-use Rattle.event_parts.specs.declared.stopped.Stopped.TheVariants.{NoMemory}
-use Rattle.history_book.specs.declared.item.Item.{Item}
-use Rattle.planned_cluster.proofs.Playable.{playable_at_first}
-use Rattle.turn_rules.specs.Carried.{event_of, made_by}
+use Rattle.run_board.proofs.Names.{◌≡◌, List, Err, Some, length, sym, ap, ◌∙◌, subst, arith, NoMemory, Item}
+use Rattle.run_board.proofs.Names.{playable_at_first, event_of, made_by, IsTold, data_of, Ran, reached_by}
 use Rattle.turn_rules.specs.declared.turn.Turn.TheVariants as turn
-use Rattle.turn_rules.specs.Lawful.{IsTold}
-use Rattle.session_script.specs.Script.{data_of}
-use Rattle.run_board.specs.Run.{Ran, reached_by}
 use Rattle.run_board.proofs.Since.{items_of, grown_least}
 use Rattle.run_board.proofs.Telling.{own_made}
 use Rattle.run_board.proofs.run.ScriptRun.make_own.Goals as goal

@@ -1,12 +1,5 @@
-use Rattle.std.proofs.Common.{List, [], ◌∙◌, All, ap, arith, refl, sym, subst}
-use Rattle.std.specs.Prelude.{replicate}
-use Rattle.port_io.specs.contracts.planned.PlannedWeatherWeather.TheImpl.{ahead-value}
-use Rattle.session_script.specs.Script.{data_of}
-use Rattle.script_data.specs.declared.line.Line.{Line}
-use Rattle.planned_cluster.specs.Fitting.{SessionIsThere}
-use Rattle.planned_cluster.specs.Standing.{clocks_at}
-use Rattle.turn_rules.specs.declared.seat.Holds.{Holds}
-use Rattle.run_board.specs.Seating.{AreSeatedFirst}
+use Rattle.run_board.proofs.Names.{List, [], ◌∙◌, All, ap, arith, refl, sym, subst, replicate, ahead-value, data_of}
+use Rattle.run_board.proofs.Names.{Line, SessionIsThere, clocks_at, Holds, AreSeatedFirst}
 use Rattle.run_board.proofs.Called.{same_made}
 use Rattle.run_board.proofs.Kept.{Kept}
 use Rattle.run_board.proofs.Opening.{all_can_pass, sits_first, opens}

@@ -1,10 +1,5 @@
-use Rattle.std.proofs.Common.{◌≡◌, List, subst, sym, ap, ◌∙◌}
-use Rattle.turn_rules.specs.Carried.{carried}
-use Rattle.session_script.specs.Script.{data_of}
-use Rattle.run_board.specs.declared.seated.Seated.{Seated}
-use Rattle.run_board.specs.Run.{Ran}
-use Rattle.run_board.specs.Seating.{seated_of, SitOnce}
-use Rattle.run_board.specs.Steps.{place_of}
+use Rattle.run_board.proofs.Names.{◌≡◌, List, subst, sym, ap, ◌∙◌, carried, data_of, Seated, Ran, seated_of, SitOnce}
+use Rattle.run_board.proofs.Names.{place_of}
 use Rattle.run_board.proofs.SeatedOnce.{sit_once}
 use Rattle.run_board.proofs.Found.{place_found, place_missing}
 use Rattle.run_board.proofs.run.ScriptRun.place.Goals as goal

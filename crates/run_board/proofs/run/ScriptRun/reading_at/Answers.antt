@@ -1,6 +1,5 @@
-use Rattle.std.proofs.Common.{◌≡◌, slice_index_or, arith, rules}
-use Rattle.planned_cluster.proofs.Playable.{playable_at_first}
-use Rattle.session_script.specs.Script.{data_of}
+use Rattle.run_board.proofs.Names.{◌≡◌, arith, rules, playable_at_first, data_of}
+use Rattle.std.proofs.Common.{slice_index_or}
 use Rattle.run_board.proofs.Steady.{clock_room}
 use Rattle.run_board.proofs.run.ScriptRun.reading_at.Goals.{in-Some, in-None}
 use Rattle.run_board.proofs.run.ScriptRun.reading_at.Goals as goal

@@ -1,8 +1,4 @@
-use Rattle.std.proofs.Common.{List, Result, length, drop, ◌∙◌, ap, subst, arith}
-use Rattle.event_parts.specs.declared.stopped.Stopped.{Stopped}
-use Rattle.history_book.specs.declared.item.Item.{Item}
-use Rattle.run_board.specs.Making.{Makes}
-use Rattle.run_board.specs.Steps.{done_by}
+use Rattle.run_board.proofs.Names.{List, Result, length, drop, ◌∙◌, ap, subst, arith, Stopped, Item, Makes, done_by}
 use Rattle.run_board.proofs.Since.{grown_least}
 use Rattle.run_board.proofs.Telling.{done_serves, done_lacks_none}
 use Rattle.run_board.proofs.run.ScriptRun.serve.Goals as goal

@@ -1,12 +1,8 @@
-use Rattle.std.proofs.Common.{◌≡◌, Some, None, subst, sym, ap, ◌∙◌}
-use Rattle.std.specs.Prelude.{MatchOption, false, slice_index_or}
-use Rattle.history_book.specs.declared.item.Actor.TheVariants.{Session}
-use Rattle.command_semantics.specs.Views.{view_of}
+use Rattle.run_board.proofs.Names.{◌≡◌, Some, None, subst, sym, ap, ◌∙◌, MatchOption, slice_index_or, Session, view_of}
+use Rattle.run_board.proofs.Names.{data_of, Ran, IsServable, state_of}
+use Rattle.std.specs.Prelude.{false}
 use Rattle.turn_rules.specs.declared.turn.Turn.TheVariants as turn
 use Rattle.turn_rules.specs.Lawful as lawful
-use Rattle.session_script.specs.Script.{data_of}
-use Rattle.run_board.specs.Run.{Ran}
-use Rattle.run_board.specs.Steps.{IsServable, state_of}
 use Rattle.run_board.proofs.Servable.{extends_first, serves_there, serves_found}
 use Rattle.run_board.proofs.run.ScriptRun.turn_of.Goals as goal
 

@@ -1,5 +1,4 @@
-use Rattle.std.proofs.Common.{◌≡◌, ◌<◌, Some, length, slice_get, refl, arith}
-use Rattle.std.proofs.lemmas.Option.{slice_get_read}
+use Rattle.si_judge.proofs.Names.{◌≡◌, ◌<◌, Some, length, slice_get, refl, arith, slice_get_read}
 use Rattle.si_judge.proofs.AskIndexLemmas.{ask_at, ask_within_starts, noted_ask, noted_begin, noted_other}
 use Rattle.si_judge.proofs.ask_index.Asked.note.Goals as goal
 

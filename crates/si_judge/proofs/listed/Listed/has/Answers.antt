@@ -1,7 +1,4 @@
-use Rattle.std.proofs.Common.{sym, ap, ◌∙◌}
-use Rattle.std.specs.Prelude.{nat_eq}
-use Rattle.std.specs.HashSet.{contains}
-use Rattle.isolation_rules.proofs.WriteLemmas.{any_listed, listed_any}
+use Rattle.si_judge.proofs.Names.{sym, ap, ◌∙◌, nat_eq, contains, any_listed, listed_any}
 use Rattle.si_judge.proofs.listed.Listed.has.Goals as goal
 
 pub returns : goal.returns

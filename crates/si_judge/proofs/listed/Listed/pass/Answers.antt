@@ -1,6 +1,4 @@
-use Rattle.std.proofs.Common.{ℕ, true, subst}
-use Rattle.std.specs.Prelude.{nat_eq}
-use Rattle.std.specs.HashSet.{Updates}
+use Rattle.si_judge.proofs.Names.{ℕ, true, subst, nat_eq, Updates}
 use Rattle.si_judge.proofs.ListedLemmas.{listed_entered}
 use Rattle.si_judge.proofs.listed.Listed.pass.Goals as goal
 

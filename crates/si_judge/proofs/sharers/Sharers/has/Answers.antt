@@ -1,6 +1,4 @@
-use Rattle.std.proofs.Common.{sym, ap, ◌∙◌}
-use Rattle.std.specs.Prelude.{nat_eq}
-use Rattle.std.specs.HashSet.{contains}
+use Rattle.si_judge.proofs.Names.{sym, ap, ◌∙◌, nat_eq, contains}
 use Rattle.si_judge.proofs.SharerLemmas.{sharer_shares, shares_entered}
 use Rattle.si_judge.proofs.sharers.Sharers.has.Goals as goal
 

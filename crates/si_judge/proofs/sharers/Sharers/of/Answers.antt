@@ -1,6 +1,4 @@
-use Rattle.std.proofs.Common.{◌<◌, List, length, take, Bool, sym, subst, arith}
-use Rattle.history_book.specs.declared.item.Item.{Item}
-use Rattle.si_judge.specs.Sharers.{HasKeys, HasSharers}
+use Rattle.si_judge.proofs.Names.{◌<◌, List, length, take, Bool, sym, subst, arith, Item, HasKeys, HasSharers}
 use Rattle.si_judge.proofs.PushLemmas.{one_more}
 use Rattle.si_judge.proofs.sharers.Sharers.of.Goals as goal
 

@@ -1,5 +1,4 @@
-use Rattle.std.proofs.Common.{sym, ◌∙◌}
-use Rattle.std.proofs.lemmas.Bool.{eqb-true, eq-eqb}
+use Rattle.si_judge.proofs.Names.{sym, ◌∙◌, eqb-true, eq-eqb}
 use Rattle.si_judge.proofs.IndexLemmas.{none_below, last_newest, last_other}
 use Rattle.si_judge.proofs.versions.VersionIndex.visible.Goals as goal
 

@@ -1,8 +1,5 @@
-use Rattle.std.proofs.Common.{Option, sym, ap, subst, ◌∙◌}
-use Rattle.isolation_rules.specs.declared.version.Version.{Version}
+use Rattle.si_judge.proofs.Names.{Option, sym, ap, subst, ◌∙◌, Version, pair_eq, IsOwn}
 use Rattle.std.specs.HashMap.{get}
-use Rattle.si_judge.specs.Indexed.{pair_eq}
-use Rattle.isolation_rules.specs.Best.{IsOwn}
 use Rattle.si_judge.proofs.writes.LastWrites.last.Goals as goal
 
 pub returns : goal.returns

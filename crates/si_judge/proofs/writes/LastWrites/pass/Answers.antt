@@ -1,8 +1,5 @@
-use Rattle.std.proofs.Common.{ℕ, Some, ◌∷◌, ◌++◌, [], sym, subst}
-use Rattle.history_book.specs.declared.item.Item.{Item}
+use Rattle.si_judge.proofs.Names.{ℕ, Some, ◌∷◌, ◌++◌, [], sym, subst, Item, Version, HasLastWrites, pair_eq}
 use Rattle.std.specs.HashMap.{Updates}
-use Rattle.isolation_rules.specs.declared.version.Version.{Version}
-use Rattle.si_judge.specs.Indexed.{HasLastWrites, pair_eq}
 use Rattle.si_judge.proofs.IndexLemmas.{writes_skip, no_write_skips, writes_entered}
 use Rattle.si_judge.proofs.writes.LastWrites.pass.Goals as goal
 

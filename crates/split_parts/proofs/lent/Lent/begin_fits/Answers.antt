@@ -1,8 +1,4 @@
-use Rattle.std.proofs.Common.{◌≡◌, sym, arith}
-use Rattle.std.specs.Prelude.{IsTrue}
-use Rattle.system_parts.specs.declared.session.State.TheVariants.{Free}
-use Rattle.machine.specs.Calls.{HoldsNone}
-use Rattle.split_parts.specs.Parts.{node_asked, seen}
+use Rattle.split_parts.proofs.Names.{◌≡◌, sym, arith, IsTrue, Free, HoldsNone, node_asked, seen}
 use Rattle.split_parts.proofs.FoundParts.{of_turned}
 use Rattle.split_parts.proofs.lent.Lent.begin_fits.Goals as goal
 

@@ -1,5 +1,4 @@
-use Rattle.std.proofs.Common.{refl, arith}
-use Rattle.split_parts.specs.Parts.{seen}
+use Rattle.split_parts.proofs.Names.{refl, arith, seen}
 use Rattle.split_parts.proofs.FoundParts.{asked_by_all}
 use Rattle.split_parts.proofs.lent.Lent.crash_fits.Goals as goal
 

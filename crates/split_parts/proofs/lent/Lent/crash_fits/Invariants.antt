@@ -1,6 +1,4 @@
-use Rattle.std.proofs.Common.{ℕ, ◌<◌}
-use Rattle.split_parts.specs.Agrees.{IsAsked}
-use Rattle.split_parts.specs.Parts.{filled, seen}
+use Rattle.split_parts.proofs.Names.{ℕ, ◌<◌, IsAsked, filled, seen}
 use Rattle.split_parts.proofs.lent.Lent.crash_fits.Given as goal
 
 abbrev pub invariant-loop-number : goal.invariant-loop-number

@@ -1,5 +1,4 @@
-use Rattle.std.proofs.Common.{sym, arith}
-use Rattle.split_parts.specs.Parts.{seen}
+use Rattle.split_parts.proofs.Names.{sym, arith, seen}
 use Rattle.split_parts.proofs.Directly.{fetch_asked}
 use Rattle.split_parts.proofs.lent.Lent.fetch_store.Goals as goal
 

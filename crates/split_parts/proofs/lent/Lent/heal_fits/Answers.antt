@@ -1,9 +1,4 @@
-use Rattle.std.proofs.Common.{sym, arith}
-use Rattle.std.specs.Prelude.{IfSome, IsTrue}
-use Rattle.system_parts.specs.Rows.{HasOnly}
-use Rattle.machine.specs.State.{Client}
-use Rattle.machine.specs.Events.Heal.{offer_of}
-use Rattle.split_parts.specs.Parts.{filled, seen}
+use Rattle.split_parts.proofs.Names.{sym, arith, IfSome, IsTrue, HasOnly, Client, offer_of, filled, seen}
 use Rattle.split_parts.proofs.FoundParts.{of_client}
 use Rattle.split_parts.proofs.lent.Lent.heal_fits.Goals as goal
 

@@ -1,5 +1,4 @@
-use Rattle.std.proofs.Common.{sym}
-use Rattle.split_parts.specs.Parts.{seen}
+use Rattle.split_parts.proofs.Names.{sym, seen}
 use Rattle.split_parts.proofs.Directly.{put_asked}
 use Rattle.split_parts.proofs.lent.Lent.put_store.Goals as goal
 

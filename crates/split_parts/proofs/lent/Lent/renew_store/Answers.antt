@@ -1,7 +1,4 @@
-use Rattle.std.proofs.Common.{sym, ◌∙◌}
-use Rattle.machine.specs.Events.Extend.{extend_asks}
-use Rattle.machine.specs.Events.Renew.{renew_asks}
-use Rattle.split_parts.specs.Parts.{seen}
+use Rattle.split_parts.proofs.Names.{sym, ◌∙◌, extend_asks, renew_asks, seen}
 use Rattle.split_parts.proofs.RecordEvents.{as_renewed, asked_at}
 use Rattle.split_parts.proofs.lent.Lent.renew_store.Goals as goal
 

@@ -1,7 +1,4 @@
-use Rattle.std.proofs.Common.{sym, arith}
-use Rattle.std.specs.Prelude.{IsTrue}
-use Rattle.split_parts.specs.Agrees.{HasAskedAt}
-use Rattle.split_parts.specs.Parts.{seen}
+use Rattle.split_parts.proofs.Names.{sym, arith, IsTrue, HasAskedAt, seen}
 use Rattle.split_parts.proofs.FoundParts.{of_both}
 use Rattle.split_parts.proofs.lent.Lent.request_fits.Goals as goal
 

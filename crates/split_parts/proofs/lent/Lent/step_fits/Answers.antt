@@ -1,10 +1,5 @@
-use Rattle.std.proofs.Common.{◌≡◌, refl, sym, arith, None}
-use Rattle.std.specs.Prelude.{IsTrue}
-use Rattle.system_parts.specs.SessionSteps.{handed_commit}
-use Rattle.machine.specs.State.{Client}
-use Rattle.machine.specs.Calls.{KeepsShadowNext, MayStep}
-use Rattle.machine.specs.Events.Step.{next_of, work_of}
-use Rattle.split_parts.specs.Parts.{filled, seen}
+use Rattle.split_parts.proofs.Names.{◌≡◌, refl, sym, arith, None, IsTrue, handed_commit, Client, KeepsShadowNext}
+use Rattle.split_parts.proofs.Names.{MayStep, next_of, work_of, filled, seen}
 use Rattle.split_parts.proofs.FoundParts.{of_client, keeps_none}
 use Rattle.split_parts.proofs.lent.Lent.step_fits.Goals as goal
 

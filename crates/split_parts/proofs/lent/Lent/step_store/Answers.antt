@@ -1,8 +1,4 @@
-use Rattle.std.proofs.Common.{sym, ap, ◌∙◌, arith, Option}
-use Rattle.machine.specs.State.{Client}
-use Rattle.machine.specs.Events.Step.{step_asks}
-use Rattle.machine.specs.Machine.{asks_at_client}
-use Rattle.split_parts.specs.Parts.{seen}
+use Rattle.split_parts.proofs.Names.{sym, ap, ◌∙◌, arith, Option, Client, step_asks, asks_at_client, seen}
 use Rattle.split_parts.proofs.FoundParts.{client_there}
 use Rattle.split_parts.proofs.lent.Lent.step_store.Goals as goal
 

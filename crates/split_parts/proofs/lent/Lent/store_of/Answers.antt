@@ -1,6 +1,4 @@
-use Rattle.std.proofs.Common.{sym, ap, ◌∙◌}
-use Rattle.split_parts.specs.Agrees.{store_by}
-use Rattle.split_parts.specs.Parts.{seen}
+use Rattle.split_parts.proofs.Names.{sym, ap, ◌∙◌, store_by, seen}
 use Rattle.split_parts.proofs.lent.Lent.store_of.Goals as goal
 
 pub returns-in-Step : goal.returns-in-Step

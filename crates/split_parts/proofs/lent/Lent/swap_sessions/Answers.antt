@@ -1,5 +1,4 @@
-use Rattle.std.proofs.Common.{refl, ◌∙◌, arith}
-use Rattle.split_parts.specs.Parts.{given_sessions, lent_clients, sessions_seen}
+use Rattle.split_parts.proofs.Names.{refl, ◌∙◌, arith, given_sessions, lent_clients, sessions_seen}
 use Rattle.split_parts.proofs.OneMore.{clients_next, sessions_next}
 use Rattle.split_parts.proofs.lent.Lent.swap_sessions.Goals as goal
 

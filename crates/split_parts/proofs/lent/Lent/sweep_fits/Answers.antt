@@ -1,5 +1,4 @@
-use Rattle.std.proofs.Common.{refl}
-use Rattle.split_parts.specs.Parts.{filled, seen}
+use Rattle.split_parts.proofs.Names.{refl, filled, seen}
 use Rattle.split_parts.proofs.FoundParts.{sweeps_none}
 use Rattle.split_parts.proofs.lent.Lent.sweep_fits.Goals as goal
 

@@ -1,6 +1,4 @@
-use Rattle.std.proofs.Common.{sym}
-use Rattle.machine.specs.Events.Take.{take_asks}
-use Rattle.split_parts.specs.Parts.{seen}
+use Rattle.split_parts.proofs.Names.{sym, take_asks, seen}
 use Rattle.split_parts.proofs.RecordEvents.{asked_at}
 use Rattle.split_parts.proofs.lent.Lent.take_store.Goals as goal
 

@@ -1,5 +1,4 @@
-use Rattle.std.proofs.Common.{◌+◌, sym, subst}
-use Rattle.split_parts.specs.Lending.{LendsBelow}
+use Rattle.split_parts.proofs.Names.{◌+◌, sym, subst, LendsBelow}
 use Rattle.split_parts.proofs.LentSessions.{below_more}
 use Rattle.split_parts.proofs.lent.Lent.with_next_session.Goals as goal
 

@@ -1,9 +1,4 @@
-use Rattle.std.proofs.Common.{◌≡◌, sym, arith}
-use Rattle.std.specs.Prelude.{IfSome, IsTrue}
-use Rattle.system_parts.specs.Rows.{IsBare}
-use Rattle.system_parts.specs.declared.session.State.TheVariants.{Open}
-use Rattle.machine.specs.State.{Client}
-use Rattle.split_parts.specs.Parts.{filled, seen}
+use Rattle.split_parts.proofs.Names.{◌≡◌, sym, arith, IfSome, IsTrue, IsBare, Open, Client, filled, seen}
 use Rattle.split_parts.proofs.FoundParts.{of_client}
 use Rattle.split_parts.proofs.lent.Lent.write_fits.Goals as goal
 
