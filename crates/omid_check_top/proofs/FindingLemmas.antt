@@ -24,7 +24,7 @@ pub numbers_found : (level : Level) (wanted : Wanted) (s : Subject) (ranks : Lis
 numbers_found level wanted s ranks numbers told stamps = record { ranks = ranks; told = told; stamps = stamps }
 
 pub none_found : (level : Level) (wanted : Wanted) (s : Subject) (ranks : List Rank) → AreTold s.trace s.listed s.lists s.ranks ranks → NoStamps level (asked_with wanted level s.times ranks s.trace) s.trace → NotAsAsked level wanted s
-none_found level wanted s ranks told none as = none (lists_keep level wanted s.trace s.times s.listed s.lists s.ranks ranks told as)
+none_found level wanted s ranks told none holds = none (lists_keep level wanted s.trace s.times s.listed s.lists s.ranks ranks told holds)
 
 pub wrong_found : (level : Level) (wanted : Wanted) (s : Subject) (wrong : WrongList) → IsWrong s.trace s.listed s.lists wrong → IsWrong s.trace s.listed s.lists wrong × NotAsAsked level wanted s
 wrong_found level wanted s wrong is = (is, wrong_has_none level (asked_with wanted level s.times s.ranks s.trace) s.trace s.listed s.lists wrong is)

@@ -1,5 +1,5 @@
 // The lists that were read.
-ghost use Rattle.std.specs.Prelude.{◌≡◌, ◌++◌, IfOk, OnOk, Some};
+ghost use Rattle.std.specs.Prelude.{◌≡◌, ◌++◌, ◌∷◌, [], if◌then◌else◌, IfOk, OnOk, Some};
 ghost use Rattle.trace_index.specs.Listings.{listing_of, listings_from, lists_reads, member_read, member_reads};
 
 use crate::attempts::Attempt;
@@ -124,7 +124,19 @@ fn add_open(
 ) -> Result<(), NoMemory>
     ensures { OnOk result (sources.new.items ≡ sources.old.items ++ member_read attempts.now txn key found.value (Some found.from)) }
 {
-    if open_at(attempts.get(found.from)) {
+    add_where(sources, open_at(attempts.get(found.from)), txn, key, found)
+}
+
+fn add_where(
+    sources: &mut Vec<Operation>,
+    counts: bool,
+    txn: usize,
+    key: u64,
+    found: Version,
+) -> Result<(), NoMemory>
+    ensures { OnOk result (sources.new.items ≡ sources.old.items ++ (if counts then Operation.Read txn key (Some found) ∷ [] else [])) }
+{
+    if counts {
         sources.extend_from_slice(&[Operation::Read {
             txn,
             key,
