@@ -23,8 +23,19 @@ beside_text Missing = codes " append "
 beside_text Cut = codes " append "
 beside_text Different = codes " r "
 
+-- the list that a transaction read, by its line
+unfoldable pub list_text : List ℕ → ℕ → List ℕ
+list_text name line = codes "  line " ++ decimal line ++ codes " r " ++ name
+
+-- what another one did
+unfoldable pub done_text : List ℕ → Flaw → List ℕ
+done_text name flaw = beside_text flaw ++ name ++ codes "\n"
+
+-- by its line
+unfoldable pub other_text : List ℕ → ℕ → Flaw → List ℕ
+other_text name line flaw = codes " beside line " ++ decimal line ++ done_text name flaw
+
 -- the list's line, and the other one
 abbrev pub wrong_list_text : List (List ℕ) → List Attempt → WrongList → List ℕ
 wrong_list_text names attempts wrong =
-    codes "  line " ++ decimal (line_at attempts wrong.reader) ++ codes " r " ++ name_at names wrong.key
-    ++ codes " beside line " ++ decimal (line_at attempts wrong.other) ++ beside_text wrong.flaw ++ name_at names wrong.key ++ codes "\n"
+    list_text (name_at names wrong.key) (line_at attempts wrong.reader) ++ other_text (name_at names wrong.key) (line_at attempts wrong.other) wrong.flaw

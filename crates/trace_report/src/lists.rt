@@ -1,6 +1,7 @@
 // How a wrong list is told.
 ghost use Rattle.std.specs.Prelude.{◌≡◌, ◌++◌, OnOk};
-ghost use Rattle.trace_report.specs.Lists.{beside_text, flaw_name, wrong_list_text};
+ghost use Rattle.trace_report.specs.Lists.{beside_text, done_text, flaw_name, list_text, other_text, wrong_list_text};
+ghost use Rattle.trace_report.specs.Parts.{line_at, name_at};
 
 use crate::parts::{push_line, push_name};
 use list_ranks::{Flaw, WrongList};
@@ -39,13 +40,61 @@ pub fn push_wrong_list(
 ) -> Result<(), NoMemory>
     ensures { OnOk result (text.new.items ≡ text.old.items ++ wrong_list_text recording.now.names attempts.now wrong) }
 {
+    push_list(text, recording, attempts, wrong.reader, wrong.key)?;
+    push_other(
+        text,
+        recording,
+        attempts,
+        wrong.other,
+        wrong.key,
+        wrong.flaw,
+    )
+}
+
+/// Adds that the transaction read a list of the key.
+#[tactic(auto, unfolding(crate::specs::Lists::list_text))]
+fn push_list(
+    text: &mut Vec<u8>,
+    recording: &Recording,
+    attempts: &[Attempt],
+    txn: usize,
+    key: u64,
+) -> Result<(), NoMemory>
+    ensures { OnOk result (text.new.items ≡ text.old.items ++ list_text (name_at recording.now.names key) (line_at attempts.now txn)) }
+{
     push_words(text, "  line ")?;
-    push_line(text, attempts, wrong.reader)?;
+    push_line(text, attempts, txn)?;
     push_words(text, " r ")?;
-    push_name(text, recording, wrong.key)?;
+    push_name(text, recording, key)
+}
+
+/// Adds what the other transaction did at the key, and its line.
+#[tactic(auto, unfolding(crate::specs::Lists::other_text))]
+fn push_other(
+    text: &mut Vec<u8>,
+    recording: &Recording,
+    attempts: &[Attempt],
+    txn: usize,
+    key: u64,
+    flaw: Flaw,
+) -> Result<(), NoMemory>
+    ensures { OnOk result (text.new.items ≡ text.old.items ++ other_text (name_at recording.now.names key) (line_at attempts.now txn) flaw) }
+{
     push_words(text, " beside line ")?;
-    push_line(text, attempts, wrong.other)?;
-    push_words(text, beside_text(wrong.flaw))?;
-    push_name(text, recording, wrong.key)?;
+    push_line(text, attempts, txn)?;
+    push_done(text, recording, key, flaw)
+}
+
+#[tactic(auto, unfolding(crate::specs::Lists::done_text))]
+fn push_done(
+    text: &mut Vec<u8>,
+    recording: &Recording,
+    key: u64,
+    flaw: Flaw,
+) -> Result<(), NoMemory>
+    ensures { OnOk result (text.new.items ≡ text.old.items ++ done_text (name_at recording.now.names key) flaw) }
+{
+    push_words(text, beside_text(flaw))?;
+    push_name(text, recording, key)?;
     push_words(text, "\n")
 }
