@@ -40,7 +40,7 @@ pub fn committed(alloc: Global, recording: &Recording, indexed: &Indexed) -> Res
 }
 
 /// Whether each member of a list is of a committed transaction, where each read is.
-#[tactic(auto, using(crate::proofs::MadeLemmas::is_committed, crate::proofs::MadeLemmas::is_list_dirty))]
+#[tactic(auto, using(crate::proofs::MadeLemmas::is_committed))]
 fn members(alloc: Global, recording: &Recording, indexed: &Indexed) -> Result<Made, NoMemory>
     requires { CommittedReads indexed.now.trace }
     ensures found { IfOk result (λ made. IsCommitted (subject_of recording.now indexed.now.attempts.items indexed.now.trace indexed.now.times.items indexed.now.ranks.items indexed.now.lists.items) made.code made.text.items) }

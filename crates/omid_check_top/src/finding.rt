@@ -44,7 +44,6 @@ pub fn told_of(alloc: Global, recording: &Recording, indexed: &Indexed) -> Resul
 
 /// Whether stamps can be given at the level that keep the order that is asked for besides, by what lists tell. NoMemory where memory
 /// is refused.
-#[tactic(auto, using(crate::proofs::FindingLemmas::wrong_found))]
 pub fn find(
     alloc: Global,
     level: Level,
@@ -63,7 +62,7 @@ pub fn find(
     }
 }
 
-#[tactic(auto, using(crate::proofs::FindingLemmas::numbers_found, crate::proofs::FindingLemmas::none_found))]
+#[tactic(auto, using(crate::proofs::FindingLemmas::numbers_found))]
 fn find_by(
     alloc: Global,
     level: Level,

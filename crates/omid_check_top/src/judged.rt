@@ -46,7 +46,7 @@ pub fn judged(
 }
 
 /// Whether the trace is so at the level, in the order that is asked for besides.
-#[tactic(auto, using(crate::proofs::MadeLemmas::is_holding, crate::proofs::MadeLemmas::is_wrong, crate::proofs::MadeLemmas::is_shown, crate::proofs::MadeLemmas::is_open, crate::proofs::MadeLemmas::is_wrong_list))]
+#[tactic(auto, using(crate::proofs::MadeLemmas::is_wrong, crate::proofs::MadeLemmas::is_shown, crate::proofs::MadeLemmas::is_open, crate::proofs::MadeLemmas::is_wrong_list))]
 fn isolated(
     alloc: Global,
     level: Level,

@@ -129,7 +129,7 @@ fn add_level(
     add_line(holding, others, Grade::AtLevel(level, wanted), code)
 }
 
-#[tactic(auto, using(crate::proofs::LevelLemmas::level_holds, crate::proofs::LevelLemmas::level_fails, crate::proofs::LevelLemmas::level_list_fails, crate::proofs::LevelLemmas::level_is_open))]
+#[tactic(auto, using(crate::proofs::LevelLemmas::level_fails, crate::proofs::LevelLemmas::level_list_fails, crate::proofs::LevelLemmas::level_is_open))]
 fn level_status(
     alloc: Global,
     recording: &Recording,

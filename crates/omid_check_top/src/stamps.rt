@@ -41,7 +41,6 @@ pub fn stamps(
 }
 
 /// The history with the stamps that the numbers make, or which limit is not met.
-#[tactic(auto, using(crate::proofs::StampLemmas::has_stamps, crate::proofs::StampLemmas::is_unfit))]
 fn shown(
     alloc: Global,
     level: Level,
