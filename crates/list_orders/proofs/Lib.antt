@@ -1,5 +1,5 @@
-mod WriteLemmas
-mod ListLemmas
-mod SeesLemmas
-mod WrongLemmas
+pub mod WriteLemmas
+pub mod ListLemmas
+pub mod SeesLemmas
+pub mod WrongLemmas
 mod WorkedLists

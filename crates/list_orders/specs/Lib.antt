@@ -1,3 +1,4 @@
 pub mod Lists
+pub mod Listings
 pub mod Told
 pub mod WorkedLists

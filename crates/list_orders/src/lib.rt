@@ -2,5 +2,7 @@
 #![tactic(auto)]
 
 mod laws;
+mod listing;
 
 pub use laws::{appends_are_listed_in_turn, lists_tell_orders, wrong_lists_refuse};
+pub use listing::{Listing, listed_between};

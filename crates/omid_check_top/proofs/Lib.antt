@@ -1,4 +1,5 @@
 mod LevelLemmas
 mod CheckLemmas
+mod FindingLemmas
 mod MadeLemmas
 mod StampLemmas

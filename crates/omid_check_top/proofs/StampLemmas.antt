@@ -1,5 +1,5 @@
 -- The history that is shown in place of a verdict.
-use Rattle.std.proofs.Common.{◌≡◌, ℕ, suc, ◌<◌, ◌⊎◌, ◌==◌, ◌&&◌, ◌||◌, nat_lt, Bool, true, false, List, [], ◌∷◌, Option, None, Some, inl, inr, refl, sym, subst, ap, ◌∙◌, length, slice_get, arith}
+use Rattle.std.proofs.Common.{◌≡◌, ℕ, suc, ◌<◌, ◌⊎◌, ◌==◌, ◌&&◌, ◌||◌, nat_lt, Bool, true, false, List, [], ◌∷◌, ◌++◌, Option, None, Some, inl, inr, refl, sym, subst, ap, ◌∙◌, length, slice_get, arith}
 use Rattle.std.proofs.lemmas.Option.{same_Some}
 use Rattle.std.specs.List.{list_any}
 use Rattle.std.proofs.lemmas.Bool.{eqb-true}
@@ -13,7 +13,7 @@ use Rattle.trace_rules.specs.declared.wanted.Times.{Times}
 use Rattle.trace_rules.specs.declared.wanted.Wanted.{Wanted}
 use Rattle.trace_rules.specs.declared.wanted.Wanted.TheVariants.{Nothing, Sessions, RealTime}
 use Rattle.trace_rules.specs.Serial.{owner}
-use Rattle.trace_rules.specs.Stamping.{Asked, IsolatedBy, Keeps, Point, Start, Commit, Stamping, stamp_of}
+use Rattle.trace_rules.specs.Stamping.{IsolatedBy, Keeps, Point, Start, Commit, Stamping, stamp_of}
 use Rattle.trace_rules.specs.Trace.{Trace, Done, committed_in}
 use Rattle.trace_rules.specs.Wants.{asked_of, in_time, moments_of, of_done, of_one_process}
 use Rattle.version_ranks.specs.declared.rank.Rank.{Rank}
@@ -23,11 +23,19 @@ use Rattle.trace_items.specs.Items.{KeysDiffer, InOrder, Telling, history_of}
 use Rattle.trace_items.proofs.Isolates.{isolated, serial}
 use Rattle.trace_items.proofs.Along.{place_of, taken}
 use Rattle.trace_items.proofs.Ranks.{ranks_isolate, ranks_order}
-use Rattle.trace_judge.specs.Verdicts.{AreStamps, IsTried, NoStamps}
+use Rattle.list_ranks.specs.declared.wrong.WrongList.{WrongList}
+use Rattle.list_ranks.specs.Wrong.{IsWrong}
+use Rattle.list_ranks.proofs.LawLemmas.{kept_both, kept_first, kept_second}
+use Rattle.trace_report.specs.Lists.{flaw_name, wrong_list_text}
+use Rattle.trace_report.specs.Verdict.{refused_text}
+use Rattle.trace_judge.specs.Verdicts.{IsTried}
 use Rattle.asked_orders.specs.Keeps.{stamping_of}
 use Rattle.stamped_history.specs.declared.limits.Limit.{Limit}
 use Rattle.stamped_history.specs.Told.{IsHistory}
-use Rattle.omid_check_top.specs.Verdicts.{AreStamped, IsPrinted, IsSerialAt, IsShown, Subject, limit_text, open_text, wrong_text}
+use Rattle.omid_check_top.specs.Findings.{HasNumbers, NotAsAsked}
+use Rattle.omid_check_top.specs.Subject.{Subject}
+use Rattle.omid_check_top.proofs.FindingLemmas.{as_asked}
+use Rattle.omid_check_top.specs.Verdicts.{AreStamped, IsPrinted, IsSerialAt, IsShown, limit_text, open_text, wrong_text}
 
 pub is_printed : (level : Level) (trace : Trace) (numbers : List ℕ) (names : List (List ℕ)) (items : List Item) (text : List ℕ) → IsHistory level trace numbers names items → text ≡ printed items → IsPrinted level trace numbers names text
 is_printed level trace numbers names items text is told = record { items = items; is = is; told = told }
@@ -107,18 +115,24 @@ serial_at : (level : Level) (st : Stamping) (tell : Telling) (trace : Trace) (po
 serial_at Snapshot st tell trace points keys order is = tt
 serial_at Serializable st tell trace points keys order is = serial st tell trace points keys order is
 
-pub has_stamps : (level : Level) (wanted : Wanted) (s : Subject) (numbers : List ℕ) (code : ℕ) (text : List ℕ) → AreDone s.trace.transactions s.ranks → AreStamps level (asked_with wanted level s.times s.ranks s.trace) s.trace numbers → IsPrinted level s.trace numbers s.names text → code ≡ 0 → AreStamped level wanted s code text
-has_stamps level wanted s numbers code text all stamps is zero =
+pub has_stamps : (level : Level) (wanted : Wanted) (s : Subject) (numbers : List ℕ) (code : ℕ) (text : List ℕ) → AreDone s.trace.transactions s.ranks → HasNumbers level wanted s numbers → IsPrinted level s.trace numbers s.names text → code ≡ 0 → AreStamped level wanted s code text
+has_stamps level wanted s numbers code text all has is zero =
     let h = is.is in
+    let stamps = has.stamps in
     let st = stamping_of level (length s.trace.transactions) numbers in
     let order = ranks_order st h.ranks s.trace h.points h.order h.ranked in
     let isolates = ranks_isolate st h.ranks s.trace h.points h.order h.ranked level stamps.isolated in
+    let every : AreDone s.trace.transactions has.ranks = has.told.done all in
+    let keeps : Keeps (asked_with wanted level s.times has.ranks s.trace) h.ranks =
+    λ x y asked. let done = told_done wanted level s.times has.ranks s.trace x y every asked in same_way st h.ranks s.trace h.points h.order order x y done.0 done.1 (stamps.keeps x y asked) in
+    let by_lists = kept_first (by_rank has.ranks) (asked_of wanted level s.times s.trace) h.ranks keeps in
     inl (record {
       st = h.ranks;
       points = h.points;
       tell = h.tell;
       stamped = isolates;
-      keeps = λ x y asked. let done = told_done wanted level s.times s.ranks s.trace x y all asked in same_way st h.ranks s.trace h.points h.order order x y done.0 done.1 (stamps.keeps x y asked);
+      keeps = kept_both (by_rank s.ranks) (asked_of wanted level s.times s.trace) h.ranks (has.told.fewer h.ranks by_lists) (kept_second (by_rank has.ranks) (asked_of wanted level s.times s.trace) h.ranks keeps);
+      sees = has.told.sees level h.ranks isolates by_lists;
       order = order;
       counted = h.ranked;
       keys = h.keys;
@@ -129,21 +143,19 @@ has_stamps level wanted s numbers code text all stamps is zero =
       told = subst (λ (l : List Item). text ≡ printed l) h.told is.told;
     })
 
-pub is_unfit : (level : Level) (wanted : Wanted) (s : Subject) (numbers : List ℕ) (limit : Limit) (code : ℕ) (text : List ℕ) → AreStamps level (asked_with wanted level s.times s.ranks s.trace) s.trace numbers → code ≡ 9 → text ≡ limit_text limit → AreStamped level wanted s code text
-is_unfit level wanted s numbers limit code text stamps nine told = inr (inl (record {
-  holds = record { stamps = stamping_of level (length s.trace.transactions) numbers; isolated = stamps.isolated; keeps = stamps.keeps };
-  limit = limit;
-  status = nine;
-  told = told;
-}))
+pub is_unfit : (level : Level) (wanted : Wanted) (s : Subject) (numbers : List ℕ) (limit : Limit) (code : ℕ) (text : List ℕ) → HasNumbers level wanted s numbers → code ≡ 9 → text ≡ limit_text limit → AreStamped level wanted s code text
+is_unfit level wanted s numbers limit code text has nine told = inr (inl (record { holds = as_asked level wanted s numbers has; limit = limit; status = nine; told = told }))
 
 -- ---- no stamps
 module _ (level : Level) (wanted : Wanted) (s : Subject) (code : ℕ) (text : List ℕ) where
-  pub not_stamped : NoStamps level (asked_with wanted level s.times s.ranks s.trace) s.trace → code ≡ 7 → IsShown level wanted s text → AreStamped level wanted s code text
+  pub not_stamped : NotAsAsked level wanted s → code ≡ 7 → IsShown level wanted s text → AreStamped level wanted s code text
   not_stamped none seven told = inr (inr (inl (record { refused = none; status = seven; told = told })))
 
-  pub wrong_not_stamped : (place : ℕ) → NoStamps level (asked_with wanted level s.times s.ranks s.trace) s.trace → code ≡ 7 → text ≡ wrong_text level wanted s place → AreStamped level wanted s code text
+  pub wrong_not_stamped : (place : ℕ) → NotAsAsked level wanted s → code ≡ 7 → text ≡ wrong_text level wanted s place → AreStamped level wanted s code text
   wrong_not_stamped place none seven told = inr (inr (inr (inl (record { place = place; refused = none; status = seven; told = told }))))
 
   pub open_not_stamped : (key : Option ℕ) → IfSome key (λ k. IsTried s.trace k) → code ≡ 8 → text ≡ open_text s.names key → AreStamped level wanted s code text
-  open_not_stamped key tried eight told = inr (inr (inr (inr (record { key = key; tried = tried; status = eight; told = told }))))
+  open_not_stamped key tried eight told = inr (inr (inr (inr (inl (record { key = key; tried = tried; status = eight; told = told })))))
+
+  pub list_not_stamped : (wrong : WrongList) → IsWrong s.trace s.listed s.lists wrong × NotAsAsked level wanted s → code ≡ 7 → text ≡ refused_text level wanted (flaw_name wrong.flaw) ++ wrong_list_text s.names s.attempts wrong → AreStamped level wanted s code text
+  list_not_stamped wrong both seven told = inr (inr (inr (inr (inr (record { list = wrong; wrong = both.0; refused = both.1; status = seven; told = told })))))

@@ -2,14 +2,9 @@
 use Rattle.std.specs.Prelude.{◌≡◌, ◌≢◌, ℕ, ◌==◌, if◌then◌else◌, List, [], ◌∷◌, ◌++◌, ◌⊎◌, codes}
 use Rattle.trace_rules.specs.declared.wanted.Level.{Level}
 use Rattle.trace_rules.specs.declared.wanted.Level.TheVariants.{Snapshot, Serializable}
-use Rattle.trace_rules.specs.declared.wanted.Times.{Times}
 use Rattle.trace_rules.specs.declared.wanted.Wanted.{Wanted}
 use Rattle.trace_rules.specs.declared.wanted.Wanted.TheVariants.{Nothing, Sessions, RealTime}
-use Rattle.trace_rules.specs.Trace.{Trace}
-use Rattle.trace_rules.specs.Stamping.{Stampable}
-use Rattle.version_ranks.specs.declared.rank.Rank.{Rank}
-use Rattle.version_ranks.specs.Ranks.{asked_with}
-use Rattle.committed_reads.specs.Committed.{CommittedReads}
+use Rattle.omid_check_top.specs.Subject.{AsAsked, ReadsCommitted, Subject}
 use Rattle.omid_check_top.specs.declared.levels.Grade.{Grade}
 use Rattle.omid_check_top.specs.declared.levels.Grade.TheVariants.{AtLevel, OfReads}
 
@@ -41,20 +36,20 @@ abbrev pub line_of : Grade → ℕ → List ℕ
 line_of grade code = grade_words grade ++ status_words code
 
 -- the status says whether the trace is so
-abbrev pub IsStatus : Grade → Trace → List Times → List Rank → ℕ → Type 0
-IsStatus (AtLevel level wanted) trace times ranks code = ((code ≡ 0) × Stampable level (asked_with wanted level times ranks trace) trace) ⊎ ((code ≡ 7) × (Stampable level (asked_with wanted level times ranks trace) trace → ⊥)) ⊎ (code ≡ 8)
-IsStatus OfReads trace times ranks code = ((code ≡ 0) × CommittedReads trace) ⊎ ((code ≡ 7) × (CommittedReads trace → ⊥))
+abbrev pub IsStatus : Grade → Subject → ℕ → Type 0
+IsStatus (AtLevel level wanted) s code = ((code ≡ 0) × AsAsked level wanted s) ⊎ ((code ≡ 7) × (AsAsked level wanted s → ⊥)) ⊎ (code ≡ 8)
+IsStatus OfReads s code = ((code ≡ 0) × ReadsCommitted s) ⊎ ((code ≡ 7) × (ReadsCommitted s → ⊥))
 
 -- the lines of these levels: of those that hold, and of the others
-pub data AreSaid (trace : Trace) (times : List Times) (ranks : List Rank) : List Grade → List ℕ → List ℕ → Type 0 where
-  NoneSaid : AreSaid trace times ranks [] [] []
-  Holding : {grades : List Grade} {holding others : List ℕ} (grade : Grade) → IsStatus grade trace times ranks 0 → AreSaid trace times ranks grades holding others → AreSaid trace times ranks (grades ++ grade ∷ []) (holding ++ line_of grade 0) others
-  Other : {grades : List Grade} {holding others : List ℕ} (grade : Grade) (code : ℕ) → code ≢ 0 → IsStatus grade trace times ranks code → AreSaid trace times ranks grades holding others → AreSaid trace times ranks (grades ++ grade ∷ []) holding (others ++ line_of grade code)
+pub data AreSaid (s : Subject) : List Grade → List ℕ → List ℕ → Type 0 where
+  NoneSaid : AreSaid s [] [] []
+  Holding : {grades : List Grade} {holding others : List ℕ} (grade : Grade) → IsStatus grade s 0 → AreSaid s grades holding others → AreSaid s (grades ++ grade ∷ []) (holding ++ line_of grade 0) others
+  Other : {grades : List Grade} {holding others : List ℕ} (grade : Grade) (code : ℕ) → code ≢ 0 → IsStatus grade s code → AreSaid s grades holding others → AreSaid s (grades ++ grade ∷ []) holding (others ++ line_of grade code)
 
 -- the status is that of committed reads
-pub record AreLevels (trace : Trace) (times : List Times) (ranks : List Rank) (code : ℕ) (text : List ℕ) : Type 0 where
+pub record AreLevels (s : Subject) (code : ℕ) (text : List ℕ) : Type 0 where
   pub holding : List ℕ
   pub others : List ℕ
-  pub said : AreSaid trace times ranks ranked holding others
+  pub said : AreSaid s ranked holding others
   pub told : text ≡ holding ++ others
-  pub status : IsStatus OfReads trace times ranks code
+  pub status : IsStatus OfReads s code

@@ -1,4 +1,6 @@
 pub mod Words
+pub mod Subject
 pub mod Levels
+pub mod Findings
 pub mod Verdicts
 pub mod Commands

@@ -11,11 +11,15 @@ use Rattle.trace_rules.specs.declared.wanted.Level.TheVariants.{Snapshot, Serial
 use Rattle.trace_rules.specs.declared.wanted.Times.{Times}
 use Rattle.trace_rules.specs.declared.wanted.Wanted.{Wanted}
 use Rattle.trace_rules.specs.Trace.{Trace}
-use Rattle.trace_rules.specs.Stamping.{IsolatedBy, Keeps, Point, Stampable, Stamping}
+use Rattle.trace_rules.specs.Stamping.{IsolatedBy, Keeps, Point, Stamping}
 use Rattle.version_ranks.specs.declared.rank.Rank.{Rank}
 use Rattle.version_ranks.specs.Ranks.{asked_with}
+use Rattle.list_orders.specs.declared.listing.Listing.{Listing}
+use Rattle.list_orders.specs.Listings.{SeesAll}
+use Rattle.list_ranks.specs.declared.wrong.WrongList.{WrongList}
+use Rattle.list_ranks.specs.Told.{IsDirtyList}
+use Rattle.list_ranks.specs.Wrong.{IsWrong}
 use Rattle.trace_judge.specs.Verdicts.{IsTried}
-use Rattle.committed_reads.specs.Committed.{CommittedReads}
 use Rattle.trace_reading.specs.declared.want.Want.{Want}
 use Rattle.trace_reading.specs.FaultText.{fault_text}
 use Rattle.trace_reading.specs.Recording.{Recorded}
@@ -27,7 +31,9 @@ use Rattle.trace_index.specs.Versions.{Blame}
 use Rattle.trace_report.specs.declared.step.Step.{Step}
 use Rattle.trace_report.specs.Names.{anomaly_name, name_of}
 use Rattle.trace_report.specs.Parts.{name_at}
+use Rattle.trace_report.specs.declared.wrong.Wrong.TheVariants.{Dirty}
 use Rattle.trace_report.specs.Wrongs.{wrong_at, wrong_name}
+use Rattle.trace_report.specs.Lists.{flaw_name, wrong_list_text}
 use Rattle.trace_report.specs.Cycle.{cycle_text}
 use Rattle.trace_report.specs.Verdict.{holds_text, refused_text, unclear_text, undecided_text, wrong_read_text}
 use Rattle.trace_items.specs.Items.{InOrder, KeysDiffer, Ranked, Telling, history_of}
@@ -36,27 +42,12 @@ use Rattle.stamped_history.specs.declared.limits.Limit.{Limit}
 use Rattle.stamped_history.specs.declared.limits.Limit.TheVariants as limit
 use Rattle.stamped_history.specs.declared.limits.Limit.TheVariants.{Sessions, Keys, Values, Bytes}
 use Rattle.omid_check_top.specs.Levels.{AreLevels}
+use Rattle.omid_check_top.specs.Subject.{AsAsked, ReadsCommitted, Subject, subject_of}
 use Rattle.omid_check_top.specs.declared.words.Question.{Question}
 use Rattle.omid_check_top.specs.declared.words.Question.TheVariants as question
 use Rattle.omid_check_top.specs.declared.limit.TheConstants.{TRACE_LIMIT}
 
 -- ---- a verdict with its status and text
--- what is judged: the names of what was recorded, its transactions as they were recorded, the trace that they make,
--- their moments, and the order of versions that is told
-pub record Subject : Type 0 where
-  pub names : List (List ℕ)
-  pub attempts : List Attempt
-  pub trace : Trace
-  pub times : List Times
-  pub ranks : List Rank
-
-abbrev pub subject_of : Recorded → List Attempt → Trace → List Times → List Rank → Subject
-subject_of recorded attempts trace times ranks = record { names = recorded.names; attempts = attempts; trace = trace; times = times; ranks = ranks }
-
--- stamps, or places in one order, can be given
-abbrev pub AsAsked : Level → Wanted → Subject → Type 0
-AsAsked level wanted s = Stampable level (asked_with wanted level s.times s.ranks s.trace) s.trace
-
 pub record IsHolding (level : Level) (wanted : Wanted) (s : Subject) (code : ℕ) (text : List ℕ) : Type 0 where
   pub holds : AsAsked level wanted s
   pub status : code ≡ 0
@@ -102,8 +93,16 @@ pub record IsOpen (s : Subject) (code : ℕ) (text : List ℕ) : Type 0 where
   pub status : code ≡ 8
   pub told : text ≡ open_text s.names key
 
+-- a list that no stamps give
+pub record IsWrongList (level : Level) (wanted : Wanted) (s : Subject) (code : ℕ) (text : List ℕ) : Type 0 where
+  pub list : WrongList
+  pub wrong : IsWrong s.trace s.listed s.lists list
+  pub refused : AsAsked level wanted s → ⊥
+  pub status : code ≡ 7
+  pub told : text ≡ refused_text level wanted (flaw_name list.flaw) ++ wrong_list_text s.names s.attempts list
+
 abbrev pub IsIsolated : Level → Wanted → Subject → ℕ → List ℕ → Type 0
-IsIsolated level wanted s code text = IsHolding level wanted s code text ⊎ IsRefusal level wanted s code text ⊎ IsWrongRead level wanted s code text ⊎ IsOpen s code text
+IsIsolated level wanted s code text = IsHolding level wanted s code text ⊎ IsRefusal level wanted s code text ⊎ IsWrongRead level wanted s code text ⊎ IsOpen s code text ⊎ IsWrongList level wanted s code text
 
 -- ---- of committed reads
 abbrev pub committed_text : ℕ → List ℕ
@@ -122,25 +121,33 @@ pub record IsCommittedShown (s : Subject) (text : List ℕ) : Type 0 where
   pub told : text ≡ not_committed_text (anomaly_name (name_of steps)) ++ cycle_text s.names s.attempts steps
 
 pub record AreReadsCommitted (s : Subject) (code : ℕ) (text : List ℕ) : Type 0 where
-  pub holds : CommittedReads s.trace
+  pub holds : ReadsCommitted s
   pub status : code ≡ 0
   pub told : text ≡ committed_text (length s.trace.transactions)
 
 -- reads go round
 pub record AreReadsCyclic (s : Subject) (code : ℕ) (text : List ℕ) : Type 0 where
-  pub refused : CommittedReads s.trace → ⊥
+  pub refused : ReadsCommitted s → ⊥
   pub status : code ≡ 7
   pub told : IsCommittedShown s text
 
 -- the read at this place is of no committed transaction's last write, or not of the own one
 pub record IsReadWrong (s : Subject) (code : ℕ) (text : List ℕ) : Type 0 where
   pub place : ℕ
-  pub refused : CommittedReads s.trace → ⊥
+  pub refused : ReadsCommitted s → ⊥
   pub status : code ≡ 7
   pub told : text ≡ wrong_committed_text s place
 
+-- a list has a member that no committed transaction wrote
+pub record IsListDirty (s : Subject) (code : ℕ) (text : List ℕ) : Type 0 where
+  pub list : Listing
+  pub dirty : IsDirtyList s.trace s.listed s.lists list
+  pub refused : ReadsCommitted s → ⊥
+  pub status : code ≡ 7
+  pub told : text ≡ not_committed_text (wrong_name Dirty) ++ wrong_read_text s.names s.attempts list.txn list.key
+
 abbrev pub IsCommitted : Subject → ℕ → List ℕ → Type 0
-IsCommitted s code text = AreReadsCommitted s code text ⊎ AreReadsCyclic s code text ⊎ IsReadWrong s code text
+IsCommitted s code text = AreReadsCommitted s code text ⊎ AreReadsCyclic s code text ⊎ IsReadWrong s code text ⊎ IsListDirty s code text
 
 -- ---- the history with stamps
 -- the text is that of a history of the trace
@@ -155,13 +162,14 @@ IsSerialAt Snapshot history = Unit {0}
 IsSerialAt Serializable history = Serial history
 
 -- the text is of a history: that of the trace, in the order of stamps which isolate it and keep what is asked for, and count its
--- points from 1 on; and its items are isolated
+-- points from 1 on, and with which the lists are read right; and its items are isolated
 pub record HasStamps (level : Level) (wanted : Wanted) (s : Subject) (code : ℕ) (text : List ℕ) : Type 0 where
   pub st : Stamping
   pub points : List Point
   pub tell : Telling
   pub stamped : IsolatedBy level st s.trace
   pub keeps : Keeps (asked_with wanted level s.times s.ranks s.trace) st
+  pub sees : SeesAll st s.trace s.listed s.lists
   pub order : InOrder st s.trace points
   pub counted : Ranked st points
   pub keys : KeysDiffer tell
@@ -186,13 +194,14 @@ pub record IsUnfit (level : Level) (wanted : Wanted) (s : Subject) (code : ℕ) 
   pub told : text ≡ limit_text limit
 
 abbrev pub AreStamped : Level → Wanted → Subject → ℕ → List ℕ → Type 0
-AreStamped level wanted s code text = HasStamps level wanted s code text ⊎ IsUnfit level wanted s code text ⊎ IsRefusal level wanted s code text ⊎ IsWrongRead level wanted s code text ⊎ IsOpen s code text
+AreStamped level wanted s code text =
+    HasStamps level wanted s code text ⊎ IsUnfit level wanted s code text ⊎ IsRefusal level wanted s code text ⊎ IsWrongRead level wanted s code text ⊎ IsOpen s code text ⊎ IsWrongList level wanted s code text
 
 -- ---- what is found
 abbrev pub IsFound : Question → Subject → ℕ → List ℕ → Type 0
 IsFound (question.Isolated level wanted) s code text = IsIsolated level wanted s code text
 IsFound question.Committed s code text = IsCommitted s code text
-IsFound question.Levels s code text = AreLevels s.trace s.times s.ranks code text
+IsFound question.Levels s code text = AreLevels s code text
 IsFound (question.Stamps level wanted) s code text = AreStamped level wanted s code text
 
 -- the statuses of a verdict, and those of all that is said of a trace
@@ -208,8 +217,9 @@ pub record IsIndexed (question : Question) (recorded : Recorded) (code : ℕ) (t
   pub trace : Trace
   pub times : List Times
   pub ranks : List Rank
-  pub is : IsIndexOf recorded attempts trace times ranks
-  pub found : IsFound question (subject_of recorded attempts trace times ranks) code text
+  pub lists : List Listing
+  pub is : IsIndexOf recorded attempts trace times ranks lists
+  pub found : IsFound question (subject_of recorded attempts trace times ranks lists) code text
 
 -- the first operation of which it is not clear who wrote what
 pub record IsUnclear (recorded : Recorded) (code : ℕ) (text : List ℕ) : Type 0 where

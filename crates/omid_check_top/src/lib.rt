@@ -5,9 +5,12 @@
 mod anomaly_tests;
 mod check;
 mod committed;
+mod finding;
 mod judged;
 mod levels;
 mod limit;
+#[cfg(test)]
+mod list_tests;
 mod made;
 #[cfg(test)]
 mod order_tests;

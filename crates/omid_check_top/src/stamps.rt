@@ -1,24 +1,24 @@
 // The history of a trace with stamps, in place of a verdict.
 ghost use Rattle.std.specs.Prelude.{◌≡◌, IfOk};
-ghost use Rattle.version_ranks.specs.Ranks.{asked_with};
 ghost use Rattle.trace_index.specs.Numbers.{AreDone};
-ghost use Rattle.trace_judge.specs.Verdicts.{AreStamps};
-ghost use Rattle.omid_check_top.specs.Verdicts.{AreStamped, IsPrinted, IsVerdict, limit_text, subject_of};
+ghost use Rattle.omid_check_top.specs.Verdicts.{AreStamped, IsPrinted, IsVerdict, limit_text};
+ghost use Rattle.omid_check_top.specs.Findings.{HasNumbers};
+ghost use Rattle.omid_check_top.specs.Subject.{subject_of};
 
-use crate::judged::{refused, undecided, wrong_read};
+use crate::finding::{Finding, find, told_of};
+use crate::judged::{refused, undecided, wrong_list, wrong_read};
 use crate::made::Made;
 use crate::status;
 use stamp_base::NoMemory;
 use stamped_history::{Limit, NoHistory, history_of, text_of};
 use std::alloc::Global;
 use trace_index::Indexed;
-use trace_judge::{Verdict, judge_told};
 use trace_reading::{Recording, push_words};
 use trace_rules::{Level, Wanted};
 
 /// The history of the trace with stamps at the level, in the order that is asked for besides; or which limit of histories is not
 /// met, or why there are none. NoMemory where memory is refused.
-#[tactic(auto, using(crate::proofs::StampLemmas::not_stamped, crate::proofs::StampLemmas::wrong_not_stamped, crate::proofs::StampLemmas::open_not_stamped))]
+#[tactic(auto, using(crate::proofs::StampLemmas::not_stamped, crate::proofs::StampLemmas::wrong_not_stamped, crate::proofs::StampLemmas::open_not_stamped, crate::proofs::StampLemmas::list_not_stamped))]
 pub fn stamps(
     alloc: Global,
     level: Level,
@@ -27,27 +27,20 @@ pub fn stamps(
     indexed: &Indexed,
 ) -> Result<Made, NoMemory>
     requires { AreDone indexed.now.trace.transactions indexed.now.ranks.items }
-    ensures found { IfOk result (λ made. AreStamped level wanted (subject_of recording.now indexed.now.attempts.items indexed.now.trace indexed.now.times.items indexed.now.ranks.items) made.code made.text.items) }
+    ensures found { IfOk result (λ made. AreStamped level wanted (subject_of recording.now indexed.now.attempts.items indexed.now.trace indexed.now.times.items indexed.now.ranks.items indexed.now.lists.items) made.code made.text.items) }
     ensures codes { IfOk result (λ made. IsVerdict made.code) }
 {
-    match judge_told(
-        alloc,
-        level,
-        wanted,
-        &indexed.trace.transactions,
-        &indexed.times,
-        &indexed.ranks,
-        &indexed.trace.operations,
-    )? {
-        Verdict::Holds(numbers) => shown(alloc, level, wanted, recording, indexed, &numbers),
-        Verdict::WrongRead(place) => wrong_read(alloc, level, wanted, recording, indexed, place),
-        Verdict::Refused(cycle) => refused(alloc, level, wanted, recording, indexed, &cycle),
-        Verdict::Undecided(key) => undecided(alloc, recording, key),
+    let told = told_of(alloc, recording, indexed)?;
+    match find(alloc, level, wanted, recording, indexed, &told)? {
+        Finding::Holds(numbers) => shown(alloc, level, wanted, recording, indexed, &numbers),
+        Finding::WrongRead(place) => wrong_read(alloc, level, wanted, recording, indexed, place),
+        Finding::WrongList(wrong) => wrong_list(alloc, level, wanted, recording, indexed, wrong),
+        Finding::Refused(cycle) => refused(alloc, level, wanted, recording, indexed, &cycle),
+        Finding::Undecided(key) => undecided(alloc, recording, key),
     }
 }
 
 /// The history with the stamps that the numbers make, or which limit is not met.
-#[tactic(auto, using(crate::proofs::StampLemmas::has_stamps, crate::proofs::StampLemmas::is_unfit))]
 fn shown(
     alloc: Global,
     level: Level,
@@ -57,8 +50,8 @@ fn shown(
     numbers: &[usize],
 ) -> Result<Made, NoMemory>
     requires done { AreDone indexed.now.trace.transactions indexed.now.ranks.items }
-    requires stamps { AreStamps level (asked_with wanted level indexed.now.times.items indexed.now.ranks.items indexed.now.trace) indexed.now.trace numbers.now }
-    ensures found { IfOk result (λ made. AreStamped level wanted (subject_of recording.now indexed.now.attempts.items indexed.now.trace indexed.now.times.items indexed.now.ranks.items) made.code made.text.items) }
+    requires stamps { HasNumbers level wanted (subject_of recording.now indexed.now.attempts.items indexed.now.trace indexed.now.times.items indexed.now.ranks.items indexed.now.lists.items) numbers.now }
+    ensures found { IfOk result (λ made. AreStamped level wanted (subject_of recording.now indexed.now.attempts.items indexed.now.trace indexed.now.times.items indexed.now.ranks.items indexed.now.lists.items) made.code made.text.items) }
     ensures codes { IfOk result (λ made. IsVerdict made.code) }
 {
     match history_text(alloc, level, recording, indexed, numbers) {

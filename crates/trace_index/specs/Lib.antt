@@ -4,5 +4,7 @@ pub mod Said
 pub mod Versions
 pub mod Blames
 pub mod Open
+pub mod Uses
+pub mod Listings
 pub mod Numbers
 pub mod Index

@@ -14,9 +14,15 @@ read_counts fate.Committed answer = true
 read_counts fate.Aborted answer = false
 read_counts fate.Open answer = is_some answer
 
+-- a list was surely read
+abbrev pub list_counts : Fate → Bool
+list_counts fate.Committed = true
+list_counts fate.Aborted = false
+list_counts fate.Open = true
+
 abbrev pub counts : Fate → Operation → Bool
 counts f (operation.Read key answer version) = read_counts f answer
-counts f (operation.ReadList key first end) = true
+counts f (operation.ReadList key first end) = list_counts f
 counts f (operation.Write key value version) = true
 counts f (operation.Append key value) = true
 

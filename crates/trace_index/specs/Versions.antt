@@ -7,6 +7,7 @@ use Rattle.trace_reading.specs.declared.operation.Operation as recorded
 use Rattle.trace_rules.specs.declared.trace.Operation.{Operation}
 use Rattle.trace_rules.specs.declared.trace.Operation.TheVariants as operation
 use Rattle.trace_rules.specs.declared.trace.Version.{Version}
+use Rattle.list_orders.specs.Listings.{listed_between}
 use Rattle.trace_index.specs.declared.fault.Unclear.{Unclear}
 use Rattle.trace_index.specs.declared.fault.Unclear.TheVariants as unclear
 use Rattle.trace_index.specs.declared.said.Said.{Said}
@@ -43,9 +44,9 @@ written writers txn member key value = unless_written writers txn member key val
 
 abbrev pub writer_step : Writers → ℕ → ℕ → recorded.Operation → Result Writers Blame
 writer_step writers txn member (said.Read key answer version) = Ok writers
-writer_step writers txn member (said.ReadList key first end) = Err (record { txn = txn; member = member; key = key; value = 0; what = unclear.Lists })
+writer_step writers txn member (said.ReadList key first end) = Ok writers
 writer_step writers txn member (said.Write key value version) = written writers txn member key value
-writer_step writers txn member (said.Append key value) = Err (record { txn = txn; member = member; key = key; value = value; what = unclear.Lists })
+writer_step writers txn member (said.Append key value) = written writers txn member key value
 
 -- no value is written twice at a key
 abbrev pub writers_from : Writers → List Said → Result Writers Blame
@@ -64,13 +65,22 @@ version_of writers txn member key (Some value) = version_by txn member key value
 abbrev pub read_step : Writers → ℕ → ℕ → ℕ → Option ℕ → Result Operation Blame
 read_step writers txn member key answer = version_of writers txn member key answer >>= λ found. Ok (operation.Read txn key found)
 
-abbrev pub operation_step : Writers → ℕ → ℕ → recorded.Operation → Result Operation Blame
-operation_step writers txn member (said.Read key answer version) = read_step writers txn member key answer
-operation_step writers txn member (said.ReadList key first end) = Err (record { txn = txn; member = member; key = key; value = 0; what = unclear.Lists })
-operation_step writers txn member (said.Write key value version) = Ok (operation.Write txn key value)
-operation_step writers txn member (said.Append key value) = Err (record { txn = txn; member = member; key = key; value = value; what = unclear.Lists })
+-- the version of the last of these values, each of which has a writer, and of none this one
+abbrev pub last_version : Writers → ℕ → ℕ → ℕ → Option Version → List ℕ → Result (Option Version) Blame
+last_version writers txn member key found [] = Ok found
+last_version writers txn member key found (value ∷ values) = version_by txn member key value (writer_of writers key value) >>= λ next. last_version writers txn member key next values
+
+-- a list is a read of its last member
+abbrev pub list_step : Writers → ℕ → ℕ → ℕ → List ℕ → Result Operation Blame
+list_step writers txn member key values = last_version writers txn member key None values >>= λ found. Ok (operation.Read txn key found)
+
+abbrev pub operation_step : Writers → List ℕ → ℕ → ℕ → recorded.Operation → Result Operation Blame
+operation_step writers listed txn member (said.Read key answer version) = read_step writers txn member key answer
+operation_step writers listed txn member (said.ReadList key first end) = list_step writers txn member key (listed_between listed first end)
+operation_step writers listed txn member (said.Write key value version) = Ok (operation.Write txn key value)
+operation_step writers listed txn member (said.Append key value) = Ok (operation.Write txn key value)
 
 -- the operations, behind these
-abbrev pub operations_from : Writers → List Operation → List Said → Result (List Operation) Blame
-operations_from writers done [] = Ok done
-operations_from writers done (s ∷ ss) = operation_step writers s.txn s.member s.operation >>= λ made. operations_from writers (done ++ made ∷ []) ss
+abbrev pub operations_from : Writers → List ℕ → List Operation → List Said → Result (List Operation) Blame
+operations_from writers listed done [] = Ok done
+operations_from writers listed done (s ∷ ss) = operation_step writers listed s.txn s.member s.operation >>= λ made. operations_from writers listed (done ++ made ∷ []) ss

@@ -11,8 +11,8 @@ pub enum Unclear {
     WrittenByNobody,
     /// This version of the key is told of another writer too: its number stands in the value's place.
     VersionTwice,
-    /// A list was read or appended to, which is not judged.
-    Lists,
+    /// The key has lists here, and single values before, or the other way round.
+    BothWays,
 }
 
 /// Why what was recorded is no trace.

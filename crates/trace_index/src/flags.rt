@@ -119,7 +119,8 @@ pub fn counts_at(flags: &[bool], txn: usize) -> bool
     }
 }
 
-fn open_at(attempt: Option<&Attempt>) -> bool
+/// Whether nobody knows of the transaction what became of it. False where there is none.
+pub fn open_at(attempt: Option<&Attempt>) -> bool
     ensures { result ≡ open_at (option_map (λ a. a.now) attempt.entry) }
 {
     match attempt {

@@ -7,9 +7,11 @@ mod fault;
 mod flags;
 mod indexing;
 mod latest;
+mod listings;
 mod numbers;
 mod outcomes;
 mod said;
+mod uses;
 mod versions;
 mod writers;
 

@@ -1,6 +1,6 @@
 // The operations that count, transaction by transaction.
 ghost use Rattle.std.specs.Prelude.{◌≡◌, ◌++◌, IfOk, OnOk};
-ghost use Rattle.trace_index.specs.Said.{counts, range_of, read_counts, said_by, said_each, said_from, said_of};
+ghost use Rattle.trace_index.specs.Said.{counts, list_counts, range_of, read_counts, said_by, said_each, said_from, said_of};
 
 use crate::attempts::{Attempt, Fate};
 use stamp_base::NoMemory;
@@ -83,7 +83,17 @@ fn counts(fate: Fate, operation: &Operation) -> bool
 {
     match operation {
         Operation::Read { answer, .. } => read_counts(fate, *answer),
-        Operation::ReadList { .. } | Operation::Write { .. } | Operation::Append { .. } => true,
+        Operation::ReadList { .. } => list_counts(fate),
+        Operation::Write { .. } | Operation::Append { .. } => true,
+    }
+}
+
+fn list_counts(fate: Fate) -> bool
+    ensures { result ≡ list_counts fate }
+{
+    match fate {
+        Fate::Committed | Fate::Open => true,
+        Fate::Aborted => false,
     }
 }
 

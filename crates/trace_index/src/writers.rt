@@ -48,10 +48,10 @@ impl Writers {
         ensures { Leaves (writer_step self.old said.now.txn said.now.member said.now.operation) self.new result }
     {
         match said.operation {
-            Operation::Read { .. } => Ok(()),
-            Operation::Write { key, value, .. } => self.add(said.txn, said.member, key, value),
-            Operation::ReadList { key, .. } => Err(lists(said.txn, said.member, key, 0)),
-            Operation::Append { key, value } => Err(lists(said.txn, said.member, key, value)),
+            Operation::Read { .. } | Operation::ReadList { .. } => Ok(()),
+            Operation::Write { key, value, .. } | Operation::Append { key, value } => {
+                self.add(said.txn, said.member, key, value)
+            }
         }
     }
 
@@ -78,21 +78,7 @@ impl Writers {
     }
 }
 
-/// That a list is not judged.
-pub fn lists(txn: usize, member: u64, key: u64, value: u64) -> Fault
-    ensures { result ≡ Fault.At txn member key value Unclear.Lists }
-{
-    Fault::At {
-        txn,
-        member,
-        key,
-        value,
-        what: Unclear::Lists,
-    }
-}
-
-/// The writers of the operations. At, with the first that writes a value a second time at a key or is of a list; NoMemory where
-/// memory is refused.
+/// The writers of the operations. At, with the first that writes a value a second time at a key; NoMemory where memory is refused.
 pub fn writers_of(alloc: Global, said: &[Said]) -> Result<Writers, Fault>
     ensures { Makes (writers_from [] said.now) result }
 {

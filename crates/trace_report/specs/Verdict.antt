@@ -1,12 +1,12 @@
 -- What is told of a trace: that it is as asked, or not and why, or that it is not decided, or that it can't be judged.
-use Rattle.std.specs.Prelude.{ℕ, List, ◌++◌, codes, decimal}
+use Rattle.std.specs.Prelude.{ℕ, List, [], ◌++◌, codes, decimal}
 use Rattle.trace_rules.specs.declared.wanted.Level.{Level}
 use Rattle.trace_rules.specs.declared.wanted.Level.TheVariants.{Snapshot, Serializable}
 use Rattle.trace_rules.specs.declared.wanted.Wanted.{Wanted}
 use Rattle.trace_rules.specs.declared.wanted.Wanted.TheVariants.{Nothing, Sessions, RealTime}
 use Rattle.trace_index.specs.declared.attempts.Attempt.{Attempt}
 use Rattle.trace_index.specs.declared.fault.Unclear.{Unclear}
-use Rattle.trace_index.specs.declared.fault.Unclear.TheVariants.{WrittenTwice, WrittenByNobody, VersionTwice, Lists}
+use Rattle.trace_index.specs.declared.fault.Unclear.TheVariants.{WrittenTwice, WrittenByNobody, VersionTwice, BothWays}
 use Rattle.trace_report.specs.Parts.{line_at, name_at}
 
 abbrev pub level_text : Level → List ℕ
@@ -36,14 +36,14 @@ abbrev pub why_text : Unclear → List ℕ
 why_text WrittenTwice = codes " is written twice at "
 why_text WrittenByNobody = codes " is read and written by nobody at "
 why_text VersionTwice = codes " is told of two writers at "
-why_text Lists = codes ": no list is judged: "
+why_text BothWays = codes "a list and a single value are told at "
 
 -- a version by its number, and a value by its name
 abbrev pub what_text : List (List ℕ) → ℕ → Unclear → List ℕ
 what_text names value WrittenTwice = name_at names value
 what_text names value WrittenByNobody = name_at names value
 what_text names value VersionTwice = codes "version " ++ decimal value
-what_text names value Lists = name_at names value
+what_text names value BothWays = []
 
 -- the operation, by its line and member
 unfoldable pub where_text : List Attempt → ℕ → ℕ → List ℕ

@@ -2,6 +2,7 @@
 #![tactic(auto)]
 
 mod cycle;
+mod lists;
 mod name;
 mod parts;
 mod step;
@@ -9,6 +10,7 @@ mod verdict;
 mod wrong;
 
 pub use cycle::push_cycle;
+pub use lists::{flaw_name, push_wrong_list};
 pub use name::{Anomaly, name_of};
 pub use step::{Step, Way};
 pub use verdict::{push_holds, push_refused, push_unclear, push_undecided, push_wrong_read};

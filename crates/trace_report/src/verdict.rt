@@ -113,7 +113,7 @@ fn why_text(what: Unclear) -> &'static str
         Unclear::WrittenTwice => " is written twice at ",
         Unclear::WrittenByNobody => " is read and written by nobody at ",
         Unclear::VersionTwice => " is told of two writers at ",
-        Unclear::Lists => ": no list is judged: ",
+        Unclear::BothWays => "a list and a single value are told at ",
     }
 }
 
@@ -148,8 +148,7 @@ fn push_what(
             push_words(text, "version ")?;
             push_number(text, value)
         }
-        Unclear::WrittenTwice | Unclear::WrittenByNobody | Unclear::Lists => {
-            push_name(text, recording, value)
-        }
+        Unclear::WrittenTwice | Unclear::WrittenByNobody => push_name(text, recording, value),
+        Unclear::BothWays => Ok(()),
     }
 }

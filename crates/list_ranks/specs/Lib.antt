@@ -1,0 +1,4 @@
+pub mod Hints
+pub mod Certified
+pub mod Wrong
+pub mod Told
