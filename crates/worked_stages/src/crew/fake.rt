@@ -58,15 +58,11 @@ impl<L: Ledger> Fake<L> {
         }
     }
 
-    // So many lines of the share's actor are done.
     fn move_up<R: Wait>(&self, rt: &R, mine: &mut ActorShare<L>, place: u64)
         requires { place < 2 ^ 32 }
         ensures { GoesOn mine.old mine.new }
     {
-        let mut cursors = self.cursors.lock(rt);
-        if are_below(cursors.as_slice(), place) {
-            cursors.catch_up(mine, place);
-        }
+        catch_up(rt, &self.cursors, mine, place);
     }
 
     fn is_posted<R: Wait>(&self, rt: &R) -> bool {
@@ -107,6 +103,22 @@ impl<L: Ledger> Fake<L> {
         }
         self.move_up(rt, mine, 2);
         ActorStep::Ended
+    }
+}
+
+/// So many lines of the share's actor are done.
+pub fn catch_up<L: Ledger, R: Wait>(
+    rt: &R,
+    cursors: &Mutex<Cursors<L>>,
+    mine: &mut ActorShare<L>,
+    place: u64,
+)
+    requires { place < 2 ^ 32 }
+    ensures { GoesOn mine.old mine.new }
+{
+    let mut cursors = cursors.lock(rt);
+    if are_below(cursors.as_slice(), place) {
+        cursors.catch_up(mine, place);
     }
 }
 
