@@ -1,11 +1,11 @@
 -- An accept lowers what is left.
 use Rattle.command_semantics.proofs.Names.{◌≡◌, ℕ, ◌+◌, ◌<◌, ◌≤◌, nat_lt, Bool, true, false, cond, List, Option, Some}
-use Rattle.command_semantics.proofs.Names.{None, ◌⊎◌, inl, inr, refl, sym, ◌∙◌, ap, subst, arith, slice_get, slice_set}
-use Rattle.command_semantics.proofs.Names.{Fate, Cause, Item, Held, Progress, Request, Begin, Commit, InstanceEntry}
-use Rattle.command_semantics.proofs.Names.{held_of, InstanceStep, moved, epoch_refusal, accept_refusal, accept_unless}
-use Rattle.command_semantics.proofs.Names.{accept_if_asked, accept_held, Client, State, Effect, after_refusal, Step}
-use Rattle.command_semantics.proofs.Names.{step_by, with_post, with_client, with_reading, at_both, stepped, accept_by}
-use Rattle.command_semantics.proofs.Names.{accept_request, accept_on, Verb, InstanceAt, ClientAt, set_found, of_client}
+use Rattle.command_semantics.proofs.Names.{None, ◌⊎◌, inl, inr, refl, sym, subst, arith, slice_get, slice_set}
+use Rattle.command_semantics.proofs.Names.{Fate, Cause, Item, Held, Request, Begin, Commit, InstanceEntry}
+use Rattle.command_semantics.proofs.Names.{held_of, moved, epoch_refusal, accept_refusal, accept_unless}
+use Rattle.command_semantics.proofs.Names.{Client, State, Effect, after_refusal, Step}
+use Rattle.command_semantics.proofs.Names.{with_post, with_client, with_reading, stepped, accept_by}
+use Rattle.command_semantics.proofs.Names.{Verb, InstanceAt, ClientAt, set_found, of_client}
 use Rattle.command_semantics.proofs.Names.{client_completes, client_ends, lacks_stamps, place_left, drive_left}
 use Rattle.std.proofs.Common.{nat_le}
 use Rattle.history_book.specs.declared.cause.Cause.TheVariants as cause
@@ -36,20 +36,11 @@ abbrev accept_effect : ℕ → ℕ → ℕ → InstanceEntry → Held → Client
 accept_effect node s reading i held c why = accept_by node s reading held.request (accept_unless i s held why).left c (accept_unless i s held why).answer
 
 accept_is : (w : State) (node s reading : ℕ) (fate : Fate) (i : InstanceEntry) (held : Held) (c : Client) → InstanceAt w.nodes node i → ClientAt w.clients s c → held_of i s ≡ Some held → held.progress ≡ progress.Asked → stepped w (event.Accept node s reading) fate ≡ node_step (with_reading w reading) node s (accept_effect node s reading i held c (accept_refusal i reading held.request))
-accept_is w node s reading fate i held c at client_at has asked =
-    let u : State = with_reading w reading in
-    let f : Option InstanceEntry → Client → Step = λ post client. step_by (accept_on node s reading post client) (λ p. with_client (with_post u node p.0) s p.1) in
-    let steps : InstanceStep (Unit {0}) → Step = λ step. step_by (accept_by node s reading held.request step.left c step.answer) (λ p. with_client (with_post u node p.0) s p.1) in
-    ap (λ (found : Option (Option InstanceEntry)). at_both u found (slice_get w.clients s) f) at
-    ∙ ap (λ (found : Option Client). at_both u (Some (Some i)) found f) client_at
-    ∙ ap (λ (found : Option Held). step_by (accept_request node s reading i c found) (λ p. with_client (with_post u node p.0) s p.1)) has
-    ∙ ap (λ (found : Option Held). steps (accept_held i s reading found)) has
-    ∙ ap (λ (p : Progress). steps (accept_if_asked i s reading held p)) asked
+accept_is w node s reading fate i held c at client_at has asked = grind arith
 
 -- what an accept can leave to do
 accepted_most : (lacks : Bool) → place_left lacks place.Accepted ≤ 5
-accepted_most true = omega arith
-accepted_most false = omega arith
+accepted_most lacks = grind arith
 
 -- the request has ended
 accept_ends : (w : State) (h : List Item) (node s reading : ℕ) (k : Serving w h s (node, place.Asked)) → of_client (slice_get (slice_set w.clients s (after_refusal k.served.held.request k.c)) s) client_completes < drive_left w s

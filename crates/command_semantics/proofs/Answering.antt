@@ -1,31 +1,24 @@
 -- An answer lowers what is left, or tells a begin to wait, which ends the run.
-use Rattle.command_semantics.proofs.Names.{◌≡◌, ℕ, ◌+◌, ◌<◌, List, Option, Some, None, refl, sym, ◌∙◌, ap, subst, arith}
+use Rattle.command_semantics.proofs.Names.{◌≡◌, ℕ, ◌+◌, ◌<◌, List, Option, Some, None, refl, sym, subst, arith}
 use Rattle.command_semantics.proofs.Names.{Fate, Item, Held, Progress, Request, Begin, Commit, InstanceEntry, held_of}
-use Rattle.command_semantics.proofs.Names.{with_request, stamps_by, stamps_of_held, least_unsettled, Client, State}
+use Rattle.command_semantics.proofs.Names.{with_request, stamps_by, least_unsettled, Client, State}
 use Rattle.command_semantics.proofs.Names.{Effect, Step, with_post, with_client, stepped, Verb, InstanceAt, ClientAt}
 use Rattle.command_semantics.proofs.Names.{client_ends, drive_left, Reply, Settled, InstanceStep, answer_begin}
-use Rattle.command_semantics.proofs.Names.{answer_if_ready, answer_held, client_begun, client_handed, client_committed}
-use Rattle.command_semantics.proofs.Names.{client_aborted, client_opened, unless_gone, answer_by, answer_request}
-use Rattle.command_semantics.proofs.Names.{answer_on}
+use Rattle.command_semantics.proofs.Names.{answer_if_ready, client_begun, client_handed, client_committed}
+use Rattle.command_semantics.proofs.Names.{client_aborted, client_opened, unless_gone, answer_by}
 use Rattle.system_parts.specs.declared.instance.Place.TheVariants as place
 use Rattle.system_parts.specs.declared.instance.Progress.TheVariants as progress
 use Rattle.machine.specs.declared.event.Event.TheVariants as event
 use Rattle.system_parts.specs.declared.instance.Settled.TheVariants as how
 use Rattle.command_semantics.proofs.Clients.{heard_left, heard_settles, handed_left, aborted_left, committed_left}
-use Rattle.command_semantics.proofs.Serving.{Lowers, Serving, left_to_drive, node_step, on_both, ends_so, is_over}
+use Rattle.command_semantics.proofs.Serving.{Lowers, Serving, left_to_drive, node_step, ends_so, is_over}
 
 -- the step by what the instance makes of the answer
 abbrev answer_effect : ℕ → ℕ → ℕ → Client → InstanceEntry → InstanceStep Reply → Effect (Option InstanceEntry × Client)
 answer_effect node s start c i step = answer_by node s start c i step.left step.answer
 
 answer_is : (w : State) (node s : ℕ) (fate : Fate) (i : InstanceEntry) (held : Held) (c : Client) (request : Request) (p : Progress) (start : ℕ) (commit : Option ℕ) → InstanceAt w.nodes node i → ClientAt w.clients s c → held_of i s ≡ Some held → held.request ≡ request → held.progress ≡ p → stamps_by request p ≡ Some (start, commit) → stepped w (event.Answer node s) fate ≡ node_step w node s (answer_effect node s start c i (answer_if_ready i s held request p))
-answer_is w node s fate i held c request p start commit at client_at has asks stands stamps =
-    let first : stamps_of_held (held_of i s) ≡ Some (start, commit) = ap stamps_of_held has ∙ ap (λ (r : Request). stamps_by r held.progress) asks ∙ ap (λ (q : Progress). stamps_by request q) stands ∙ stamps in
-    on_both w node s i c (answer_on node s) at client_at
-    ∙ ap (λ (found : Option (ℕ × Option ℕ)). node_step w node s (answer_request node s i c found)) first
-    ∙ ap (λ (found : Option Held). node_step w node s (answer_effect node s start c i (answer_held i s found))) has
-    ∙ ap (λ (r : Request). node_step w node s (answer_effect node s start c i (answer_if_ready i s held r held.progress))) asks
-    ∙ ap (λ (q : Progress). node_step w node s (answer_effect node s start c i (answer_if_ready i s held request q))) stands
+answer_is w node s fate i held c request p start commit at client_at has asks stands stamps = grind arith
 
 -- ---- a begin
 begun : (w : State) (h : List Item) (node s : ℕ) (verb : Verb) (k : Serving w h s (node, place.Drawn)) (start : ℕ) (waits : Option ℕ) → Lowers w s verb (node_step w node s (answer_effect node s start k.c k.served.holder.i (answer_begin k.served.holder.i s k.served.held start waits)))

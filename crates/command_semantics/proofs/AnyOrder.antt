@@ -1,13 +1,12 @@
 -- Events in any order keep to the plan, where each reads the clocks as they stand when it is made.
-use Rattle.command_semantics.proofs.Names.{◌≡◌, ℕ, ◌+◌, ◌≤◌, ◌^◌, List, [], ◌∷◌, ◌++◌, Option, Some, None, sym, ◌∙◌}
+use Rattle.std.proofs.lemmas.Grind.{common_steps}
+use Rattle.command_semantics.proofs.Names.{◌≡◌, ℕ, ◌+◌, ◌≤◌, ◌^◌, List, [], ◌∷◌, ◌++◌, Option, sym, ◌∙◌}
 use Rattle.command_semantics.proofs.Names.{subst, arith, slice_index_or, unwrap_or, sum, append-nil, sum_by-cons}
-use Rattle.command_semantics.proofs.Names.{sum_by_push, SetupNumbers, Fate, Actor, Clock, Event, reading_of, seen_after}
+use Rattle.command_semantics.proofs.Names.{sum_by_push, SetupNumbers, Fate, Actor, Event, reading_of, seen_after}
 use Rattle.command_semantics.proofs.Names.{IsSteadyAt, seen_up, leaves_parts, Line, Verb, ScriptData, facts_stay}
 use Rattle.command_semantics.proofs.Names.{tells_stay, tells_at_first, Clocks, Played, fate_of, step_of, clocks_of}
 use Rattle.command_semantics.proofs.Names.{played, opening_played, tick_of, ticks_of, tick_by, with_tick, ticks_in}
 use Rattle.command_semantics.proofs.Names.{ReadsClocks, ticks_with, PlannedSoFar}
-use Rattle.machine.specs.declared.event.Event.TheVariants as event
-use Rattle.script_data.specs.declared.line.Verb.TheVariants as verb
 use Rattle.command_semantics.proofs.Ending.{opening_reached}
 use Rattle.command_semantics.proofs.Timing.{Timed, InTime, in_time}
 use Rattle.command_semantics.specs.Orders.{TimedEvent, all_played, AllRead, ticks_made, IsTold, EventsStayTold, OrdersArePlanned}
@@ -16,12 +15,7 @@ use Rattle.command_semantics.proofs.PlannedLines.{ticks_on}
 
 -- ---- one event
 reads_timed : (clocks : Clocks) (tick : Option ℕ) (e : Event) → ReadsClocks clocks tick e → Timed clocks (unwrap_or tick 0) e
-reads_timed clocks None (event.Tick to) reads = absurd reads
-reads_timed clocks (Some by) (event.Tick to) reads = reads
-reads_timed clocks tick (event.Take node reading) reads = reads.1
-reads_timed clocks tick (event.Renew node reading) reads = reads.1
-reads_timed clocks tick (event.Accept node session reading) reads = reads.1
-reads_timed clocks tick e reads = tt
+reads_timed clocks tick e reads = grind arith
 
 pub events_stay_told : EventsStayTold
 events_stay_told script tick p e leads room told reads =
@@ -42,16 +36,13 @@ events_stay_told script tick p e leads room told reads =
 
 -- ---- the ticks
 ticks_first : (tick : Option ℕ) (ticks : List ℕ) → sum (with_tick tick ticks) ≡ unwrap_or tick 0 + sum ticks
-ticks_first None ticks = omega arith
-ticks_first (Some by) ticks = sum_by-cons (λ (x : ℕ). x) by ticks
+ticks_first tick ticks = grind (arith, common_steps, sum_by-cons)
 
 ticks_more : (ticks : List ℕ) (tick : Option ℕ) → sum (ticks_with ticks tick) ≡ sum ticks + unwrap_or tick 0
-ticks_more ticks None = omega arith
-ticks_more ticks (Some by) = sum_by_push (λ (x : ℕ). x) ticks by
+ticks_more ticks tick = grind (arith, sum_by_push)
 
 clock_most : (actor : Actor) (line : Verb) → unwrap_or (tick_by actor line) 0 ≤ tick_of line
-clock_most Clock (verb.Tick by) = omega arith
-clock_most actor line = omega arith
+clock_most actor line = grind arith
 
 -- the clock ticks by no more than all lines that name a tick
 ticks_most : (lines : List Line) → sum (ticks_in lines) ≤ ticks_of lines

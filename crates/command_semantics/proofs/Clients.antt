@@ -1,13 +1,12 @@
 -- What events make of a session's client, for what is left of a run.
 use Rattle.command_semantics.proofs.Names.{◌≡◌, ℕ, ◌+◌, ◌≤◌, Bool, true, false, List, [], ◌∷◌, ◌++◌, Option, Some, None}
-use Rattle.command_semantics.proofs.Names.{refl, ◌∙◌, ap, arith, length, slice_get, slice_set, SessionState}
-use Rattle.command_semantics.proofs.Names.{finish_asks, undo_asks, has_key, key_added, handed_commit, Request, Begin}
-use Rattle.command_semantics.proofs.Names.{Commit, Client, State, undo_of, finish_of, client_freed, client_aborted}
-use Rattle.command_semantics.proofs.Names.{client_handed, client_committed, unless_gone, unless_gone_by, after_refusal}
-use Rattle.command_semantics.proofs.Names.{Step, at_client, set_found, asks_left, steps_due, keys_of, of_client}
+use Rattle.command_semantics.proofs.Names.{refl, ap, arith, length, slice_get, slice_set}
+use Rattle.command_semantics.proofs.Names.{finish_asks, undo_asks, has_key, key_added, Request}
+use Rattle.command_semantics.proofs.Names.{Client, State, client_aborted}
+use Rattle.command_semantics.proofs.Names.{client_handed, client_committed, unless_gone, after_refusal}
+use Rattle.command_semantics.proofs.Names.{Step, at_client, set_found, keys_of, of_client}
 use Rattle.command_semantics.proofs.Names.{client_completes, client_ends, client_settles}
 use Rattle.std.specs.Prelude.{if◌then◌else◌}
-use Rattle.system_parts.specs.declared.session.State.TheVariants as phase
 
 -- ---- a client that is set is found
 pub client_now : (clients : List Client) (s : ℕ) (old now : Client) (f : Client → ℕ) → slice_get clients s ≡ Some old → of_client (slice_get (slice_set clients s now) s) f ≡ f now
@@ -15,16 +14,11 @@ client_now clients s old now f at = ap (λ (found : Option Client). of_client fo
 
 -- an event on a client leaves the client that it makes
 pub client_left : (w : State) (s : ℕ) (f : Client → Step) (make : Client → Client) (g : Client → ℕ) (c : Client) → slice_get w.clients s ≡ Some c → (f c).state.clients ≡ slice_set w.clients s (make c) → of_client (slice_get (at_client w (slice_get w.clients s) f).state.clients s) g ≡ g (make c)
-client_left w s f make g c at is =
-    ap (λ (found : Option Client). of_client (slice_get (at_client w found f).state.clients s) g) at
-    ∙ ap (λ (clients : List Client). of_client (slice_get clients s) g) is
-    ∙ client_now w.clients s c (make c) g at
+client_left w s f make g c at is = grind (arith, client_now)
 
 -- and none where there is none
 pub no_client_left : (w : State) (s : ℕ) (f : Client → Step) (g : Client → ℕ) → slice_get w.clients s ≡ None → of_client (slice_get (at_client w (slice_get w.clients s) f).state.clients s) g ≡ 0
-no_client_left w s f g at =
-    ap (λ (found : Option Client). of_client (slice_get (at_client w found f).state.clients s) g) at
-    ∙ ap (λ (found : Option Client). of_client found g) at
+no_client_left w s f g at = grind arith
 
 -- ---- how long completions are
 pub undo_long : (t : ℕ) (keys : List ℕ) → length (undo_asks t keys) ≡ length keys
@@ -35,54 +29,31 @@ pub finish_long : (t commit : ℕ) (keys : List ℕ) → length (finish_asks t c
 finish_long t commit [] = refl
 finish_long t commit (k ∷ ks) = omega (arith, finish_long t commit ks)
 
-undo_left : (start : Option ℕ) (keys : List ℕ) → asks_left (undo_of start keys) ≤ length keys
-undo_left None keys = omega arith
-undo_left (Some t) [] = omega arith
-undo_left (Some t) (k ∷ ks) = omega (arith, undo_long t (k ∷ ks))
-
-finish_left : (start : Option ℕ) (commit : ℕ) (keys : List ℕ) → asks_left (finish_of start commit keys) ≤ length keys + 1
-finish_left None commit keys = omega arith
-finish_left (Some t) commit keys = omega (arith, finish_long t commit keys)
-
 pub aborted_left : (c : Client) → client_completes (client_aborted c) ≤ keys_of c
-aborted_left c = undo_left c.entry.start c.entry.keys
+aborted_left c = grind (arith, undo_long)
 
 pub committed_left : (c : Client) (commit : ℕ) → client_completes (client_committed c commit) ≤ keys_of c + 1
-committed_left c commit = finish_left c.entry.start commit c.entry.keys
+committed_left c commit = grind (arith, finish_long)
 
 -- ---- how much a placing leaves, with what follows it
-due_most : (keys : ℕ) (due : Option (ℕ × ℕ)) (left : ℕ) → steps_due keys due left ≤ keys + 2 + left
-due_most keys None left = omega arith
-due_most keys (Some stamps) left = omega arith
-
 pub settles_most : (c : Client) → client_settles c ≤ client_ends c
-settles_most c = due_most (keys_of c) (handed_commit c.entry) (client_completes c)
+settles_most c = grind arith
 
 pub settles_within : (found : Option Client) → of_client found client_settles ≤ of_client found client_ends
-settles_within None = omega arith
-settles_within (Some c) = settles_most c
+settles_within found = grind (arith, settles_most)
 
 pub handed_left : (c : Client) (commit : ℕ) → client_settles (client_handed c commit) ≤ keys_of c + 2
-handed_left c commit = omega (arith, due_most (keys_of c) (handed_commit (client_handed c commit).entry) 0)
+handed_left c commit = grind arith
 
 -- a session that has vanished hears nothing
-gone_left : (state : SessionState) (c now : Client) → client_completes now ≤ keys_of c + 1 → client_completes (unless_gone_by state c now) ≤ client_ends c
-gone_left phase.Gone c now less = omega arith
-gone_left _ c now less = omega (arith, less)
-
 pub heard_left : (c now : Client) → client_completes now ≤ keys_of c + 1 → client_completes (unless_gone c now) ≤ client_ends c
-heard_left c now less = gone_left c.entry.state c now less
-
-gone_settles : (state : SessionState) (c now : Client) → client_settles now ≤ keys_of c + 2 → client_settles (unless_gone_by state c now) ≤ client_ends c
-gone_settles phase.Gone c now less = settles_most c
-gone_settles _ c now less = omega (arith, less)
+heard_left c now less = grind arith
 
 pub heard_settles : (c now : Client) → client_settles now ≤ keys_of c + 2 → client_settles (unless_gone c now) ≤ client_ends c
-heard_settles c now less = gone_settles c.entry.state c now less
+heard_settles c now less = grind (arith, settles_most)
 
 pub refused_left : (request : Request) (c : Client) → client_completes (after_refusal request c) ≤ client_ends c
-refused_left (Begin session) c = heard_left c (client_freed c) (omega arith)
-refused_left (Commit session start keys) c = heard_left c (client_aborted c) (omega (arith, aborted_left c))
+refused_left request c = grind (arith, heard_left, aborted_left)
 
 -- a write adds a key at most
 added_by : (keys : List ℕ) (key : ℕ) (has : Bool) → length (if has then keys else keys ++ key ∷ []) ≤ length keys + 1

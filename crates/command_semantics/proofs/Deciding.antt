@@ -1,38 +1,30 @@
 -- A decision lowers what is left: the request has drawn, has ended, or its node is to extend the range.
-use Rattle.command_semantics.proofs.Names.{◌≡◌, ℕ, ◌+◌, ◌<◌, ◌≤◌, ◌==◌, Bool, true, false, ◌&&◌, cond, List, Option}
-use Rattle.command_semantics.proofs.Names.{Some, None, is_none, refl, sym, ◌∙◌, ap, subst, arith, slice_get, slice_set}
-use Rattle.command_semantics.proofs.Names.{Fate, Cause, Item, Verdict, Free, Conflict, Hidden, Decided, Held, Progress}
-use Rattle.command_semantics.proofs.Names.{Request, Begin, Commit, InstanceEntry, held_of, place_of_progress, Client}
+use Rattle.command_semantics.proofs.Names.{◌≡◌, ℕ, ◌+◌, ◌<◌, ◌≤◌, ◌==◌, Bool, true, false, cond, List, Option}
+use Rattle.command_semantics.proofs.Names.{Some, None, refl, sym, subst, arith, slice_get, slice_set}
+use Rattle.command_semantics.proofs.Names.{Fate, Cause, Item, Verdict, Free, Conflict, Hidden, Decided, Held}
+use Rattle.command_semantics.proofs.Names.{Request, InstanceEntry, held_of, place_of_progress, Client}
 use Rattle.command_semantics.proofs.Names.{State, Effect, after_refusal, Step, with_post, with_client, stepped, Verb}
 use Rattle.command_semantics.proofs.Names.{InstanceAt, ClientAt, set_found, of_client, client_completes, client_ends}
 use Rattle.command_semantics.proofs.Names.{lacks_stamps, place_left, drive_left, InstanceStep, IsStop, out_of_stamps}
-use Rattle.command_semantics.proofs.Names.{drawn_as, decide_drawn, verdict_by, both_verdict, both_if_accepted}
-use Rattle.command_semantics.proofs.Names.{both_held, decide_by, decide_request, decide_on, StopOf}
+use Rattle.command_semantics.proofs.Names.{drawn_as, decide_drawn, verdict_by, both_verdict}
+use Rattle.command_semantics.proofs.Names.{decide_by, StopOf}
 use Rattle.history_book.specs.declared.cause.Cause.TheVariants as cause
 use Rattle.system_parts.specs.declared.instance.Place.TheVariants as place
 use Rattle.system_parts.specs.declared.instance.Progress.TheVariants as progress
 use Rattle.machine.specs.declared.event.Event.TheVariants as event
 use Rattle.command_semantics.proofs.Clients.{client_now, refused_left}
-use Rattle.command_semantics.proofs.Serving.{Lowers, Serving, left_to_drive, node_step, on_both, goes_on, ends_so}
+use Rattle.command_semantics.proofs.Serving.{Lowers, Serving, left_to_drive, node_step, goes_on, ends_so}
 
 -- an effect of the decision that the instance makes
 abbrev decide_effect : ℕ → ℕ → Held → Client → InstanceStep Decided → Effect (Option InstanceEntry × Client)
 decide_effect node s held c step = decide_by node s held step.left c step.answer
 
 decide_is : (w : State) (node s : ℕ) (fate : Fate) (i : InstanceEntry) (held : Held) (c : Client) → InstanceAt w.nodes node i → ClientAt w.clients s c → held_of i s ≡ Some held → held.progress ≡ progress.Accepted → stepped w (event.Decide node s) fate ≡ node_step w node s (decide_effect node s held c (verdict_by i s held (both_verdict i.buckets c.reads held.request)))
-decide_is w node s fate i held c at client_at has accepted =
-    on_both w node s i c (decide_on node s) at client_at
-    ∙ ap (λ (found : Option Held). node_step w node s (decide_request node s i c found)) has
-    ∙ ap (λ (found : Option Held). node_step w node s (decide_effect node s held c (both_held i s c.reads found))) has
-    ∙ ap (λ (p : Progress). node_step w node s (decide_effect node s held c (both_if_accepted i s c.reads held p))) accepted
+decide_is w node s fate i held c at client_at has accepted = grind arith
 
 -- what a decision takes at least
-accepted_least : (lacks : Bool) → 3 ≤ place_left lacks place.Accepted
-accepted_least true = omega arith
-accepted_least false = omega arith
-
 still : (w : State) (h : List Item) (s : ℕ) (node : ℕ) (k : Serving w h s (node, place.Accepted)) → 3 + client_ends k.c ≤ drive_left w s
-still w h s node k = omega (arith, left_to_drive w h s (node, place.Accepted) k, accepted_least (lacks_stamps k.served.holder.i))
+still w h s node k = grind (arith, left_to_drive)
 
 -- the request has ended
 decide_ends : (w : State) (h : List Item) (node s : ℕ) (k : Serving w h s (node, place.Accepted)) → of_client (slice_get (slice_set w.clients s (after_refusal k.served.held.request k.c)) s) client_completes < drive_left w s
@@ -43,9 +35,7 @@ decide_ends w h node s k =
 
 -- how far it has come once it is drawn
 drawn_most : (lacks direct : Bool) (request : Request) (stamp : ℕ) → place_left lacks (place_of_progress (drawn_as direct request stamp)) ≤ 2
-drawn_most lacks true (Begin session) stamp = omega arith
-drawn_most lacks true (Commit session start keys) stamp = omega arith
-drawn_most lacks false request stamp = omega arith
+drawn_most lacks direct request stamp = grind arith
 
 -- it has its stamp
 drawn : (w : State) (h : List Item) (node s : ℕ) (verb : Verb) (k : Serving w h s (node, place.Accepted)) (stamp : ℕ) → Lowers w s verb (node_step w node s (decide_effect node s k.served.held k.c (decide_drawn k.served.holder.i s k.served.held stamp)))
@@ -59,13 +49,7 @@ drawn w h node s verb k stamp =
 
 -- no stamp is left, and no refusal is kept
 unstamped : (w : State) (h : List Item) (node s : ℕ) (verb : Verb) (k : Serving w h s (node, place.Accepted)) → (k.served.holder.i.last == k.served.holder.i.ceiling) ≡ true → k.served.holder.i.stop ≡ None → Lowers w s verb (node_step w node s (decide_effect node s k.served.held k.c (out_of_stamps k.served.holder.i s k.served.held None)))
-unstamped w h node s verb k used none =
-    let i : InstanceEntry = k.served.holder.i in
-    let lacks : lacks_stamps i ≡ true = ap (λ (b : Bool). b && is_none i.stop) used ∙ ap (λ (stop : Option Cause). is_none stop) none in
-    let five : place_left (lacks_stamps i) place.Accepted ≡ 5 = ap (λ (b : Bool). place_left b place.Accepted) lacks in
-    let full : drive_left w s ≡ place_left (lacks_stamps i) place.Accepted + client_ends k.c = left_to_drive w h s (node, place.Accepted) k in
-    let now : of_client (slice_get (slice_set w.clients s k.c) s) client_ends ≡ client_ends k.c = client_now w.clients s k.c k.c client_ends k.client_at in
-    omega (arith, five, full, now)
+unstamped w h node s verb k used none = grind (arith, left_to_drive, client_now)
 
 -- a refusal that is kept ends the request
 stopped : (w : State) (h : List Item) (node s : ℕ) (verb : Verb) (k : Serving w h s (node, place.Accepted)) (why : Cause) → IsStop why → Lowers w s verb (node_step w node s (decide_effect node s k.served.held k.c (out_of_stamps k.served.holder.i s k.served.held (Some why))))

@@ -1,22 +1,20 @@
 -- For run_board too.
 -- Each event that drives a request lowers what is left, and so does the completion that follows.
-use Rattle.command_semantics.proofs.Names.{◌≡◌, ℕ, ◌+◌, ◌<◌, Bool, List, Option, Some, None, refl, sym, ◌∙◌, ap, subst}
-use Rattle.command_semantics.proofs.Names.{arith, slice_get, Mark, Fate, Works, FailsUnchanged, FailsApplied, Node}
+use Rattle.command_semantics.proofs.Names.{◌≡◌, ℕ, ◌<◌, Bool, List, Option, Some, None, refl, sym, ◌∙◌, ap, subst}
+use Rattle.command_semantics.proofs.Names.{arith, slice_get, Mark, Fate}
 use Rattle.command_semantics.proofs.Names.{Item, Pairs, mark_of, Held, Place, Progress, Request, Begin, Commit}
 use Rattle.command_semantics.proofs.Names.{InstanceEntry, held_of, place_of_progress, stamps_by, stamps_of_held, Client}
-use Rattle.command_semantics.proofs.Names.{State, refused, client_aborted, client_committed, client_opened, Step}
-use Rattle.command_semantics.proofs.Names.{with_client, stepped, place_by, answer_request, answer_on, holder_from}
-use Rattle.command_semantics.proofs.Names.{place_held, place_of, is_commit, asks_commit, Verb, ClientAt}
-use Rattle.command_semantics.proofs.Names.{ReachedInvariant, held_by, Point, Clocks, serves, of_client}
-use Rattle.command_semantics.proofs.Names.{client_completes, client_settles, client_ends, drive_left_by, drive_left}
-use Rattle.command_semantics.proofs.Names.{session_left}
-use Rattle.history_book.specs.declared.cause.Cause.TheVariants as cause
+use Rattle.command_semantics.proofs.Names.{State, Step}
+use Rattle.command_semantics.proofs.Names.{stepped, place_by}
+use Rattle.command_semantics.proofs.Names.{place_of, is_commit, asks_commit, Verb, ClientAt}
+use Rattle.command_semantics.proofs.Names.{ReachedInvariant, held_by, Clocks, serves, of_client}
+use Rattle.command_semantics.proofs.Names.{client_completes, client_settles, drive_left_by, drive_left}
 use Rattle.system_parts.specs.declared.instance.Place.TheVariants as place
 use Rattle.system_parts.specs.declared.instance.Progress.TheVariants as progress
 use Rattle.machine.specs.declared.event.Event.TheVariants as event
 use Rattle.command_semantics.proofs.Holders.{Served, is_served_at}
 use Rattle.command_semantics.proofs.Clients.{client_now, aborted_left, committed_left}
-use Rattle.command_semantics.proofs.Serving.{Lowers, Serving, left_to_drive, node_step, on_both, ends_so}
+use Rattle.command_semantics.proofs.Serving.{Lowers, Serving, left_to_drive, ends_so}
 use Rattle.command_semantics.proofs.Accepting.{accept_lowers}
 use Rattle.command_semantics.proofs.Deciding.{decide_lowers}
 use Rattle.command_semantics.proofs.Putting.{put_lowers}
@@ -34,12 +32,7 @@ serving_at w h s request stands at =
 
 -- ---- a begin is never settled or handed over; were it, its answer would be refused
 answer_none : (w : State) (h : List Item) (node s : ℕ) (fate : Fate) (verb : Verb) (k : Serving w h s (node, place.Settled)) → stamps_of_held (held_of k.served.holder.i s) ≡ None → Lowers w s verb (stepped w (event.Answer node s) fate)
-answer_none w h node s fate verb k none =
-    let i : InstanceEntry = k.served.holder.i in
-    let is : stepped w (event.Answer node s) fate ≡ node_step w node s (refused (Some i, k.c) (Node node) (cause.NoRequest s)) = on_both w node s i k.c (answer_on node s) k.served.holder.at k.client_at ∙ ap (λ (found : Option (ℕ × Option ℕ)). node_step w node s (answer_request node s i k.c found)) none in
-    let full : drive_left w s ≡ 1 + client_ends k.c = left_to_drive w h s (node, place.Settled) k in
-    let less : client_ends k.c < drive_left w s = omega (arith, full) in
-    subst (λ (step : Step). Lowers w s verb step) (sym is) (ends_so w (with_client w s k.c) s k.c k.c k.client_at refl (omega arith) less)
+answer_none w h node s fate verb k none = grind (arith, left_to_drive, ends_so)
 
 -- ---- by the request and how far it has come
 served_by : (clocks : Clocks) (w : State) (h : List Item) (node s : ℕ) (verb : Verb) (fate : Fate) (held : Held) (request : Request) (p : Progress) → held.request ≡ request → held.progress ≡ p → (k : Serving w h s (node, place_of_progress p)) → k.served.held ≡ held → Lowers w s verb (stepped w (serves clocks s node (is_commit request) (place_of_progress p)) fate)
@@ -57,13 +50,7 @@ serves_lower clocks w h s request verb fate stands at =
     let first : Serving w h s request = serving_at w h s request stands at in
     let held : Held = first.served.held in
     let here : place_of w s ≡ Some (request.0, place_of_progress held.progress) = at ∙ ap (λ (p : Place). Some (request.0, p)) (sym first.served.place_is) in
-    let k : Serving w h s (request.0, place_of_progress held.progress) = record {
-      stands = stands;
-      at = here;
-      served = record { held = held; holder = first.served.holder; place_is = refl; commit_is = first.served.commit_is };
-      c = first.c;
-      client_at = first.client_at;
-    } in
+    let k : Serving w h s (request.0, place_of_progress held.progress) = grind (arith, place_is) in
     subst (λ (commit : Bool). Lowers w s verb (stepped w (serves clocks s request.0 commit request.1) fate)) (sym first.served.commit_is)
     (subst (λ (p : Place). Lowers w s verb (stepped w (serves clocks s request.0 (is_commit held.request) p) fate)) first.served.place_is
     (served_by clocks w h request.0 s verb fate held held.request held.progress refl refl k refl))
@@ -77,24 +64,12 @@ undriven_at w s c at none = undriven w s none ∙ ap (λ (found : Option Client)
 
 -- a completion goes on
 pub completion_lowers : (w : State) (s : ℕ) (verb : Verb) (c : Client) (step : Step) → ClientAt w.clients s c → place_of w s ≡ None → FewerAsks w s c step → Lowers w s verb step
-completion_lowers w s verb c step at none k =
-    let no_request : place_of step.state s ≡ None = ap (λ (nodes : List (Option InstanceEntry)). place_held (holder_from 0 nodes s)) k.nodes ∙ none in
-    let now : of_client (slice_get step.state.clients s) client_settles ≡ client_settles k.now = ap (λ (cs : List Client). of_client (slice_get cs s) client_settles) k.clients ∙ client_now w.clients s c k.now client_settles at in
-    subst (λ (p : Point). session_left step.state s verb p < drive_left w s) (sym k.goes_on) (omega (arith, undriven step.state s no_request, now, undriven_at w s c at none, k.settles))
+completion_lowers w s verb c step at none k = grind (arith, client_now, undriven, undriven_at)
 
 -- a commit that was handed over is placed, found marked, or not known to be placed
 placed_lowers : (w : State) (s : ℕ) (verb : Verb) (c : Client) (k : PlaceWork c) → ClientAt w.clients s c → place_of w s ≡ None → (fate : Fate) (found : Option Mark) (pairs : Pairs) → Lowers w s verb (placed_step w s (place_by s k.start k.commit fate found c pairs))
-placed_lowers w s verb c k at none Works None pairs =
-    let now : Client = client_committed c k.commit in
-    let left : State = record (with_client w s now) { pairs = pairs } in
-    omega (arith, undriven left s none, client_now w.clients s c now client_settles at, committed_left c k.commit, undriven_at w s c at none, place_settles c k)
-placed_lowers w s verb c k at none Works (Some mark) pairs = omega (arith, client_now w.clients s c (client_aborted c) client_completes at, aborted_left c, undriven_at w s c at none, place_settles c k)
-placed_lowers w s verb c k at none FailsUnchanged found pairs =
-    let left : State = record (with_client w s (client_opened c)) { pairs = pairs } in
-    omega (arith, undriven left s none, client_now w.clients s c (client_opened c) client_settles at, undriven_at w s c at none, place_settles c k)
-placed_lowers w s verb c k at none FailsApplied found pairs =
-    let left : State = record (with_client w s (client_opened c)) { pairs = pairs } in
-    omega (arith, undriven left s none, client_now w.clients s c (client_opened c) client_settles at, undriven_at w s c at none, place_settles c k)
+placed_lowers w s verb c k at none fate found pairs =
+    grind (arith, undriven, client_now, committed_left, undriven_at, place_settles, aborted_left)
 
 pub placing_lowers : (w : State) (s : ℕ) (verb : Verb) (fate : Fate) (c : Client) (k : PlaceWork c) → ClientAt w.clients s c → place_of w s ≡ None → Lowers w s verb (stepped w (event.Step s) fate)
 placing_lowers w s verb fate c k at none =
@@ -102,7 +77,4 @@ placing_lowers w s verb fate c k at none =
 
 -- a completion alone
 pub finish_lowers : (w : State) (s : ℕ) (verb : Verb) (c : Client) (step : Step) → ClientAt w.clients s c → FewerAsks w s c step → of_client (slice_get step.state.clients s) client_completes < of_client (slice_get w.clients s) client_completes
-finish_lowers w s verb c step at k =
-    let now : of_client (slice_get step.state.clients s) client_completes ≡ client_completes k.now = ap (λ (cs : List Client). of_client (slice_get cs s) client_completes) k.clients ∙ client_now w.clients s c k.now client_completes at in
-    let full : of_client (slice_get w.clients s) client_completes ≡ client_completes c = ap (λ (found : Option Client). of_client found client_completes) at in
-    omega (arith, now, full, k.fewer)
+finish_lowers w s verb c step at k = grind (arith, client_now)

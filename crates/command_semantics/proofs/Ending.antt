@@ -4,8 +4,8 @@ use Rattle.command_semantics.proofs.Names.{◌≡◌, ℕ, zero, suc, ◌+◌, �
 use Rattle.command_semantics.proofs.Names.{None, refl, sym, ◌∙◌, subst, arith, slice_index_or, SetupNumbers, AreInRange}
 use Rattle.command_semantics.proofs.Names.{Fate, Item, Event, State, opening, Step, stepped, reading_of, seen_after}
 use Rattle.command_semantics.proofs.Names.{IsSteadyAt, seen_up, leaves_parts, Line, Verb, ScriptData, facts_stay}
-use Rattle.command_semantics.proofs.Names.{stands_at_first, Interruption, Point, Opens, halt_of, follows, view_of}
-use Rattle.command_semantics.proofs.Names.{Clocks, one_left, Played, fate_of, Run, clocks_of, next_in, run_after}
+use Rattle.command_semantics.proofs.Names.{stands_at_first, Interruption, Point, halt_of, follows, view_of}
+use Rattle.command_semantics.proofs.Names.{Clocks, Played, fate_of, Run, clocks_of, next_in, run_after}
 use Rattle.command_semantics.proofs.Names.{left_in, going_on, run_for, opened, line_run, lines_played, opening_played}
 use Rattle.command_semantics.proofs.Names.{script_played, tick_of, ticks_of, EventsLowerWhatIsLeft, IsPlayable}
 use Rattle.command_semantics.proofs.Names.{IsReached, RunsEnd, LinesKeepFacts, ScriptsAreReached}
@@ -27,12 +27,8 @@ pub record Going (P : State → List Item → Type 0) (script : ScriptData) (lin
 
 -- ---- one event
 -- no tick is ahead of a run that has opened
-tick_after : (line : Verb) (at : Point) → one_left at ≡ 0 → tick_ahead at line ≡ 0
-tick_after line Opens none = absurd (cc)
-tick_after line _ none = refl
-
 tick_gone : (line : Verb) (at : Point) (halt : Option Interruption) → tick_ahead (follows line at halt) line ≡ 0
-tick_gone line at halt = tick_after line (follows line at halt) (followed_once line at halt)
+tick_gone line at halt = grind (arith, followed_once)
 
 on_time : (P : State → List Item → Type 0) (script : ScriptData) (line : Line) (most : ℕ) (r : Run) → Going P script line most r → OnTime (clocks_of script r.played) script.setup.skew r.played.state.seen
 on_time P script line most r k = record { leads = k.leads; room = omega (arith, k.ahead, k.room); before = k.reached.seen }
@@ -110,8 +106,7 @@ lines_keep lowers P script (line ∷ lines) p keeps reached has playable =
     let room : p.clock + (tick + rest) + script.setup.skew ≤ 2 ^ 61 = playable.ticks in
     let run : Ended P script line most (line_run script line p) = line_ends lowers P script line p keeps reached has playable.leads (omega (arith, room)) in
     let next : Played = (line_run script line p).played in
-    let by_then : next.clock + tick_ahead (line_run script line p).point line.verb ≤ most = run.going.ahead in
-    lines_keep lowers P script lines next keeps run.going.reached run.going.has (record { leads = playable.leads; ticks = omega (arith, by_then, room) })
+    grind (arith, lines_keep lowers P script lines next keeps)
 
 -- ---- whole scripts
 pub opening_reached : (script : ScriptData) → AreInRange script.setup → IsReached script (opening_played script)

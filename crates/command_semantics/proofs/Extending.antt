@@ -1,13 +1,13 @@
 -- An extension lowers what is left: the instance has stamps again, or keeps the refusal, so that the next decision draws or
 -- ends the request. A failed one ends the run.
-use Rattle.command_semantics.proofs.Names.{◌≡◌, ℕ, ◌+◌, ◌<◌, ◌≤◌, ◌==◌, Bool, true, false, ◌&&◌, List, Option, Some}
-use Rattle.command_semantics.proofs.Names.{None, is_none, refl, sym, ◌∙◌, ap, subst, arith, slice_get, option_or}
+use Rattle.command_semantics.proofs.Names.{◌≡◌, ℕ, ◌+◌, ◌<◌, false, List, Option, Some}
+use Rattle.command_semantics.proofs.Names.{None, refl, sym, ◌∙◌, ap, subst, arith, slice_get}
 use Rattle.command_semantics.proofs.Names.{same_Some, Fate, Works, FailsUnchanged, FailsApplied, fated, Cause, Item}
 use Rattle.command_semantics.proofs.Names.{ExtendRefused, StoreFault, Replaced, Spent, MasterRecord, extend_refused}
-use Rattle.command_semantics.proofs.Names.{extended, answered, Held, Place, InstanceEntry, held_of, place_of_progress}
+use Rattle.command_semantics.proofs.Names.{extended, answered, Held, InstanceEntry, held_of}
 use Rattle.command_semantics.proofs.Names.{instance_widened, instance_stopped, State, Effect, Step, step_by, with_post}
 use Rattle.command_semantics.proofs.Names.{at_post, stepped, extend_on, rules_of, Verb, halt_of, after_extending}
-use Rattle.command_semantics.proofs.Names.{of_client, client_ends, lacks_stamps, place_left, drive_left, session_left}
+use Rattle.command_semantics.proofs.Names.{of_client, client_ends, lacks_stamps, drive_left, session_left}
 use Rattle.std.proofs.lemmas.Bool.{ne_eqb}
 use Rattle.history_book.specs.declared.cause.Cause.TheVariants as cause
 use Rattle.system_parts.specs.declared.instance.Place.TheVariants as place
@@ -32,29 +32,15 @@ can_decide w h node s k now master requests enough =
     let ends : ℕ = of_client (slice_get w.clients s) client_ends in
     drives_on w left h node s now (4 + ends) (serving_changed w left h s (node, place.Accepted) k now refl) (λ (other : Held) has.
     let there : held_of i s ≡ Some other = ap (λ (held_now : List (Option Held)). held_of (record i { requests = held_now }) s) (sym requests) ∙ has in
-    let same : k.served.held ≡ other = same_Some k.served.held other (sym k.served.holder.has ∙ there) in
-    let at : place_of_progress other.progress ≡ place.Accepted = ap (λ (x : Held). place_of_progress x.progress) (sym same) ∙ k.served.place_is in
-    let three : place_left (lacks_stamps now) (place_of_progress other.progress) ≡ 3 = ap (λ (lacks : Bool). place_left lacks (place_of_progress other.progress)) enough ∙ ap (λ (p : Place). place_left false p) at in
-    omega (arith, three)) (omega (arith, settles_within (slice_get w.clients s)))
+    grind (arith, same_Some)) (omega (arith, settles_within (slice_get w.clients s)))
 
 -- a range that was added is not used up
 widened_enough : (w : State) (h : List Item) (node s : ℕ) (k : Serving w h s (node, place.Accepted)) → lacks_stamps (instance_widened k.served.holder.i (w.master.ceiling + w.setup.range)) ≡ false
-widened_enough w h node s k =
-    let i : InstanceEntry = k.served.holder.i in
-    let within : i.last ≤ i.ceiling = k.stands.holds.numbers.ranges.within node i k.served.holder.at in
-    let covered : i.ceiling ≤ w.master.ceiling = k.stands.holds.numbers.ranges.covered node i k.served.holder.at in
-    let room : 1 ≤ w.setup.range = k.stands.holds.in_range.range.0 in
-    ap (λ (used : Bool). used && is_none i.stop) (ne_eqb i.last (w.master.ceiling + w.setup.range) (λ (same : i.last ≡ w.master.ceiling + w.setup.range). omega (arith, within, covered, room, same)))
+widened_enough w h node s k = grind (arith, ne_eqb)
 
 -- a refusal that is kept is kept
-kept_some : (used : Bool) (kept : Option Cause) (why : Cause) → used && is_none (option_or kept (Some why)) ≡ false
-kept_some true None why = refl
-kept_some false None why = refl
-kept_some true (Some first) why = refl
-kept_some false (Some first) why = refl
-
 stopped_enough : (i : InstanceEntry) (why : Cause) → lacks_stamps (instance_stopped i why) ≡ false
-stopped_enough i why = kept_some (i.last == i.ceiling) i.stop why
+stopped_enough i why = grind arith
 
 -- by what the record answered
 answer_lowers : (w : State) (h : List Item) (node s : ℕ) (verb : Verb) (k : Serving w h s (node, place.Accepted)) (master : MasterRecord) (kept : List Item) (fate : Fate) (why : Option ExtendRefused) → LowersAfter w s verb (record_step w node (extend_by node k.served.holder.i master kept (answered fate StoreFault why (w.master.ceiling + w.setup.range))))

@@ -16,8 +16,7 @@ one_if b = cond b 1 0
 
 -- ---- the faults among the items of an event
 read_no_fault : (clocks : Clocks) (store : Store) (x : Item) → IsRead clocks x → is_fault_of store x ≡ false
-read_no_fault clocks store (item.Fault actor failed) read = absurd read
-read_no_fault clocks store x read = refl
+read_no_fault clocks store x read = grind arith
 
 read_faults : (clocks : Clocks) (store : Store) (items : List Item) → All (IsRead clocks) items → count_by (is_fault_of store) items ≡ 0
 read_faults clocks store [] read = refl
@@ -47,8 +46,7 @@ due_first store calls fault faults = sum_by-cons (λ (x : PlannedFault). one_if 
 
 -- how many of one fault are due after one call more: no fewer, and one more where it is the fault of that call
 one_due : (of_store : Bool) (number calls : ℕ) → one_if (of_store && nat_le number calls) + one_if (of_store && (number == calls + 1)) ≡ one_if (of_store && nat_le number (calls + 1))
-one_due true number calls = grind (arith, nat_tests)
-one_due false number calls = refl
+one_due of_store number calls = grind (arith, nat_tests)
 
 pub due_later : (store : Store) (calls : ℕ) (faults : List PlannedFault) → Due store calls faults ≤ Due store (calls + 1) faults
 due_later store calls [] = omega arith
@@ -71,9 +69,7 @@ due_now store calls (fault ∷ faults) fails = named_due store calls fault fault
 
 -- all of them are planned
 one_planned : (store : Store) (calls : ℕ) (fault : PlannedFault) (of_store early : Bool) → one_if (of_store && early) ≤ one_if of_store
-one_planned store calls fault true true = omega arith
-one_planned store calls fault true false = omega arith
-one_planned store calls fault false early = omega arith
+one_planned store calls fault of_store early = grind arith
 
 pub due_planned : (store : Store) (calls : ℕ) (faults : List PlannedFault) → Due store calls faults ≤ count_by (plans store) faults
 due_planned store calls [] = omega arith
@@ -96,15 +92,7 @@ no_fewer faults calls Master Table = omega arith
 
 -- one that fails was due itself
 one_due_now : (faults : List PlannedFault) (calls : Calls) (asked store : Store) → planned_fate faults asked (calls_on calls asked + 1) ≢ Works → Due store (calls_on calls store) faults + one_if (same_store asked store) ≤ Due store (calls_on (one_more calls asked) store) faults
-one_due_now faults calls Cells Cells fails = due_now Cells calls.cells faults fails
-one_due_now faults calls Table Table fails = due_now Table calls.table faults fails
-one_due_now faults calls Master Master fails = due_now Master calls.master faults fails
-one_due_now faults calls Cells Table fails = omega arith
-one_due_now faults calls Cells Master fails = omega arith
-one_due_now faults calls Table Cells fails = omega arith
-one_due_now faults calls Table Master fails = omega arith
-one_due_now faults calls Master Cells fails = omega arith
-one_due_now faults calls Master Table fails = omega arith
+one_due_now faults calls asked store fails = grind (arith, due_now)
 
 -- so the faults that an event tells are due after it, if it tells any
 abbrev pub ToldAreDue : ScriptData → Calls → Option Store → List Item → Type 0

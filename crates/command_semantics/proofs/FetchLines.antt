@@ -1,12 +1,13 @@
 -- For turn_rules too.
 -- The fetch of a read line answers it; and then the read has ended, or is under way.
-use Rattle.command_semantics.proofs.Names.{◌≡◌, ℕ, Bool, true, false, cond, nat_lt, ◌||◌, List, [], ◌∷◌, Option, Some}
-use Rattle.command_semantics.proofs.Names.{None, ◌⊎◌, inl, inr, refl, sym, subst, length, option_or, KEY_LIMIT, Fate}
-use Rattle.command_semantics.proofs.Names.{Works, FailsUnchanged, FailsApplied, Cause, Session, Item, Store, fetched}
-use Rattle.command_semantics.proofs.Names.{front_of, SessionState, ReadTurn, Asks, Answers, put_fresh, work_refusal}
-use Rattle.command_semantics.proofs.Names.{has_key, Client, State, is_reading, Step, step_by, with_client, at_client}
-use Rattle.command_semantics.proofs.Names.{stepped, fetch_recall, marks_every, keeps_read, reads_refusal}
-use Rattle.command_semantics.proofs.Names.{client_fetched, found_of, client_read, read_items, fetch_open, fetch_on}
+use Rattle.std.proofs.Common.{arith}
+use Rattle.command_semantics.proofs.Names.{◌≡◌, ℕ, Bool, cond, List, [], ◌∷◌, Option, Some}
+use Rattle.command_semantics.proofs.Names.{None, ◌⊎◌, inl, inr, refl, option_or, Fate}
+use Rattle.command_semantics.proofs.Names.{Cause, Session, Item, Store}
+use Rattle.command_semantics.proofs.Names.{SessionState, ReadTurn, Asks, Answers, work_refusal}
+use Rattle.command_semantics.proofs.Names.{Client, State, Step, step_by, with_client}
+use Rattle.command_semantics.proofs.Names.{stepped, reads_refusal}
+use Rattle.command_semantics.proofs.Names.{client_read, read_items, fetch_open}
 use Rattle.command_semantics.proofs.Names.{ClientAt, ReachedInvariant, set_found, RefusesLine, IsFetch, IsRefusal}
 use Rattle.command_semantics.proofs.Names.{read_begun}
 use Rattle.history_book.specs.declared.cause.Cause.TheVariants as cause
@@ -61,33 +62,18 @@ turn_done w s key start cells was c (Asks r) at is_open same = inr (
   },
   refl,
 )
-turn_done w s key start cells was c (Answers a) at is_open same = inl (record {
-  first = item.Step (Session s) (step.Fetch key cells);
-  rest = item.Read s start key (found_of a.found) ∷ [];
-  is = refl;
-  answers = inl (refl, refl);
-  behind = read_pays s start key key a.found refl;
-})
+turn_done w s key start cells was c (Answers a) at is_open same = grind (arith, read_pays)
 
 open_done : (w : State) (s key : ℕ) (fate : Fate) (c : Client) (start epoch : Option ℕ) → ClientAt w.clients s c → c.entry.state ≡ phase.Open → HasNumber phase.Open start → HasNumber phase.Open epoch → FetchDone s key (step_by (fetch_open w.setup s key fate c w.rows None start epoch) (λ (p : Client). with_client w s p))
-open_done w s key fate c None epoch at is_open has sees = absurd has
-open_done w s key fate c (Some start) None at is_open has sees = absurd sees
-open_done w s key Works c (Some start) (Some epoch) at is_open has sees = turn_done w s key start (length (fetched w.rows key start)) c (record (client_fetched w.setup c key) { cache = (fetch_recall w.setup key start epoch c (fetched w.rows key start)).1 }) (fetch_recall w.setup key start epoch c (fetched w.rows key start)).0 at is_open (over_recalls (marks_every w.setup) key start epoch (front_of start (fetched w.rows key start)) (put_fresh c.cache))
-open_done w s key FailsUnchanged c (Some start) (Some epoch) at is_open has sees = inl (fault_line s key _)
-open_done w s key FailsApplied c (Some start) (Some epoch) at is_open has sees = inl (fault_line s key _)
+open_done w s key fate c start epoch at is_open has sees = grind (arith, turn_done, over_recalls, fault_line)
 
 -- a key that is to be kept has no room
 room_done : (w : State) (s key : ℕ) (fate : Fate) (c : Client) (start epoch : Option ℕ) (kept room : Bool) → ClientAt w.clients s c → c.entry.state ≡ phase.Open → HasNumber phase.Open start → HasNumber phase.Open epoch
     → FetchDone s key (step_by (fetch_open w.setup s key fate c w.rows (cond kept (cond room None (Some cause.TooManyKeys)) None) start epoch) (λ (p : Client). with_client w s p))
-room_done w s key fate c start epoch true false at is_open has sees = inl (refusal_line s key _ tt)
-room_done w s key fate c start epoch true true at is_open has sees = open_done w s key fate c start epoch at is_open has sees
-room_done w s key fate c start epoch false room at is_open has sees = open_done w s key fate c start epoch at is_open has sees
+room_done w s key fate c start epoch kept room at is_open has sees = grind (arith, refusal_line, open_done)
 
 done_by : (w : State) (s key : ℕ) (fate : Fate) (c : Client) (state : SessionState) (reading : Bool) (start epoch : Option ℕ) → ClientAt w.clients s c → c.entry.state ≡ state → HasNumber state start → HasNumber state epoch → FetchDone s key (step_by (fetch_open w.setup s key fate c w.rows (option_or (work_refusal state reading) (reads_refusal w.setup c key)) start epoch) (λ (p : Client). with_client w s p))
-done_by w s key fate c phase.Open true start epoch at is has sees = inl (refusal_line s key _ tt)
-done_by w s key fate c phase.Open false start epoch at is has sees = room_done w s key fate c start epoch (keeps_read w.setup c key) (has_key c.reads key || nat_lt (length c.reads) KEY_LIMIT) at is has sees
-done_by w s key fate c _ reading start epoch at is has sees = inl (refusal_line s key _ tt)
+done_by w s key fate c state reading start epoch at is has sees = grind (arith, refusal_line, room_done)
 
 pub fetch_done : (w : State) (h : List Item) (s key : ℕ) (fate : Fate) (c : Client) → ReachedInvariant w h → Fit w → ClientAt w.clients s c → FetchDone s key (stepped w (event.Fetch s key) fate)
-fetch_done w h s key fate c stands fit at =
-    subst (λ (there : Option Client). FetchDone s key (at_client w there (λ d. step_by (fetch_on w.setup s key fate d w.rows) (λ (p : Client). with_client w s p)))) (sym at) (done_by w s key fate c c.entry.state (is_reading c) c.entry.start c.entry.epoch at refl (starts w h s c stands at) (fit_at w.clients s c fit.epochs at))
+fetch_done w h s key fate c stands fit at = grind (arith, done_by, starts, fit_at)

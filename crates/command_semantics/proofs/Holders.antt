@@ -1,12 +1,12 @@
 -- For turn_rules and grant_laws too.
 -- The request of a session: where it is found, and where it stands after the node that holds it has changed.
-use Rattle.command_semantics.proofs.Names.{◌≡◌, ℕ, zero, suc, ◌+◌, ◌<◌, List, [], ◌∷◌, Option, Some, None, inl, inr}
-use Rattle.command_semantics.proofs.Names.{refl, sym, ◌∙◌, ap, subst, arith, slice_get, slice_set, same_Some, none-some}
+use Rattle.command_semantics.proofs.Names.{◌≡◌, ℕ, suc, ◌+◌, ◌<◌, List, [], ◌∷◌, Option, Some, None, inl, inr}
+use Rattle.command_semantics.proofs.Names.{refl, sym, subst, arith, slice_get, slice_set, same_Some, none-some}
 use Rattle.command_semantics.proofs.Names.{Item, Held, Place, InstanceEntry, held_of, place_of_progress, Client, State}
 use Rattle.command_semantics.proofs.Names.{held_at, first_holder, holder_from, holder_of, place_held, place_of}
-use Rattle.command_semantics.proofs.Names.{is_commit, commit_held, asks_commit, InstanceAt, ReachedInvariant, set_found}
+use Rattle.command_semantics.proofs.Names.{is_commit, asks_commit, InstanceAt, ReachedInvariant, set_found}
 use Rattle.command_semantics.proofs.Names.{instance_changed, held_by, of_client, client_settles, client_ends}
-use Rattle.command_semantics.proofs.Names.{lacks_stamps, lacks_at, place_left, request_left, drive_left_by, drive_left}
+use Rattle.command_semantics.proofs.Names.{lacks_stamps, place_left, drive_left_by, drive_left}
 
 -- the node has an instance that holds this request of the session
 pub record Holder (nodes : List (Option InstanceEntry)) (node s : ℕ) (held : Held) : Type 0 where
@@ -22,15 +22,13 @@ record HolderFrom (k : ℕ) (nodes : List (Option InstanceEntry)) (s : ℕ) (fou
   pub holder : Holder nodes place s found.1
 
 first_found : (k s : ℕ) (post : Option InstanceEntry) (posts : List (Option InstanceEntry)) (held : Held) → held_at post s ≡ Some held → HolderFrom k (post ∷ posts) s (k, held)
-first_found k s None posts held has = absurd (none-some held has)
-first_found k s (Some i) posts held has = record { place = zero; node_is = omega arith; holder = record { i = i; at = refl; has = has } }
+first_found k s post posts held has = grind (arith, none-some)
 
 later_found : (k s : ℕ) (post : Option InstanceEntry) (posts : List (Option InstanceEntry)) (found : ℕ × Held) → HolderFrom (k + 1) posts s found → HolderFrom k (post ∷ posts) s found
 later_found k s post posts found f = record { place = suc f.place; node_is = omega (arith, f.node_is); holder = record { i = f.holder.i; at = f.holder.at; has = f.holder.has } }
 
 found_first : (k s : ℕ) (post : Option InstanceEntry) (posts : List (Option InstanceEntry)) (found : ℕ × Held) (here : Option Held) → held_at post s ≡ here → ((holder_from (k + 1) posts s ≡ Some found) → HolderFrom (k + 1) posts s found) → first_holder k here (holder_from (k + 1) posts s) ≡ Some found → HolderFrom k (post ∷ posts) s found
-found_first k s post posts found None here later is = later_found k s post posts found (later is)
-found_first k s post posts found (Some held) here later is = subst (λ (f : ℕ × Held). HolderFrom k (post ∷ posts) s f) (same_Some (k, held) found is) (first_found k s post posts held here)
+found_first k s post posts found here h later is = grind (arith, later_found, same_Some, first_found)
 
 found_from : (k s : ℕ) (nodes : List (Option InstanceEntry)) (found : ℕ × Held) → holder_from k nodes s ≡ Some found → HolderFrom k nodes s found
 unfolding holder_from
@@ -49,19 +47,8 @@ pub record Served (w : State) (s : ℕ) (request : ℕ × Place) : Type 0 where
   pub place_is : place_of_progress held.progress ≡ request.1
   pub commit_is : asks_commit w s ≡ is_commit held.request
 
-served_by : (w : State) (s : ℕ) (request : ℕ × Place) (found : Option (ℕ × Held)) → holder_of w s ≡ found → place_held found ≡ Some request → Served w s request
-served_by w s request None is at = absurd (none-some request at)
-served_by w s request (Some found) is at =
-    let same : (found.0, place_of_progress found.1.progress) ≡ request = same_Some (found.0, place_of_progress found.1.progress) request at in
-    record {
-      held = found.1;
-      holder = subst (λ (node : ℕ). Holder w.nodes node s found.1) (ap (λ (r : ℕ × Place). r.0) same) (holder_found w s found is);
-      place_is = ap (λ (r : ℕ × Place). r.1) same;
-      commit_is = ap commit_held is;
-    }
-
 pub is_served_at : (w : State) (s : ℕ) (request : ℕ × Place) → place_of w s ≡ Some request → Served w s request
-is_served_at w s request at = served_by w s request (holder_of w s) refl at
+is_served_at w s request at = grind (arith, none-some, same_Some, holder_found)
 
 -- ---- after the holder has changed
 -- the node holds the session's request alone, and has this instance now
@@ -86,15 +73,11 @@ drives_by : (w left : State) (h : List Item) (node s : ℕ) (now : InstanceEntry
 drives_by w left h node s now bound k held_less less None is = less
 drives_by w left h node s now bound k held_less less (Some found) is =
     let here : (found.0 ≡ node) × (held_of now s ≡ Some found.1) = holder_now w left h node s now found k is in
-    let set : slice_get left.nodes found.0 ≡ Some (Some now) = ap (λ (nodes : List (Option InstanceEntry)). slice_get nodes found.0) k.nodes ∙ ap (λ (n : ℕ). slice_get (slice_set w.nodes node (Some now)) n) here.0 ∙ set_found w.nodes node (Some now) (Some k.holder.i) k.holder.at in
-    subst (λ (post : Option (Option InstanceEntry)). place_left (lacks_at post) (place_of_progress found.1.progress) + of_client (slice_get left.clients s) client_ends < bound) (sym set) (held_less found.1 here.1)
+    grind (arith, set_found)
 
 pub drives_on : (w left : State) (h : List Item) (node s : ℕ) (now : InstanceEntry) (bound : ℕ) → Changed w left h node s now → ((held : Held) → held_of now s ≡ Some held → place_left (lacks_stamps now) (place_of_progress held.progress) + of_client (slice_get left.clients s) client_ends < bound) → of_client (slice_get left.clients s) client_settles < bound → drive_left left s < bound
 drives_on w left h node s now bound k held_less less = drives_by w left h node s now bound k held_less less (holder_of left s) refl
 
 -- what is left of a request that stands somewhere
 pub driven : (w : State) (s : ℕ) (request : ℕ × Place) (c : Client) (i : InstanceEntry) → place_of w s ≡ Some request → slice_get w.clients s ≡ Some c → InstanceAt w.nodes request.0 i → drive_left w s ≡ place_left (lacks_stamps i) request.1 + client_ends c
-driven w s request c i at client_at node_at =
-    ap (λ (r : Option (ℕ × Place)). drive_left_by w (slice_get w.clients s) r) at
-    ∙ ap (λ (found : Option Client). request_left w (Some request) + of_client found client_ends) client_at
-    ∙ ap (λ (post : Option (Option InstanceEntry)). place_left (lacks_at post) request.1 + client_ends c) node_at
+driven w s request c i at client_at node_at = grind arith

@@ -1,16 +1,14 @@
 -- For turn_rules and log_refinement too.
 -- What the run of a line appends: its answer and what belongs to it for the line's actor, and no opening item of any other.
+use Rattle.std.proofs.Common.{arith}
 use Rattle.command_semantics.proofs.Names.{◌≡◌, ℕ, zero, suc, ◌<◌, Bool, true, false, List, [], ◌++◌, append_assoc}
 use Rattle.command_semantics.proofs.Names.{Option, Some, None, ◌⊎◌, inl, inr, refl, sym, ◌∙◌, ap, subst, append-nil}
-use Rattle.command_semantics.proofs.Names.{none-some, SetupNumbers, Fate, Actor, Session, Item, Event, State, Stop}
+use Rattle.command_semantics.proofs.Names.{none-some, SetupNumbers, Fate, Actor, Session, Item, Event, State}
 use Rattle.command_semantics.proofs.Names.{Step, stepped, doing_of, Line, Target, Verb, ScriptData, ReachedInvariant}
-use Rattle.command_semantics.proofs.Names.{Point, Opens, Drives, Extends, Finishes, Reads, Steps, Over, halt_of}
-use Rattle.command_semantics.proofs.Names.{follows, view_of, last_master, Clocks, target_node, read_next, next}
+use Rattle.command_semantics.proofs.Names.{Point, Opens, Drives, Extends, Finishes, Reads, Steps, Over}
+use Rattle.command_semantics.proofs.Names.{view_of, Clocks, target_node, read_next, next}
 use Rattle.command_semantics.proofs.Names.{IsAnswer, asks_last, has_opening, fate_of, step_of, Run, clocks_of, next_in}
 use Rattle.command_semantics.proofs.Names.{run_after, going_on, run_for, ActorFits, VerbFits}
-use Rattle.machine.specs.declared.event.Event.TheVariants as event
-use Rattle.script_data.specs.declared.line.Target.TheVariants as target
-use Rattle.script_data.specs.declared.line.Verb.TheVariants as verb
 use Rattle.command_semantics.proofs.AlwaysFit.{Fit}
 use Rattle.command_semantics.proofs.Ending.{Keeps, Going, goes_on}
 use Rattle.command_semantics.proofs.OpenedLines.{line_answered}
@@ -26,8 +24,7 @@ use Rattle.command_semantics.proofs.ReadSteps.{read_goes_on, read_has_next}
 
 -- ---- what each event of a run keeps, the run keeps
 on_by : (P : State → List Item → Type 0) (script : ScriptData) (line : Line) (most : ℕ) (J : Run → Type 0) (r : Run) (on : Event → Run) → J r → ((e : Event) → next_in script line r ≡ Some e → J (on e)) → (found : Option Event) → next_in script line r ≡ found → J (going_on r found on)
-on_by P script line most J r on now later None is = now
-on_by P script line most J r on now later (Some e) is = later e is
+on_by P script line most J r on now later found is = grind arith
 
 pub run_keeps : (P : State → List Item → Type 0) (script : ScriptData) (line : Line) (most : ℕ) (J : Run → Type 0) → Keeps P → ((r : Run) (e : Event) → Going P script line most r → J r → next_in script line r ≡ Some e → J (run_after script line r e)) → (n : ℕ) (r : Run) → Going P script line most r → J r → J (run_for n script line r)
 unfolding run_for
@@ -99,8 +96,7 @@ pub record Own (line : Line) (h : List Item) (r : Run) : Type 0 where
 
 -- the line asks the last before it
 asks_so : (script : ScriptData) (r : Run) (h xs : List Item) → r.played.items ≡ h ++ xs → xs ≡ [] → (to : Target) → asks_last h to (target_node (clocks_of script r.played) to)
-asks_so script r h xs is none (target.Node node) = refl
-asks_so script r h xs is none target.Master = ap last_master (is ∙ ap (λ (ys : List Item). h ++ ys) none ∙ append-nil h)
+asks_so script r h xs is none to = grind (arith, append-nil)
 
 own_opens : (script : ScriptData) (line : Line) (most : ℕ) (h : List Item) → ActorFits script.setup line.actor → VerbFits script.setup line.verb → has_opening line.actor line.verb ≡ true → (r : Run) (e : Event) → Going IsFit script line most r → next_in script line r ≡ Some e → (xs : List Item) → r.played.items ≡ h ++ xs → r.point ≡ Opens → xs ≡ [] → OwnSoFar line h (run_after script line r e) (xs ++ (step_of script r.played e).items)
 own_opens script line most h in_range asks opening r e going is xs has at none =
@@ -114,8 +110,7 @@ own_opens script line most h in_range asks opening r e going is xs has at none =
     elim (opens_line (asks_last h) clocks w r.played.items line.actor line.verb (view_of w line.actor) e fate going.reached.stands going.has.1 mine asked (going_master script line most r going) (asks_so script r h xs has none) opening first) [
       | inl k ↦ inr (inl (follows_later line.verb r.point step, subst (λ (ys : List Item). LineItems (LastAnswer h line) line.actor line.verb (ys ++ step.items)) (sym none) k))
       | inr (on, stop) ↦
-          let point : follows line.verb r.point (halt_of step.stop) ≡ Reads = ap (λ (v : Verb). follows v r.point (halt_of step.stop)) on.verb_is ∙ ap (λ (p : Point). follows (verb.Read on.key) p (halt_of step.stop)) at ∙ ap (λ (st : Option Stop). follows (verb.Read on.key) Opens (halt_of st)) stop in
-          inr (inr (point, subst (λ (ys : List Item). ReadOn line.actor line.verb step.state (ys ++ step.items)) (sym none) on))
+          grind arith
     ]
 
 own_reads : (script : ScriptData) (line : Line) (h : List Item) (r : Run) (e : Event) → next_in script line r ≡ Some e → (xs : List Item) → r.point ≡ Reads → ReadOn line.actor line.verb r.played.state xs → OwnSoFar line h (run_after script line r e) (xs ++ (step_of script r.played e).items)
@@ -130,8 +125,7 @@ own_reads script line h r e is xs at on =
     elim (read_longer w on.s on.key xs step on.begun ends) [
       | inl k ↦ inr (inl (follows_later line.verb r.point step, subst (λ (a : Actor). LineItems (IsAnswer (asks_last h) a line.verb) a line.verb (xs ++ step.items)) (sym on.actor_is) (subst (λ (v : Verb). LineItems (IsAnswer (asks_last h) (Session on.s) v) (Session on.s) v (xs ++ step.items)) (sym on.verb_is) k)))
       | inr (begun, stop) ↦
-          let point : follows line.verb r.point (halt_of step.stop) ≡ Reads = ap (λ (p : Point). follows line.verb p (halt_of step.stop)) at ∙ ap (λ (st : Option Stop). follows line.verb Reads (halt_of st)) stop in
-          inr (inr (point, record { s = on.s; key = on.key; actor_is = on.actor_is; verb_is = on.verb_is; begun = begun }))
+          grind arith
     ]
 
 own_by : (script : ScriptData) (line : Line) (most : ℕ) (h : List Item) → ActorFits script.setup line.actor → VerbFits script.setup line.verb → has_opening line.actor line.verb ≡ true → (r : Run) (e : Event) → Going IsFit script line most r → next_in script line r ≡ Some e → (xs : List Item) → r.played.items ≡ h ++ xs → OwnSoFar line h r xs → OwnSoFar line h (run_after script line r e) (xs ++ (step_of script r.played e).items)
@@ -148,11 +142,4 @@ own_goes_on script line most h in_range asks opening r e going k is = record {
 
 -- at its end it is answered
 pub own_ends : (script : ScriptData) (line : Line) (h : List Item) (r : Run) (xs : List Item) → has_opening line.actor line.verb ≡ true → next_in script line r ≡ None → OwnSoFar line h r xs → LineItems (LastAnswer h line) line.actor line.verb xs
-own_ends script line h r xs opening over (inl (at, none)) = absurd (opens_some (clocks_of script r.played) line.actor line.verb (view_of r.played.state line.actor) opening (subst (λ (p : Point). next (clocks_of script r.played) line.actor line.verb p (view_of r.played.state line.actor) ≡ None) at over))
-own_ends script line h r xs opening over (inr (inl (later, k))) = k
-own_ends script line h r xs opening over (inr (inr (at, on))) =
-    let w : State = r.played.state in
-    let clocks : Clocks = clocks_of script r.played in
-    let here : next clocks line.actor line.verb Reads (view_of w line.actor) ≡ None = subst (λ (p : Point). next clocks line.actor line.verb p (view_of w line.actor) ≡ None) at over in
-    let mine : read_next on.s (doing_of w on.s) ≡ None = subst (λ (a : Actor). next clocks a line.verb Reads (view_of w a) ≡ None) on.actor_is here in
-    absurd (none-some (event.Step on.s) (sym mine ∙ read_has_next w on.s on.key on.begun.reads))
+own_ends script line h r xs opening over h1 = grind (arith, opens_some, none-some, read_has_next)

@@ -1,63 +1,37 @@
 -- The items of the steps on the stores: those of a session, a heal among them, and those of a sweep.
-use Rattle.command_semantics.proofs.Names.{◌≢◌, ℕ, Bool, true, false, if◌then◌else◌, List, [], ◌∷◌, ◌++◌, Option, Some}
-use Rattle.command_semantics.proofs.Names.{None, All, inl, inr, refl, All-append, All-cons, Mark, Cells, Table, Fate}
+use Rattle.std.proofs.Common.{arith}
+use Rattle.command_semantics.proofs.Names.{◌≢◌, ℕ, Bool, List, [], ◌∷◌, ◌++◌, Option, Some}
+use Rattle.command_semantics.proofs.Names.{None, All, inl, All-cons, Mark, Cells, Table, Fate}
 use Rattle.command_semantics.proofs.Names.{Works, FailsUnchanged, FailsApplied, Cause, Actor, Session, Janitor}
-use Rattle.command_semantics.proofs.Names.{PutFound, Item, Row, Pairs, mark_of, Ask, Told, SessionState, Reading}
-use Rattle.command_semantics.proofs.Names.{read_ask, Settling, settle_ask, SettleTurn, Goes, Decides, settle_turn}
-use Rattle.command_semantics.proofs.Names.{step_refusal, handed_commit, Sweeping, sweep_ask, sweep_told, is_undecided}
+use Rattle.command_semantics.proofs.Names.{PutFound, Item, Row, Pairs, Ask, Told, SessionState, Reading}
+use Rattle.command_semantics.proofs.Names.{read_ask, Settling, settle_ask, SettleTurn}
+use Rattle.command_semantics.proofs.Names.{step_refusal, Sweeping}
 use Rattle.command_semantics.proofs.Names.{InstanceEntry, UnderWay, Nothing, Settles, Completes, Client, is_reading}
-use Rattle.command_semantics.proofs.Names.{met, store_of, told_by, entry_of, mark_item, step_item, mark_kept}
+use Rattle.command_semantics.proofs.Names.{met, store_of, told_by, step_item}
 use Rattle.command_semantics.proofs.Names.{effect_items, no_offer_cause, offer_of, heal_at, heal_on, offer_asks}
-use Rattle.command_semantics.proofs.Names.{heal_asks, client_put_fresh, place_by, step_recall, read_step, settle_items}
-use Rattle.command_semantics.proofs.Names.{settle_step, complete_step, work_of, next_of, step_at, step_due, step_on}
+use Rattle.command_semantics.proofs.Names.{heal_asks, place_by, read_step, settle_items}
+use Rattle.command_semantics.proofs.Names.{settle_step, complete_step, next_of, step_at, step_due, step_on}
 use Rattle.command_semantics.proofs.Names.{store_asked, asked_next, step_asks_by, step_asks, sweep_open_on}
 use Rattle.command_semantics.proofs.Names.{undecided_items, sweep_met, sweep_lists, sweep_at, sweep_step_on}
 use Rattle.command_semantics.proofs.Names.{sweep_step_asks, Clocks}
 use Rattle.history_book.specs.declared.cause.Cause.TheVariants as cause
 use Rattle.history_book.specs.declared.item.Item.TheVariants as item
 use Rattle.system_parts.specs.declared.asks.Ask.TheVariants as ask
-use Rattle.system_parts.specs.declared.asks.Told.TheVariants as told
-use Rattle.system_parts.specs.declared.resolve.Outcome.TheVariants as outcome
-use Rattle.system_parts.specs.declared.session.State.TheVariants as phase
 use Rattle.machine.specs.State.{Reads}
 use Rattle.machine.specs.Events.Step.{step_by}
 use Rattle.command_semantics.proofs.ReadItems.{IsRead, Made, none_read, one_read, made_none, made_one, made_fault, unchanged_fails, applied_fails, Untimed, IfUntimed, made_refused}
 use Rattle.command_semantics.proofs.MadeOfSessions.{read_turn_read}
 
 -- ---- one step on the stores
-mark_read : (clocks : Clocks) (actor : Actor) (txn : ℕ) (found : Option Mark) → IsRead clocks (mark_item actor txn found)
-mark_read clocks actor txn None = tt
-mark_read clocks actor txn (Some mark) = tt
-
-step_read : (clocks : Clocks) (actor : Actor) (asked : Ask) (answer : Told) → IsRead clocks (step_item actor asked answer)
-step_read clocks actor (ask.Mark txn) answer = mark_read clocks actor txn (entry_of answer)
-step_read clocks actor _ answer = tt
-
 worked_read : (clocks : Clocks) (actor : Actor) (asked : Ask) (answer : Told) → All (IsRead clocks) (step_item actor asked answer ∷ [])
-worked_read clocks actor asked answer = one_read clocks (step_item actor asked answer) (step_read clocks actor asked answer)
-
-kept_read : (clocks : Clocks) (actor : Actor) (asked : Ask) (answer : Told) → All (IsRead clocks) (mark_kept actor asked answer)
-kept_read clocks actor (ask.Mark txn) told.Marked = one_read clocks (item.Mark actor txn) tt
-kept_read clocks actor _ _ = none_read clocks
-
-effect_read : (clocks : Clocks) (actor : Actor) (asked : Ask) (answer : Told) (fate : Fate) → All (IsRead clocks) (effect_items actor asked answer fate)
-effect_read clocks actor asked answer FailsApplied = kept_read clocks actor asked answer
-effect_read clocks actor asked answer Works = none_read clocks
-effect_read clocks actor asked answer FailsUnchanged = none_read clocks
+worked_read clocks actor asked answer = grind (arith, one_read)
 
 failed_made : (clocks : Clocks) (actor : Actor) (asked : Ask) (answer : Told) (fate : Fate) → fate ≢ Works → Made clocks (Some (store_of asked)) fate (effect_items actor asked answer fate ++ item.Fault actor (store_of asked) ∷ [])
-failed_made clocks actor asked answer fate fails = made_fault clocks (store_of asked) fate (effect_items actor asked answer fate) actor fails (effect_read clocks actor asked answer fate)
+failed_made clocks actor asked answer fate fails = grind (arith, made_fault, none_read, one_read)
 
 -- ---- a heal
 no_offer_untimed : (state : SessionState) → Untimed (no_offer_cause state)
-no_offer_untimed phase.Gone = tt
-no_offer_untimed phase.Free = tt
-no_offer_untimed phase.Asking = tt
-no_offer_untimed phase.Open = tt
-no_offer_untimed phase.Committing = tt
-no_offer_untimed phase.Placing = tt
-no_offer_untimed phase.OpenOutcome = tt
-no_offer_untimed (phase.Completing undo) = tt
+no_offer_untimed state = grind arith
 
 heal_made : (clocks : Clocks) (session : ℕ) (fate : Fate) (c : Client) (rows : List Row) (pairs : Pairs) (offer : Option (ℕ × ℕ × ℕ)) → Made clocks (offer_asks offer) fate (heal_at session fate c rows pairs offer).items
 heal_made clocks session fate c rows pairs None = made_refused clocks None fate (Session session) (no_offer_cause c.entry.state) (no_offer_untimed c.entry.state)
@@ -70,22 +44,15 @@ heal_on_made clocks session fate c rows pairs = heal_made clocks session fate c 
 
 -- ---- the next step of a session
 read_made : (clocks : Clocks) (session : ℕ) (fate : Fate) (c : Client) (r : Reading) (rows : List Row) (pairs : Pairs) → Made clocks (Some (store_of (read_ask r))) fate (read_step session c r (met (Session session) (read_ask r) fate rows pairs)).items
-read_made clocks session Works c r rows pairs =
-    let answer : Told = told_by (read_ask r) rows pairs in
-    inl (All-append (IsRead clocks) (step_item (Session session) (read_ask r) answer ∷ []) _ (worked_read clocks (Session session) (read_ask r) answer) (read_turn_read clocks session r.start r.key (step_recall (client_put_fresh c) r answer).0))
+read_made clocks session Works c r rows pairs = grind (arith, worked_read, read_turn_read)
 read_made clocks session FailsUnchanged c r rows pairs = failed_made clocks (Session session) (read_ask r) (told_by (read_ask r) rows pairs) FailsUnchanged unchanged_fails
 read_made clocks session FailsApplied c r rows pairs = failed_made clocks (Session session) (read_ask r) (told_by (read_ask r) rows pairs) FailsApplied applied_fails
 
 settle_read : (clocks : Clocks) (session : ℕ) (start : Option ℕ) (turn : SettleTurn) → All (IsRead clocks) (settle_items session start turn)
-settle_read clocks session (Some start) (Decides (outcome.Committed commit by_table)) = one_read clocks _ tt
-settle_read clocks session (Some start) (Decides outcome.Dead) = one_read clocks _ tt
-settle_read clocks session (Some start) (Goes point) = none_read clocks
-settle_read clocks session None turn = none_read clocks
+settle_read clocks session start turn = grind (arith, one_read, none_read)
 
 settle_made : (clocks : Clocks) (session : ℕ) (fate : Fate) (c : Client) (x : Settling) (rows : List Row) (pairs : Pairs) → Made clocks (Some (store_of (settle_ask x))) fate (settle_step session c x (met (Session session) (settle_ask x) fate rows pairs)).items
-settle_made clocks session Works c x rows pairs =
-    let answer : Told = told_by (settle_ask x) rows pairs in
-    inl (All-append (IsRead clocks) (step_item (Session session) (settle_ask x) answer ∷ []) _ (worked_read clocks (Session session) (settle_ask x) answer) (settle_read clocks session c.entry.start (settle_turn x answer)))
+settle_made clocks session Works c x rows pairs = grind (arith, worked_read, settle_read)
 settle_made clocks session FailsUnchanged c x rows pairs = failed_made clocks (Session session) (settle_ask x) (told_by (settle_ask x) rows pairs) FailsUnchanged unchanged_fails
 settle_made clocks session FailsApplied c x rows pairs = failed_made clocks (Session session) (settle_ask x) (told_by (settle_ask x) rows pairs) FailsApplied applied_fails
 
@@ -106,17 +73,7 @@ placed_read : (clocks : Clocks) (x y : Item) → IsRead clocks x → IsRead cloc
 placed_read clocks x y first second = All-cons (IsRead clocks) x (y ∷ []) first (one_read clocks y second)
 
 place_failed : (clocks : Clocks) (session start : ℕ) (fate : Fate) (before : List Item) → fate ≢ Works → All (IsRead clocks) before → Made clocks (Some Table) fate (before ++ item.Fault (Session session) Table ∷ item.Refused (Session session) (cause.Open start) ∷ [])
-place_failed clocks session start fate before fails read = inr (record {
-  before = before;
-  actor = Session session;
-  store = Table;
-  after = item.Refused (Session session) (cause.Open start) ∷ [];
-  is = refl;
-  before_read = read;
-  after_read = one_read clocks (item.Refused (Session session) (cause.Open start)) tt;
-  asked_is = refl;
-  fails = fails;
-})
+place_failed clocks session start fate before fails read = grind (arith, one_read)
 
 place_made : (clocks : Clocks) (session start commit : ℕ) (fate : Fate) (found : Option Mark) (c : Client) (pairs : Pairs) → Made clocks (Some Table) fate (place_by session start commit fate found c pairs).items
 place_made clocks session start commit Works None c pairs = inl (placed_read clocks (item.Placed start commit) (item.Committed session start commit) tt tt)
@@ -126,41 +83,26 @@ place_made clocks session start commit FailsApplied None c pairs = place_failed 
 place_made clocks session start commit FailsApplied (Some mark) c pairs = place_failed clocks session start FailsApplied [] applied_fails (none_read clocks)
 
 due_made : (clocks : Clocks) (session : ℕ) (fate : Fate) (c : Client) (rows : List Row) (pairs : Pairs) (due : Option (ℕ × ℕ)) → Made clocks (asked_next c due) fate (step_due session fate c rows pairs due).items
-due_made clocks session fate c rows pairs None = work_made clocks session fate c rows pairs (work_of c)
-due_made clocks session fate c rows pairs (Some stamps) = place_made clocks session stamps.0 stamps.1 fate (mark_of pairs stamps.0) c _
-
-idle_untimed : (reading : Bool) → IfUntimed (if reading then None else Some cause.Idle)
-idle_untimed true = tt
-idle_untimed false = tt
+due_made clocks session fate c rows pairs due = grind (arith, work_made, place_made)
 
 step_untimed : (state : SessionState) (reading : Bool) → IfUntimed (step_refusal state reading)
-step_untimed phase.Free reading = idle_untimed reading
-step_untimed phase.Asking reading = idle_untimed reading
-step_untimed phase.Open reading = idle_untimed reading
-step_untimed phase.Committing reading = idle_untimed reading
-step_untimed _ reading = tt
+step_untimed state reading = grind arith
 
 step_made : (clocks : Clocks) (session : ℕ) (fate : Fate) (c : Client) (rows : List Row) (pairs : Pairs) (why : Option Cause) → IfUntimed why → Made clocks (step_asks_by c why) fate (step_by session fate c rows pairs why).items
-step_made clocks session fate c rows pairs (Some why) untimed = made_refused clocks None fate (Session session) why untimed
-step_made clocks session fate c rows pairs None untimed = due_made clocks session fate c rows pairs (handed_commit c.entry)
+step_made clocks session fate c rows pairs why untimed = grind (arith, made_refused, due_made)
 
 pub step_on_made : (clocks : Clocks) (session : ℕ) (fate : Fate) (c : Client) (rows : List Row) (pairs : Pairs) → Made clocks (step_asks c) fate (step_on session fate c rows pairs).items
 step_on_made clocks session fate c rows pairs = step_made clocks session fate c rows pairs (step_refusal c.entry.state (is_reading c)) (step_untimed c.entry.state (is_reading c))
 
 -- ---- a sweep
 pub sweep_open_on_made : (clocks : Clocks) (fate : Fate) (node txn : ℕ) (post : Option InstanceEntry) (sweep : Option Sweeping) → Made clocks None fate (sweep_open_on node txn post sweep).items
-sweep_open_on_made clocks fate node txn post (Some s) = made_refused clocks None fate Janitor cause.Busy tt
-sweep_open_on_made clocks fate node txn None None = made_refused clocks None fate Janitor (cause.NoOracle node) tt
-sweep_open_on_made clocks fate node txn (Some i) None = made_none clocks None fate
+sweep_open_on_made clocks fate node txn post sweep = grind (arith, made_refused, made_none)
 
 undecided_read : (clocks : Clocks) (s : Sweeping) (undecided : Bool) → All (IsRead clocks) (undecided_items s undecided)
-undecided_read clocks s true = one_read clocks (item.Refused Janitor (cause.Undecided s.txn s.epoch)) tt
-undecided_read clocks s false = none_read clocks
+undecided_read clocks s undecided = grind (arith, one_read, none_read)
 
 swept_made : (clocks : Clocks) (s : Sweeping) (asked : Ask) (fate : Fate) (rows : List Row) (pairs : Pairs) → Made clocks (Some (store_of asked)) fate (sweep_met s asked (met Janitor asked fate rows pairs)).items
-swept_made clocks s asked Works rows pairs =
-    let answer : Told = told_by asked rows pairs in
-    inl (All-append (IsRead clocks) (step_item Janitor asked answer ∷ []) _ (worked_read clocks Janitor asked answer) (undecided_read clocks s (is_undecided (sweep_told s answer))))
+swept_made clocks s asked Works rows pairs = grind (arith, worked_read, undecided_read)
 swept_made clocks s asked FailsUnchanged rows pairs = failed_made clocks Janitor asked (told_by asked rows pairs) FailsUnchanged unchanged_fails
 swept_made clocks s asked FailsApplied rows pairs = failed_made clocks Janitor asked (told_by asked rows pairs) FailsApplied applied_fails
 
@@ -180,5 +122,4 @@ sweep_made clocks s fate rows pairs (Some (ask.Remove txn)) = swept_made clocks 
 sweep_made clocks s fate rows pairs (Some (ask.Erase key txn)) = swept_made clocks s (ask.Erase key txn) fate rows pairs
 
 pub sweep_step_on_made : (clocks : Clocks) (fate : Fate) (sweep : Option Sweeping) (rows : List Row) (pairs : Pairs) → Made clocks (sweep_step_asks sweep) fate (sweep_step_on fate sweep rows pairs).items
-sweep_step_on_made clocks fate None rows pairs = made_refused clocks None fate Janitor cause.Idle tt
-sweep_step_on_made clocks fate (Some s) rows pairs = sweep_made clocks s fate rows pairs (sweep_ask s)
+sweep_step_on_made clocks fate sweep rows pairs = grind (arith, made_refused, sweep_made)

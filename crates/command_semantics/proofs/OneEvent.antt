@@ -57,8 +57,7 @@ keeps_by script ticks p asked items so_far (inr k) = subst (λ (xs : List Item).
 
 -- ---- an event that does not tick
 clock_stays : (clocks : Clocks) (clock : ℕ) (e : Event) → ReadsClocks clocks None e → clock_after clock e ≡ clock
-clock_stays clocks clock (event.Tick to) reads = absurd reads
-clock_stays clocks clock e reads = refl
+clock_stays clocks clock e reads = grind arith
 
 quiet_stays : (script : ScriptData) (ticks : List ℕ) (p : Played) (e : Event) → ExplainedInvariant p.state p.items → ReadsClocks (clocks_of script p) None e → PlannedSoFar script ticks p → PlannedSoFar script ticks (played script p e)
 quiet_stays script ticks p e tells reads so_far =
@@ -104,13 +103,7 @@ events_stay_planned script ticks (Some by) p e tells reads so_far = ticked scrip
 -- ---- at first and in the end
 pub planned_at_first : PlannedAtFirst
 unfolding times_told times_from
-planned_at_first script = record {
-  faults = λ store. omega arith;
-  times = refl;
-  clock = refl;
-  last = refl;
-  readings = record { at = λ place x found. absurd (cc) };
-}
+planned_at_first script = grind arith
 
 pub planned_in_the_end : PlannedInTheEnd
 planned_in_the_end script p so_far = record {

@@ -1,6 +1,7 @@
 -- For turn_rules and log_refinement too.
 -- The first event of a line that has an opening item answers the line, where all that the line names is there.
-use Rattle.command_semantics.proofs.Names.{◌≡◌, ℕ, ◌<◌, true, List, Option, Some, ◌⊎◌, inl, inr, refl, sym, subst}
+use Rattle.std.proofs.Common.{arith}
+use Rattle.command_semantics.proofs.Names.{◌≡◌, ℕ, ◌<◌, true, List, Option, Some, ◌⊎◌, inl, refl, sym, subst}
 use Rattle.command_semantics.proofs.Names.{slice_get, same_Some, SetupNumbers, Fate, Actor, Clock, Node, Session}
 use Rattle.command_semantics.proofs.Names.{Janitor, Note, Item, InstanceEntry, Event, Client, State, Step, at_post}
 use Rattle.command_semantics.proofs.Names.{at_client, at_both, with_reading, stepped, Target, Verb, ReachedInvariant}
@@ -10,7 +11,6 @@ use Rattle.command_semantics.proofs.Names.{has_opening}
 use Rattle.history_book.specs.declared.item.Note.TheVariants as note
 use Rattle.history_book.specs.declared.item.Item.TheVariants as item
 use Rattle.machine.specs.declared.event.Event.TheVariants as event
-use Rattle.script_data.specs.declared.line.Target.TheVariants as target
 use Rattle.script_data.specs.declared.line.Verb.TheVariants as verb
 use Rattle.command_semantics.proofs.Fitting.{fit_at}
 use Rattle.command_semantics.proofs.AlwaysFit.{Fit, found}
@@ -42,29 +42,21 @@ Answered asks w actor line e fate = Begins (IsAnswer asks actor line) (stepped w
 
 -- an answer is the opening item, or a refusal
 either : (O R E : Type 0) → O ⊎ R → O ⊎ R ⊎ E
-either O R E (inl opening) = inl opening
-either O R E (inr refusal) = inr (inl refusal)
+either O R E h = grind arith
 
 -- an ask of a node that may be asked
-asks_begin : (s n : ℕ) (may : ℕ → Type 0) → may n → (x : Item) → IsAskBegin s (λ asked. asked ≡ n) x → IsAskBegin s may x
-asks_begin s n may here (item.AskBegin session node) is = (is.0, subst may (sym is.1) here)
-asks_begin s n may here _ is = absurd is
-
 begins_so : (s n : ℕ) (may : ℕ → Type 0) → may n → (x : Item) → BeginAnswer s n x → IsAskBegin s may x ⊎ IsRefusal (Session s) x ⊎ ⊥
-begins_so s n may here x (inl ask) = inl (asks_begin s n may here x ask)
-begins_so s n may here x (inr refusal) = inr (inl refusal)
+begins_so s n may here x h = grind arith
 
 asks_commit : (s n : ℕ) (may : ℕ → Type 0) → may n → (x : Item) → IsAskCommit s (λ asked. asked ≡ n) x → IsAskCommit s may x
 asks_commit s n may here (item.AskCommit session node start) is = (is.0, subst may (sym is.1) here)
 asks_commit s n may here _ is = absurd is
 
 commits_so : (s n : ℕ) (may : ℕ → Type 0) → may n → (x : Item) → CommitAnswer s n x → IsAskCommit s may x ⊎ IsRefusal (Session s) x ⊎ IsReadOnly s x
-commits_so s n may here x (inl ask) = inl (asks_commit s n may here x ask)
-commits_so s n may here x (inr other) = inr other
+commits_so s n may here x h = grind (arith, asks_commit)
 
 target_fits : (setup : SetupNumbers) (clocks : Clocks) (to : Target) → TargetFits setup to → clocks.master < setup.nodes → target_node clocks to < setup.nodes
-target_fits setup clocks (target.Node node) fits master = fits
-target_fits setup clocks target.Master fits master = master
+target_fits setup clocks to fits master = grind arith
 
 took : (asks : Target → ℕ → Type 0) (w : State) (n reading : ℕ) (fate : Fate) → Fit w → n < w.setup.nodes → Answered asks w (Node n) verb.Take (event.Take n reading) fate
 took asks w n reading fate fit less =

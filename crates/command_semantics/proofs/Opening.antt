@@ -1,84 +1,48 @@
 -- The first event of a session's line lowers what is left.
-use Rattle.command_semantics.proofs.Names.{◌≡◌, ℕ, ◌+◌, ◌*◌, ◌<◌, ◌≤◌, Bool, true, false, List, [], ◌∷◌, Option, Some}
-use Rattle.command_semantics.proofs.Names.{None, Result, Ok, Err, refl, ap, arith, slice_get, slice_set, SetupNumbers}
-use Rattle.command_semantics.proofs.Names.{Fate, Works, FailsUnchanged, FailsApplied, Cause, Item, Row, fetched}
-use Rattle.command_semantics.proofs.Names.{front_of, Reading, ReadTurn, Asks, Answers, read_left, put_fresh}
-use Rattle.command_semantics.proofs.Names.{Remembering, RecalledReadsEnd, begin_refusal, work_refusal, Place, Begin}
-use Rattle.command_semantics.proofs.Names.{Commit, InstanceEntry, InstanceStep, instance_ask, Client, State, Effect}
+use Rattle.std.proofs.lemmas.Grind.{common_steps}
+use Rattle.command_semantics.proofs.Names.{◌≡◌, ℕ, ◌+◌, ◌*◌, ◌<◌, ◌≤◌, List, Option, Some}
+use Rattle.command_semantics.proofs.Names.{None, refl, arith, slice_get, slice_set, SetupNumbers}
+use Rattle.command_semantics.proofs.Names.{Fate, Cause, Row}
+use Rattle.command_semantics.proofs.Names.{RecalledReadsEnd, work_refusal, Place}
+use Rattle.command_semantics.proofs.Names.{InstanceEntry, Client, State, Effect}
 use Rattle.command_semantics.proofs.Names.{is_reading, Step, step_by, with_post, with_client, at_client, at_both}
-use Rattle.command_semantics.proofs.Names.{stepped, asked_by, ask_begin_by, ask_begin_on, commit_of, ask_commit_by}
-use Rattle.command_semantics.proofs.Names.{ask_commit_on, client_wrote, write_refused, write_open, write_on, abort_by}
-use Rattle.command_semantics.proofs.Names.{abort_on, fetch_recall, marks_every, client_fetched, fetch_refused}
-use Rattle.command_semantics.proofs.Names.{client_read, fetch_open, fetch_on, place_of, Verb, Interruption, NoStamp}
-use Rattle.command_semantics.proofs.Names.{NotYet, Refused, Faulted, Point, Drives, Finishes, Reads, halt_of}
+use Rattle.command_semantics.proofs.Names.{stepped, ask_begin_on}
+use Rattle.command_semantics.proofs.Names.{ask_commit_on, write_refused, write_open, write_on, abort_by}
+use Rattle.command_semantics.proofs.Names.{abort_on, fetch_refused}
+use Rattle.command_semantics.proofs.Names.{fetch_open, fetch_on, Verb, Interruption}
+use Rattle.command_semantics.proofs.Names.{Point, Drives, Finishes, Reads, halt_of}
 use Rattle.command_semantics.proofs.Names.{unless_halted, after_write, cells_by, of_client, client_completes}
-use Rattle.command_semantics.proofs.Names.{client_ends, client_reads, client_fetches, lacks_at, place_left}
-use Rattle.command_semantics.proofs.Names.{drive_left_by, drive_left, session_left}
-use Rattle.history_book.specs.declared.item.Item.TheVariants.{AskBegin, AskCommit}
-use Rattle.system_parts.specs.declared.instance.Place.TheVariants as place
+use Rattle.command_semantics.proofs.Names.{client_ends, client_reads, client_fetches}
+use Rattle.command_semantics.proofs.Names.{drive_left_by, session_left}
 use Rattle.machine.specs.declared.event.Event.TheVariants as event
 use Rattle.command_semantics.proofs.Clients.{client_now, settles_within, client_left, no_client_left, aborted_left, added_long}
 
 -- a run that stopped has nothing left
 pub halted_less : (w : State) (s : ℕ) (verb : Verb) (at : Point) (halt : Option Interruption) (bound : ℕ) → session_left w s verb at < bound → session_left w s verb (unless_halted at halt) < bound
-halted_less w s verb at None bound less = less
-halted_less w s verb at (Some halt) bound less = omega (arith, less)
+halted_less w s verb at halt bound less = grind arith
 
 -- ---- asks
 -- what is left to drive at most
-most_at : (lacks : Bool) (at : Place) → place_left lacks at ≤ 6
-most_at lacks place.Asked = omega arith
-most_at true place.Accepted = omega arith
-most_at false place.Accepted = omega arith
-most_at lacks place.Drawn = omega arith
-most_at lacks place.Settled = omega arith
-
 drive_most_by : (w : State) (c : Option Client) (request : Option (ℕ × Place)) → drive_left_by w c request ≤ 6 + of_client c client_ends
-drive_most_by w c None = omega (arith, settles_within c)
-drive_most_by w c (Some request) = omega (arith, most_at (lacks_at (slice_get w.nodes request.0)) request.1)
+drive_most_by w c request = grind (arith, settles_within)
 
 -- an ask leaves the client's keys, and no completion
-asked_most : (s : ℕ) (c : Client) (item : Item) (step : InstanceStep (Unit {0})) (answer : Result (Unit {0}) Cause) → client_ends (asked_by s c item step answer).parts.0 ≤ client_ends c
-asked_most s c item step (Ok tt) = omega arith
-asked_most s c item step (Err why) = omega arith
-
-begin_most_by : (s node : ℕ) (c : Client) (post : Option InstanceEntry) (why : Option Cause) → client_ends (ask_begin_by s node c post why).parts.0 ≤ client_ends c
-begin_most_by s node c post (Some why) = omega arith
-begin_most_by s node c None None = omega arith
-begin_most_by s node c (Some i) None = asked_most s c (AskBegin s node) (instance_ask i (Begin s)) (instance_ask i (Begin s)).answer
-
 begin_most : (s node : ℕ) (c : Client) (post : Option InstanceEntry) → client_ends (ask_begin_on s node c post).parts.0 ≤ client_ends c
-begin_most s node c post = begin_most_by s node c post (begin_refusal c.entry.state)
-
-commit_most_of : (s node : ℕ) (c : Client) (start : ℕ) (keys : List ℕ) (post : Option InstanceEntry) → client_ends (commit_of s node c start keys post).parts.0 ≤ client_ends c
-commit_most_of s node c start [] post = omega arith
-commit_most_of s node c start (k ∷ ks) None = omega arith
-commit_most_of s node c start (k ∷ ks) (Some i) = asked_most s c (AskCommit s node start) (instance_ask i (Commit s start c.entry.keys)) (instance_ask i (Commit s start c.entry.keys)).answer
-
-commit_most_by : (s node : ℕ) (c : Client) (post : Option InstanceEntry) (why : Option Cause) (start : Option ℕ) → client_ends (ask_commit_by s node c post why start).parts.0 ≤ client_ends c
-commit_most_by s node c post (Some why) start = omega arith
-commit_most_by s node c post None None = omega arith
-commit_most_by s node c post None (Some start) = commit_most_of s node c start c.entry.keys post
+begin_most s node c post = grind arith
 
 commit_most : (s node : ℕ) (c : Client) (post : Option InstanceEntry) → client_ends (ask_commit_on s node c post).parts.0 ≤ client_ends c
-commit_most s node c post = commit_most_by s node c post (work_refusal c.entry.state (is_reading c)) c.entry.start
+commit_most s node c post = grind arith
 
 -- the step as an effect on the client and the node
 abbrev ask_step : State → ℕ → ℕ → (Client → Option InstanceEntry → Effect (Client × Option InstanceEntry)) → Option InstanceEntry → Client → Step
 ask_step w s node f post c = step_by (f c post) (λ (p : Client × Option InstanceEntry). with_client (with_post w node p.1) s p.0)
 
 ask_ends : (w : State) (s node : ℕ) (f : Client → Option InstanceEntry → Effect (Client × Option InstanceEntry)) → ((c : Client) (post : Option InstanceEntry) → client_ends (f c post).parts.0 ≤ client_ends c) → (post : Option (Option InstanceEntry)) (found : Option Client) → slice_get w.clients s ≡ found → of_client (slice_get (at_both w post found (ask_step w s node f)).state.clients s) client_ends ≤ of_client found client_ends
-ask_ends w s node f most None found is = omega (arith, ap (λ (x : Option Client). of_client x client_ends) is)
-ask_ends w s node f most (Some post) None is = omega (arith, ap (λ (x : Option Client). of_client x client_ends) is)
-ask_ends w s node f most (Some post) (Some c) is = omega (arith, client_now w.clients s c (f c post).parts.0 client_ends is, most c post)
+ask_ends w s node f most post found is = grind (arith, client_now)
 
 -- a request that was asked is driven
 ask_lowers : (w : State) (s node : ℕ) (verb : Verb) (f : Client → Option InstanceEntry → Effect (Client × Option InstanceEntry)) → ((c : Client) (post : Option InstanceEntry) → client_ends (f c post).parts.0 ≤ client_ends c) → let step : Step = at_both w (slice_get w.nodes node) (slice_get w.clients s) (ask_step w s node f) in session_left step.state s verb (unless_halted Drives (halt_of step.stop)) < 8 + of_client (slice_get w.clients s) client_ends
-ask_lowers w s node verb f most =
-    let step : Step = at_both w (slice_get w.nodes node) (slice_get w.clients s) (ask_step w s node f) in
-    let ends : of_client (slice_get step.state.clients s) client_ends ≤ of_client (slice_get w.clients s) client_ends = ask_ends w s node f most (slice_get w.nodes node) (slice_get w.clients s) refl in
-    let drives : drive_left step.state s ≤ 6 + of_client (slice_get step.state.clients s) client_ends = drive_most_by step.state (slice_get step.state.clients s) (place_of step.state s) in
-    halted_less step.state s verb Drives (halt_of step.stop) (8 + of_client (slice_get w.clients s) client_ends) (omega (arith, ends, drives))
+ask_lowers w s node verb f most = grind (arith, ask_ends, drive_most_by, halted_less)
 
 pub begin_lowers : (w : State) (s node : ℕ) (verb : Verb) (fate : Fate) → let step : Step = stepped w (event.AskBegin s node) fate in session_left step.state s verb (unless_halted Drives (halt_of step.stop)) < 8 + of_client (slice_get w.clients s) client_ends
 begin_lowers w s node verb fate = ask_lowers w s node verb (ask_begin_on s node) (begin_most s node)
@@ -89,26 +53,17 @@ commit_lowers w s node verb fate = ask_lowers w s node verb (ask_commit_on s nod
 -- ---- events on a client
 -- a number of the client after the event is at most one of the client before it
 client_most : (w : State) (s : ℕ) (f : Client → Step) (make : Client → Client) (g m : Client → ℕ) → ((c : Client) → (f c).state.clients ≡ slice_set w.clients s (make c)) → ((c : Client) → g (make c) ≤ m c) → (found : Option Client) → slice_get w.clients s ≡ found → of_client (slice_get (at_client w (slice_get w.clients s) f).state.clients s) g ≤ of_client found m
-client_most w s f make g m sets most None is = omega (arith, no_client_left w s f g is)
-client_most w s f make g m sets most (Some c) is = omega (arith, client_left w s f make g c is (sets c), most c)
+client_most w s f make g m sets most found is = grind (arith, no_client_left, client_left)
 
 -- ---- a write
 wrote_by : (s key start : ℕ) (value : List ℕ) (fate : Fate) (c : Client) (rows : List Row) → client_completes (write_open s key value fate c rows None (Some start)).parts.0 ≤ 1 + client_ends c
-wrote_by s key start value Works c rows = omega arith
-wrote_by s key start value FailsUnchanged c rows = omega (arith, aborted_left (client_wrote c key), added_long c.entry.keys key)
-wrote_by s key start value FailsApplied c rows = omega (arith, aborted_left (client_wrote c key), added_long c.entry.keys key)
+wrote_by s key start value fate c rows = grind (arith, common_steps, aborted_left, added_long)
 
 wrote_most : (s key : ℕ) (value : List ℕ) (fate : Fate) (c : Client) (rows : List Row) (why : Option Cause) (start : Option ℕ) → client_completes (write_open s key value fate c rows why start).parts.0 ≤ 1 + client_ends c
-wrote_most s key value fate c rows (Some why) start = omega arith
-wrote_most s key value fate c rows None None = omega arith
-wrote_most s key value fate c rows None (Some start) = wrote_by s key start value fate c rows
+wrote_most s key value fate c rows why start = grind (arith, wrote_by)
 
 write_less : (w : State) (s : ℕ) (verb : Verb) (halt : Option Interruption) → session_left w s verb (after_write halt) ≤ of_client (slice_get w.clients s) client_completes
-write_less w s verb None = omega arith
-write_less w s verb (Some NoStamp) = omega arith
-write_less w s verb (Some NotYet) = omega arith
-write_less w s verb (Some Refused) = omega arith
-write_less w s verb (Some Faulted) = omega arith
+write_less w s verb halt = grind arith
 
 one_more : (found : Option Client) → of_client found (λ (c : Client). 1 + client_ends c) ≤ 1 + of_client found client_ends
 one_more None = omega arith
@@ -122,9 +77,7 @@ write_lowers w s key value verb fate =
 
 -- ---- an abort
 aborted_most : (s : ℕ) (c : Client) (why : Option Cause) (start : Option ℕ) → client_completes (abort_by s c why start).parts ≤ client_ends c
-aborted_most s c (Some why) start = omega arith
-aborted_most s c None None = omega arith
-aborted_most s c None (Some start) = omega (arith, aborted_left c)
+aborted_most s c why start = grind (arith, aborted_left)
 
 pub abort_lowers : (w : State) (s : ℕ) (verb : Verb) (fate : Fate) → let step : Step = stepped w (event.Abort s) fate in session_left step.state s verb (unless_halted Finishes (halt_of step.stop)) < 1 + of_client (slice_get w.clients s) client_ends
 abort_lowers w s verb fate =
@@ -133,19 +86,8 @@ abort_lowers w s verb fate =
     halted_less step.state s verb Finishes (halt_of step.stop) (1 + of_client (slice_get w.clients s) client_ends) (omega (arith, most))
 
 -- ---- a fetch
-turn_most : (c d : Client) (most : ℕ) (turn : ReadTurn) → ((r : Reading) → turn ≡ Asks r → read_left r ≤ most) → client_reads (client_read c turn) ≤ most + client_reads d
-turn_most c d most (Asks r) few = omega (arith, few r refl)
-turn_most c d most (Answers a) few = omega arith
-
 fetched_most : (ends : RecalledReadsEnd) (setup : SetupNumbers) (s key : ℕ) (fate : Fate) (c : Client) (rows : List Row) (why : Option Cause) (start epoch : Option ℕ) → client_reads (fetch_open setup s key fate c rows why start epoch).parts ≤ 3 * cells_by rows key start + client_reads c
-fetched_most ends setup s key fate c rows (Some why) start epoch = omega arith
-fetched_most ends setup s key fate c rows None None epoch = omega arith
-fetched_most ends setup s key fate c rows None (Some start) None = omega arith
-fetched_most ends setup s key Works c rows None (Some start) (Some epoch) =
-    let x : Remembering = fetch_recall setup key start epoch c (fetched rows key start) in
-    turn_most (record (client_fetched setup c key) { cache = x.1 }) c (3 * cells_by rows key (Some start)) x.0 (ends.begins (marks_every setup) key start epoch (front_of start (fetched rows key start)) (put_fresh c.cache))
-fetched_most ends setup s key FailsUnchanged c rows None (Some start) (Some epoch) = omega arith
-fetched_most ends setup s key FailsApplied c rows None (Some start) (Some epoch) = omega arith
+fetched_most ends setup s key fate c rows why start epoch = grind arith
 
 pub fetch_lowers : (ends : RecalledReadsEnd) (w : State) (s key : ℕ) (verb : Verb) (fate : Fate) → let step : Step = stepped w (event.Fetch s key) fate in session_left step.state s verb (unless_halted Reads (halt_of step.stop)) < 1 + of_client (slice_get w.clients s) (client_fetches w.rows key)
 fetch_lowers ends w s key verb fate =

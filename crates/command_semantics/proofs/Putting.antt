@@ -2,10 +2,10 @@
 use Rattle.command_semantics.proofs.Names.{◌≡◌, ℕ, ◌+◌, ◌<◌, List, Option, Some, None, refl, sym, ◌∙◌, ap, subst, arith}
 use Rattle.command_semantics.proofs.Names.{Fate, Item, Held, Progress, Request, Commit, InstanceEntry, held_of}
 use Rattle.command_semantics.proofs.Names.{with_request, unsettled_by, State, Effect, Step, step_by, with_post, stepped}
-use Rattle.command_semantics.proofs.Names.{at_post, Verb, InstanceAt, client_ends, drive_left, Works, FailsUnchanged}
+use Rattle.command_semantics.proofs.Names.{Verb, InstanceAt, client_ends, drive_left, Works, FailsUnchanged}
 use Rattle.command_semantics.proofs.Names.{FailsApplied, fated, Mark, CommittedMark, Pairs, mark_of, put_pair, Settled}
-use Rattle.command_semantics.proofs.Names.{moved, settle_if_drawn, settle_held, instance_settle, to_place, to_place_by}
-use Rattle.command_semantics.proofs.Names.{put_by, put_commit, put_on}
+use Rattle.command_semantics.proofs.Names.{moved, settle_if_drawn, settle_held, instance_settle}
+use Rattle.command_semantics.proofs.Names.{put_by}
 use Rattle.system_parts.specs.declared.instance.Place.TheVariants as place
 use Rattle.system_parts.specs.declared.instance.Progress.TheVariants as progress
 use Rattle.machine.specs.declared.event.Event.TheVariants as event
@@ -26,11 +26,7 @@ pub record AtDraw (held : Held) : Type 0 where
   pub progress : held.progress ≡ progress.Drawn commit
 
 put_is : (w : State) (node s : ℕ) (fate : Fate) (i : InstanceEntry) (held : Held) (at : AtDraw held) → InstanceAt w.nodes node i → held_of i s ≡ Some held → stepped w (event.Put node s) fate ≡ table_step w node (put_by node s at.start at.commit fate (mark_of w.pairs at.start) i (fated fate w.pairs (put_pair w.pairs at.start (CommittedMark at.commit))))
-put_is w node s fate i held at node_at has =
-    ap (λ (found : Option (Option InstanceEntry)). at_post w found (λ post. table_step w node (put_on node s fate post w.pairs))) node_at
-    ∙ ap (λ (found : Option Held). table_step w node (put_commit node s fate i w.pairs (to_place found))) has
-    ∙ ap (λ (request : Request). table_step w node (put_commit node s fate i w.pairs (to_place_by request held.progress))) at.request
-    ∙ ap (λ (p : Progress). table_step w node (put_commit node s fate i w.pairs (to_place_by (Commit at.session at.start at.keys) p))) at.progress
+put_is w node s fate i held at node_at has = grind arith
 
 settles : (s : ℕ) (by : Settled) (i : InstanceEntry) (held : Held) (at : AtDraw held) → held_of i s ≡ Some held → (instance_settle i s by).left ≡ moved i s held (progress.Settled at.commit by)
 settles s by i held at has =

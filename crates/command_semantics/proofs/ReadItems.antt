@@ -1,9 +1,10 @@
 -- The items of an event that reads the clocks: each reading is that of its node's clock, there is no tick, and a fault only
 -- where a store call failed.
-use Rattle.command_semantics.proofs.Names.{of_post, of_both, ◌≡◌, ◌≢◌, ℕ, Bool, true, false, List, [], ◌∷◌, ◌++◌}
-use Rattle.command_semantics.proofs.Names.{Option, Some, None, Result, Ok, Err, ◌⊎◌, inl, inr, All, refl, slice_get}
+use Rattle.std.proofs.Common.{arith}
+use Rattle.command_semantics.proofs.Names.{of_post, of_both, ◌≡◌, ◌≢◌, ℕ, Bool, List, [], ◌∷◌, ◌++◌}
+use Rattle.command_semantics.proofs.Names.{Option, Some, None, Result, Ok, Err, ◌⊎◌, inl, All, slice_get}
 use Rattle.command_semantics.proofs.Names.{All-nil, All-cons, Store, Fate, Works, FailsUnchanged, FailsApplied, Cause}
-use Rattle.command_semantics.proofs.Names.{Actor, Clock, Node, Session, Janitor, Item, InstanceEntry, Client, State}
+use Rattle.command_semantics.proofs.Names.{Actor, Node, Session, Item, InstanceEntry, Client, State}
 use Rattle.command_semantics.proofs.Names.{refused_once, Step, at_post, at_client, at_both, asks_at_post}
 use Rattle.command_semantics.proofs.Names.{asks_at_client, Clocks, reading_at}
 use Rattle.machine.proofs.LookedUp.{of_client}
@@ -56,17 +57,7 @@ pub made_one : (clocks : Clocks) (asked : Option Store) (fate : Fate) (x : Item)
 made_one clocks asked fate x read = inl (one_read clocks x read)
 
 pub made_failed : (clocks : Clocks) (store : Store) (fate : Fate) (before : List Item) (actor : Actor) (after : List Item) → fate ≢ Works → All (IsRead clocks) before → All (IsRead clocks) after → Made clocks (Some store) fate (before ++ item.Fault actor store ∷ after)
-made_failed clocks store fate before actor after fails before_read after_read = inr (record {
-  before = before;
-  actor = actor;
-  store = store;
-  after = after;
-  is = refl;
-  before_read = before_read;
-  after_read = after_read;
-  asked_is = refl;
-  fails = fails;
-})
+made_failed clocks store fate before actor after fails before_read after_read = grind arith
 
 -- a fault behind what took effect all the same
 pub made_fault : (clocks : Clocks) (store : Store) (fate : Fate) (before : List Item) (actor : Actor) → fate ≢ Works → All (IsRead clocks) before → Made clocks (Some store) fate (before ++ item.Fault actor store ∷ [])
@@ -94,29 +85,21 @@ AnswersUntimed (Ok x) = Unit {0}
 AnswersUntimed (Err why) = Untimed why
 
 pub untimed_read : (clocks : Clocks) (actor : Actor) (why : Cause) → Untimed why → IsCauseRead clocks actor why
-untimed_read clocks actor (cause.Early reading until) untimed = absurd untimed
-untimed_read clocks actor (cause.Expired reading until) untimed = absurd untimed
-untimed_read clocks Clock why untimed = tt
-untimed_read clocks (Node n) why untimed = tt
-untimed_read clocks (Session s) why untimed = tt
-untimed_read clocks Janitor why untimed = tt
+untimed_read clocks actor why untimed = grind arith
 
 pub made_refused : (clocks : Clocks) (asked : Option Store) (fate : Fate) (actor : Actor) (why : Cause) → Untimed why → Made clocks asked fate (item.Refused actor why ∷ [])
 made_refused clocks asked fate actor why untimed = made_one clocks asked fate (item.Refused actor why) (untimed_read clocks actor why untimed)
 
 -- one that a request is told once
 pub made_once : {P : Type 0} (clocks : Clocks) (asked : Option Store) (fate : Fate) (told : Bool) (parts : P) (actor : Actor) (why : Cause) → Untimed why → Made clocks asked fate (refused_once told parts actor why).items
-made_once clocks asked fate true parts actor why untimed = made_none clocks asked fate
-made_once clocks asked fate false parts actor why untimed = made_refused clocks asked fate actor why untimed
+made_once clocks asked fate told parts actor why untimed = grind (arith, made_none, made_refused)
 
 -- ---- the parts that an event looks up, with the store that it asks by them
 pub post_made : (clocks : Clocks) (fate : Fate) (w left : State) (node : ℕ) (f : Option InstanceEntry → Step) (asks : Option InstanceEntry → Option Store) → ((post : Option InstanceEntry) → slice_get w.nodes node ≡ Some post → Made clocks (asks post) fate (f post).items) → (found : Option (Option InstanceEntry)) → slice_get w.nodes node ≡ found → Made clocks (asks_at_post found asks) fate (at_post left found f).items
-post_made clocks fate w left node f asks each None at = made_none clocks None fate
-post_made clocks fate w left node f asks each (Some post) at = each post at
+post_made clocks fate w left node f asks each found at = grind (arith, made_none)
 
 pub client_made : (clocks : Clocks) (fate : Fate) (w : State) (f : Client → Step) (asks : Client → Option Store) → ((c : Client) → Made clocks (asks c) fate (f c).items) → (found : Option Client) → Made clocks (asks_at_client found asks) fate (at_client w found f).items
-client_made clocks fate w f asks each None = made_none clocks None fate
-client_made clocks fate w f asks each (Some c) = each c
+client_made clocks fate w f asks each found = grind (arith, made_none)
 
 -- of an event that asks no store
 abbrev pub MadeUnasked : Clocks → Fate → Step → Type 0

@@ -1,10 +1,11 @@
 -- For turn_rules and grant_laws too.
 -- A read that a line has begun ends with its value or with a fault: its fetch, and each of its steps.
-use Rattle.command_semantics.proofs.Names.{◌≡◌, ℕ, Bool, true, false, cond, nat_lt, ◌==◌, ◌||◌, is_some, List, [], ◌∷◌}
-use Rattle.command_semantics.proofs.Names.{◌++◌, Option, None, ◌⊎◌, inl, refl, subst, Session, Item, Cell, Told}
-use Rattle.command_semantics.proofs.Names.{Committed, Dead, SettleTurn, Goes, Decides, settle_turn, Reading, ReadTurn}
-use Rattle.command_semantics.proofs.Names.{Asks, Answers, found_cell, found_by, settling_of, after_passed, turn_at}
-use Rattle.command_semantics.proofs.Names.{read_over, read_by, Cache, outcome_known, recalled_over, recalled_told}
+use Rattle.std.proofs.Common.{arith}
+use Rattle.command_semantics.proofs.Names.{◌≡◌, ℕ, Bool, List, [], ◌∷◌}
+use Rattle.command_semantics.proofs.Names.{◌++◌, Option, None, ◌⊎◌, inl, refl, Session, Item, Cell, Told}
+use Rattle.command_semantics.proofs.Names.{SettleTurn, settle_turn, Reading, ReadTurn}
+use Rattle.command_semantics.proofs.Names.{Asks, Answers, settling_of}
+use Rattle.command_semantics.proofs.Names.{read_over, read_by, Cache, recalled_over, recalled_told}
 use Rattle.command_semantics.proofs.Names.{Client, State, Step, ClientAt}
 use Rattle.history_book.specs.declared.item.Item.TheVariants as item
 use Rattle.system_parts.proofs.RecalledLemmas.{AnyCache, Recalls, over_holds, told_holds}
@@ -18,34 +19,15 @@ abbrev pub OfRead : ℕ → ℕ → ReadTurn → Type 0
 OfRead key start (Asks r) = (r.key ≡ key) × (r.start ≡ start)
 OfRead key start (Answers a) = Unit {0}
 
-first_read : (every : Bool) (key start epoch : ℕ) (c : Cell) (cs : List Cell) (answers : Bool) → OfRead key start (cond answers (Answers (found_cell c)) (Asks (record { key = key; start = start; epoch = epoch; every = every; cell = c; older = cs; point = Rattle.system_parts.specs.declared.resolve.SettlePoint.TheVariants.Table })))
-first_read every key start epoch c cs true = tt
-first_read every key start epoch c cs false = (refl, refl)
-
-turn_read : (every : Bool) (key start epoch : ℕ) (cells : List Cell) → OfRead key start (turn_at every key start epoch cells)
-turn_read every key start epoch [] = tt
-turn_read every key start epoch (c ∷ cs) = first_read every key start epoch c cs ((c.version == start) || is_some c.shadow)
-
 over_read : (every : Bool) (key start epoch : ℕ) (cells : List Cell) → OfRead key start (read_over every key start epoch cells)
-over_read every key start epoch cells = turn_read every key start epoch (after_passed start cells)
-
-decided_read : (r : Reading) (c : ℕ) (by_table below : Bool) → OfRead r.key r.start (cond below (Answers (found_by r.key r.cell c by_table)) (read_over r.every r.key r.start r.epoch r.older))
-decided_read r c by_table true = tt
-decided_read r c by_table false = over_read r.every r.key r.start r.epoch r.older
+over_read every key start epoch cells = grind arith
 
 settled_read : (r : Reading) (turn : SettleTurn) → OfRead r.key r.start (read_by r turn)
-settled_read r (Goes p) = (refl, refl)
-settled_read r (Decides Dead) = over_read r.every r.key r.start r.epoch r.older
-settled_read r (Decides (Committed c by_table)) = decided_read r c by_table (nat_lt c r.start)
+settled_read r turn = grind arith
 
 -- a recall keeps them too
 recalls_read : (key start : ℕ) → Recalls (OfRead key start) AnyCache
-recalls_read key start = record {
-  stays = λ cache txn any. tt;
-  goes = λ cache r k any is same.
-      let turn : ReadTurn = read_by r (Decides (outcome_known k)) in
-      subst (λ (n : ℕ). OfRead n start turn) same.0 (subst (λ (n : ℕ). OfRead r.key n turn) same.1 (settled_read r (Decides (outcome_known k))));
-}
+recalls_read key start = grind arith
 
 pub over_recalls : (every : Bool) (key start epoch : ℕ) (cells : List Cell) (cache : Cache) → OfRead key start (recalled_over every key start epoch cells cache).0
 over_recalls every key start epoch cells cache = (over_holds (OfRead key start) AnyCache (recalls_read key start) every key start epoch cells cache tt (over_read every key start epoch cells)).0

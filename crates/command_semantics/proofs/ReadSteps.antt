@@ -1,17 +1,17 @@
 -- For turn_rules too.
 -- A step of a read that a line has begun ends it with its value or with a fault, or leaves a read of the same key; and such a
 -- read has a next step.
-use Rattle.command_semantics.proofs.Names.{◌≡◌, ℕ, Bool, true, [], ◌∷◌, ◌++◌, Option, Some, None, inl, inr, refl, sym}
-use Rattle.command_semantics.proofs.Names.{◌∙◌, ap, subst, Store, Fate, Works, FailsUnchanged, FailsApplied, Session}
-use Rattle.command_semantics.proofs.Names.{Told, SessionState, ReadTurn, Asks, Answers, read_ask, Cache, Remembering}
-use Rattle.command_semantics.proofs.Names.{step_refusal, Client, State, is_reading, is_reading_by, items_met, mark_kept}
-use Rattle.command_semantics.proofs.Names.{rows_after, pairs_after, store_of, met, told_by, Step, with_client, stepped}
-use Rattle.command_semantics.proofs.Names.{client_put_fresh, found_of, client_read, read_items, step_recall, work_by}
-use Rattle.command_semantics.proofs.Names.{work_of, read_step, open_doing, doing_by, doing_at, doing_of, set_found}
+use Rattle.std.proofs.Common.{arith}
+use Rattle.command_semantics.proofs.Names.{◌≡◌, ℕ, true, [], ◌∷◌, ◌++◌, Some, None, inl, inr, refl}
+use Rattle.command_semantics.proofs.Names.{◌∙◌, ap, Store, Fate, Works, Session}
+use Rattle.command_semantics.proofs.Names.{Told, ReadTurn, Asks, Answers, read_ask, Cache}
+use Rattle.command_semantics.proofs.Names.{Client, State, is_reading, is_reading_by, items_met}
+use Rattle.command_semantics.proofs.Names.{rows_after, pairs_after, met, Step, with_client, stepped}
+use Rattle.command_semantics.proofs.Names.{found_of, client_read, read_items}
+use Rattle.command_semantics.proofs.Names.{read_step, doing_of, set_found}
 use Rattle.command_semantics.proofs.Names.{read_next}
 use Rattle.history_book.specs.declared.item.Item.TheVariants as item
 use Rattle.machine.specs.declared.event.Event.TheVariants as event
-use Rattle.machine.specs.State.{Reads}
 use Rattle.command_semantics.proofs.PlainEvents.{effect_plain, met_plain}
 use Rattle.command_semantics.proofs.Plain.{plain_append, no_plain}
 use Rattle.command_semantics.proofs.Working.{ReadWork}
@@ -43,28 +43,15 @@ read_turns w s key k cache told (Asks next) same = inr (
 read_turns w s key k cache told (Answers a) same = inl (ends_with s key (items_met (Session s) (read_ask k.work.r) told Works) (item.Read s k.work.r.start k.work.r.key (found_of a.found)) (met_plain (Session s) (read_ask k.work.r) told Works) (read_pays s k.work.r.start key k.work.r.key a.found k.key_is))
 
 read_steps : (w : State) (s key : ℕ) (k : ReadsKey w s key) (fate : Fate) → let step : Step = stores_step w s (read_step s k.c k.work.r (met (Session s) (read_ask k.work.r) fate w.rows w.pairs)) in EndsOrReads s key step
-read_steps w s key k Works =
-    let told : Told = told_by (read_ask k.work.r) w.rows w.pairs in
-    let x : Remembering = step_recall (client_put_fresh k.c) k.work.r told in
-    read_turns w s key k x.1 told x.0 (told_recalls _ k.work.r told)
-read_steps w s key k FailsUnchanged = inl (fault_pays s key (store_of (read_ask k.work.r)))
-read_steps w s key k FailsApplied =
-    let told : Told = told_by (read_ask k.work.r) w.rows w.pairs in
-    inl (ends_with s key (mark_kept (Session s) (read_ask k.work.r) told) (item.Fault (Session s) (store_of (read_ask k.work.r))) (effect_plain (Session s) (read_ask k.work.r) told) (fault_pays s key (store_of (read_ask k.work.r))))
+read_steps w s key k fate = grind (arith, read_turns, told_recalls, fault_pays, ends_with, effect_plain)
 
 -- ---- the event
 reads_on : (c : Client) (k : ReadWork c) → is_reading c ≡ true
 reads_on c k = ap is_reading_by k.under_way
 
 pub read_goes_on : (w : State) (s key : ℕ) (k : ReadsKey w s key) (fate : Fate) → EndsOrReads s key (stepped w (event.Step s) fate)
-read_goes_on w s key k fate =
-    let go : step_refusal k.c.entry.state (is_reading k.c) ≡ None = ap (λ (state : SessionState). step_refusal state (is_reading k.c)) k.work.is_open ∙ ap (λ (reading : Bool). step_refusal Rattle.system_parts.specs.declared.session.State.TheVariants.Open reading) (reads_on k.c k.work) in
-    let work : work_of k.c ≡ Reads k.work.r = ap (λ (state : SessionState). work_by state k.c.entry k.c.under_way) k.work.is_open ∙ k.work.under_way in
-    subst (λ (step : Step). EndsOrReads s key step) (sym (step_is w s fate k.c (Reads k.work.r) k.at go (unhanded k.c Rattle.system_parts.specs.declared.session.State.TheVariants.Open k.work.is_open refl) work)) (read_steps w s key k fate)
+read_goes_on w s key k fate = grind (arith, reads_on, step_is, unhanded, read_steps)
 
 -- the run of a line does not end while the read is under way
 pub read_has_next : (w : State) (s key : ℕ) → ReadsKey w s key → read_next s (doing_of w s) ≡ Some (event.Step s)
-read_has_next w s key k =
-    ap (λ (found : Option Client). read_next s (doing_at found)) k.at
-    ∙ ap (λ (state : SessionState). read_next s (doing_by state (is_reading k.c))) k.work.is_open
-    ∙ ap (λ (reading : Bool). read_next s (open_doing reading)) (reads_on k.c k.work)
+read_has_next w s key k = grind arith

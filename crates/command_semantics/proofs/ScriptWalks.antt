@@ -1,8 +1,8 @@
 -- For turn_rules, thread_scripts, log_refinement and others above too.
 -- The history of a script answers its lines.
-use Rattle.command_semantics.proofs.Names.{◌≡◌, ℕ, ◌+◌, ◌≤◌, ◌^◌, ◌==◌, Bool, true, false, ◌&&◌, cond, List, [], ◌∷◌}
-use Rattle.command_semantics.proofs.Names.{◌++◌, append_assoc, None, inl, inr, refl, sym, ◌∙◌, ap, subst, arith, filter}
-use Rattle.command_semantics.proofs.Names.{append-nil, eqb_tells, Actor, Clock, Node, Session, Janitor, Item}
+use Rattle.command_semantics.proofs.Names.{◌≡◌, ℕ, ◌+◌, ◌≤◌, ◌^◌, Bool, true, false, ◌&&◌, cond, List, [], ◌∷◌}
+use Rattle.command_semantics.proofs.Names.{◌++◌, append_assoc, None, inl, refl, sym, subst, arith, filter}
+use Rattle.command_semantics.proofs.Names.{append-nil, eqb_tells, Actor, Item}
 use Rattle.command_semantics.proofs.Names.{facts_stay, Line, ScriptData, same_actor, has_opening, is_of, asks_last}
 use Rattle.command_semantics.proofs.Names.{Answered, Played, left_in, opened, line_run, lines_played, opening_played}
 use Rattle.command_semantics.proofs.Names.{script_played, tick_of, ticks_of, EventsLowerWhatIsLeft, IsPlayable}
@@ -11,45 +11,21 @@ use Rattle.command_semantics.proofs.AlwaysFit.{Fit, fit_stays, fit_at_first}
 use Rattle.command_semantics.proofs.Ending.{Keeps, Going, Ended, line_ends, opening_reached}
 use Rattle.command_semantics.proofs.Timing.{tick_ahead}
 use Rattle.command_semantics.proofs.Takes.{TakesFit, takes_stay, takes_at_first}
-use Rattle.command_semantics.proofs.Walks.{AllNot, LineItems, walks_over, walks_line, walks_end}
-use Rattle.command_semantics.proofs.LineWalks.{IsFit, run_keeps, Other, other_goes_on, LastAnswer, Own, own_goes_on, own_ends}
+use Rattle.command_semantics.proofs.Walks.{AllNot, walks_over, walks_line, walks_end}
+use Rattle.command_semantics.proofs.LineWalks.{IsFit, run_keeps, Other, other_goes_on, Own, own_goes_on, own_ends}
 
 -- ---- whether a line is one of the actor's
 pub actor_same : (a b : Actor) → same_actor a b ≡ true → a ≡ b
-actor_same Clock Clock is = refl
-actor_same (Node n) (Node m) is = elim (eqb_tells n m) [
-  | inl same ↦ ap (λ (k : ℕ). Node k) same.1
-  | inr other ↦ let clash : true ≡ false = sym is ∙ other.0 in absurd (cc)
-]
-actor_same (Session n) (Session m) is = elim (eqb_tells n m) [
-  | inl same ↦ ap (λ (k : ℕ). Session k) same.1
-  | inr other ↦ let clash : true ≡ false = sym is ∙ other.0 in absurd (cc)
-]
-actor_same Janitor Janitor is = refl
-actor_same _ _ is = absurd (cc)
-
-itself : (n : ℕ) → (n == n) ≡ true
-itself n = elim (eqb_tells n n) [
-  | inl same ↦ same.0
-  | inr other ↦ absurd (other.1 refl)
-]
+actor_same a b is = grind (arith, eqb_tells)
 
 pub same_itself : (a : Actor) → same_actor a a ≡ true
-same_itself Clock = refl
-same_itself (Node n) = itself n
-same_itself (Session s) = itself s
-same_itself Janitor = refl
+same_itself a = grind (arith, eqb_tells)
 
 pub both_true : (a b : Bool) → a && b ≡ true → (a ≡ true) × (b ≡ true)
-both_true true true is = (refl, refl)
-both_true true false is = absurd (cc)
-both_true false b is = absurd (cc)
+both_true a b is = grind arith
 
 not_own : (actor : Actor) (line : Line) → is_of actor line ≡ false → has_opening line.actor line.verb ≡ true → line.actor ≡ actor → ⊥
-not_own actor line is opening same =
-    let first : same_actor line.actor actor ≡ true = ap (λ (a : Actor). same_actor line.actor a) (sym same) ∙ same_itself line.actor in
-    let both : is_of actor line ≡ true = ap (λ (b : Bool). b && has_opening line.actor line.verb) first ∙ ap (λ (b : Bool). true && b) opening in
-    let clash : true ≡ false = sym both ∙ is in cc
+not_own actor line is opening same = grind (arith, same_itself)
 
 -- ---- one line
 pub fit_kept : Keeps IsFit
@@ -82,11 +58,7 @@ unfolding AllNot
 walk_other actor script line p k none =
     let most : ℕ = p.clock + tick_of line.verb in
     let other : Other actor p.items (line_run script line p) = run_keeps IsFit script line most (Other actor p.items) fit_kept (other_goes_on actor script line most p.items k.in_range k.asks (not_own actor line none)) (left_in line (opened p)) (opened p) (going_first script line p k) (record { xs = []; is = sym (append-nil p.items); none = tt }) in
-    record {
-      xs = other.xs;
-      is = other.is;
-      walks = λ lines ys walks. subst (λ (b : Bool). Answered asks_last actor p.items None (cond b (line ∷ lines) lines) (other.xs ++ ys)) (sym none) (walks_over asks_last actor p.items lines other.xs ys other.none walks);
-    }
+    grind (arith, walks_over)
 
 walk_own : EventsLowerWhatIsLeft → (actor : Actor) (script : ScriptData) (line : Line) (p : Played) → AtLine script line p → is_of actor line ≡ true → LineWalk actor line p (line_run script line p).played
 walk_own lowers actor script line p k is =
@@ -94,13 +66,7 @@ walk_own lowers actor script line p k is =
     let both : (same_actor line.actor actor ≡ true) × (has_opening line.actor line.verb ≡ true) = both_true (same_actor line.actor actor) (has_opening line.actor line.verb) is in
     let same : line.actor ≡ actor = actor_same line.actor actor both.0 in
     let own : Own line p.items (line_run script line p) = run_keeps IsFit script line most (Own line p.items) fit_kept (own_goes_on script line most p.items k.in_range k.asks both.1) (left_in line (opened p)) (opened p) (going_first script line p k) (record { xs = []; is = sym (append-nil p.items); so_far = inl (refl, refl) }) in
-    let items : LineItems (LastAnswer p.items line) line.actor line.verb own.xs = own_ends script line p.items (line_run script line p) own.xs both.1 (line_ended lowers script line p k).over own.so_far in
-    let answered : LineItems (LastAnswer p.items line) actor line.verb own.xs = subst (λ (a : Actor). LineItems (LastAnswer p.items line) a line.verb own.xs) same items in
-    record {
-      xs = own.xs;
-      is = own.is;
-      walks = λ lines ys walks. subst (λ (b : Bool). Answered asks_last actor p.items None (cond b (line ∷ lines) lines) (own.xs ++ ys)) (sym is) (walks_line asks_last actor p.items line lines own.xs ys answered walks);
-    }
+    grind (arith, own_ends, line_ended, walks_line)
 
 walk_line : EventsLowerWhatIsLeft → (actor : Actor) (script : ScriptData) (line : Line) (p : Played) → AtLine script line p → (own : Bool) → is_of actor line ≡ own → LineWalk actor line p (line_run script line p).played
 walk_line lowers actor script line p k true is = walk_own lowers actor script line p k is
@@ -124,12 +90,7 @@ lines_walk lowers actor script (line ∷ lines) p reached fit takes playable of_
     let next : Played = (line_run script line p).played in
     let by_then : next.clock + tick_ahead (line_run script line p).point line.verb ≤ p.clock + tick = ended.going.ahead in
     let first : LineWalk actor line p next = walk_line lowers actor script line p k (is_of actor line) refl in
-    let later : LinesWalk actor lines next (lines_played script lines next) = lines_walk lowers actor script lines next ended.going.reached ended.going.has.1 ended.going.has.2 (record { leads = playable.leads; ticks = omega (arith, by_then, room) }) of_script.2 in
-    record {
-      xs = first.xs ++ later.xs;
-      is = later.is ∙ ap (λ (h : List Item). h ++ later.xs) first.is ∙ append_assoc p.items first.xs later.xs;
-      walks = first.walks (filter (is_of actor) lines) later.xs (subst (λ (h : List Item). Answered asks_last actor h None (filter (is_of actor) lines) later.xs) first.is later.walks);
-    }
+    grind (arith, lines_walk lowers actor script lines next, append_assoc)
 
 pub lines_are_answered : EventsLowerWhatIsLeft → LinesAreAnswered
 lines_are_answered lowers script in_range playable of_script actor =

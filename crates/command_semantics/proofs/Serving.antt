@@ -3,7 +3,7 @@
 use Rattle.command_semantics.proofs.Names.{◌≡◌, ℕ, ◌+◌, ◌<◌, ◌≤◌, List, Option, Some, None, inl, inr, refl, sym, ◌∙◌}
 use Rattle.command_semantics.proofs.Names.{ap, subst, arith, slice_get, slice_set, same_Some, none-some, Item, Held}
 use Rattle.command_semantics.proofs.Names.{Place, InstanceEntry, held_of, with_request, place_of_progress, Client}
-use Rattle.command_semantics.proofs.Names.{State, Effect, Step, step_by, with_post, with_client, at_both, on_request}
+use Rattle.command_semantics.proofs.Names.{State, Effect, Step, step_by, with_post, with_client, on_request}
 use Rattle.command_semantics.proofs.Names.{place_of, Verb, InstanceAt, ClientAt, ReachedInvariant, held_set, halt_of}
 use Rattle.command_semantics.proofs.Names.{after_serving, of_client, client_completes, client_settles, client_ends}
 use Rattle.command_semantics.proofs.Names.{lacks_stamps, place_left, drive_left, session_left}
@@ -34,9 +34,7 @@ node_step u node s effect = step_by effect (λ (p : Option InstanceEntry × Clie
 
 -- an event on a node and a client, both of which are there
 pub on_both : (u : State) (node s : ℕ) (i : InstanceEntry) (c : Client) (f : Option InstanceEntry → Client → Effect (Option InstanceEntry × Client)) → InstanceAt u.nodes node i → ClientAt u.clients s c → on_request u node s f ≡ node_step u node s (f (Some i) c)
-on_both u node s i c f at client_at =
-    let g : Option InstanceEntry → Client → Step = λ post client. node_step u node s (f post client) in
-    ap (λ (found : Option (Option InstanceEntry)). at_both u found (slice_get u.clients s) g) at ∙ ap (λ (found : Option Client). at_both u (Some (Some i)) found g) client_at
+on_both u node s i c f at client_at = grind arith
 
 -- ---- a request goes on
 -- as it is held now by the instance, the client being what it was
@@ -50,9 +48,7 @@ goes_on w left h s request k i now held nodes client requests less =
 -- ---- a request ends
 -- a number of a client whose request is over
 pub ends_by : (f : Client → ℕ) (w left : State) (s : ℕ) (c now : Client) → ClientAt w.clients s c → left.clients ≡ slice_set w.clients s now → f now ≤ client_ends c → client_ends c < drive_left w s → of_client (slice_get left.clients s) f < drive_left w s
-ends_by f w left s c now at clients fewer less =
-    let is : of_client (slice_get left.clients s) f ≡ f now = ap (λ (cs : List Client). of_client (slice_get cs s) f) clients ∙ client_now w.clients s c now f at in
-    omega (arith, is, fewer, less)
+ends_by f w left s c now at clients fewer less = grind (arith, client_now)
 
 -- it completes at most its keys
 pub ends_so : (w left : State) (s : ℕ) (c now : Client) → ClientAt w.clients s c → left.clients ≡ slice_set w.clients s now → client_completes now ≤ client_ends c → client_ends c < drive_left w s → of_client (slice_get left.clients s) client_completes < drive_left w s

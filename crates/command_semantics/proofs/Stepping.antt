@@ -1,21 +1,21 @@
 -- For turn_rules and grant_laws too.
 -- A step of a session lowers what is left of its read, of the resolve of its own commit, of its completion. A failed one ends
 -- the run, or leaves nothing.
-use Rattle.command_semantics.proofs.Names.{◌≡◌, ℕ, ◌+◌, ◌*◌, ◌<◌, ◌≤◌, false, List, [], ◌∷◌, Option, Some, None, inl}
+use Rattle.command_semantics.proofs.Names.{◌≡◌, ℕ, ◌+◌, ◌*◌, ◌<◌, ◌≤◌, List, ◌∷◌, Option, Some, None, inl}
 use Rattle.command_semantics.proofs.Names.{inr, refl, sym, ◌∙◌, ap, subst, arith, length, slice_get, slice_set, Mark}
-use Rattle.command_semantics.proofs.Names.{Fate, Works, FailsUnchanged, FailsApplied, Cause, Session, Pairs, mark_of}
-use Rattle.command_semantics.proofs.Names.{Ask, Told, Committed, Dead, SessionState, Settling, settle_ask, settle_left}
-use Rattle.command_semantics.proofs.Names.{SettleTurn, Goes, Decides, settle_turn, SettlesEnd, Reading, ReadTurn, Asks}
-use Rattle.command_semantics.proofs.Names.{Answers, read_ask, read_left, Cache, Remembering, RecalledReadsEnd}
-use Rattle.command_semantics.proofs.Names.{SessionEntry, step_refusal, aborted_by, handed_by, handed_commit, UnderWay}
-use Rattle.command_semantics.proofs.Names.{Nothing, Settles, Completes, Client, State, Effect, is_reading, undo_of}
-use Rattle.command_semantics.proofs.Names.{finish_of, client_freed, client_aborted, client_committed, met, told_by}
-use Rattle.command_semantics.proofs.Names.{Step, step_by, with_client, at_client, stepped, client_put_fresh}
-use Rattle.command_semantics.proofs.Names.{client_read, client_recalled, place_by, place_on, step_recall, placed_among}
+use Rattle.command_semantics.proofs.Names.{Fate, Session, Pairs, mark_of}
+use Rattle.command_semantics.proofs.Names.{Told, SessionState, Settling, settle_ask, settle_left}
+use Rattle.command_semantics.proofs.Names.{SettleTurn, settle_turn, SettlesEnd, Reading, ReadTurn, Asks}
+use Rattle.command_semantics.proofs.Names.{read_ask, read_left, Cache, RecalledReadsEnd}
+use Rattle.command_semantics.proofs.Names.{step_refusal, handed_by, handed_commit, UnderWay}
+use Rattle.command_semantics.proofs.Names.{Settles, Completes, Client, State, Effect, is_reading}
+use Rattle.command_semantics.proofs.Names.{met}
+use Rattle.command_semantics.proofs.Names.{Step, step_by, with_client, stepped}
+use Rattle.command_semantics.proofs.Names.{client_read, place_by, place_on, placed_among}
 use Rattle.command_semantics.proofs.Names.{step_due, StepParts, read_step, settle_step, client_settled, complete_step}
-use Rattle.command_semantics.proofs.Names.{after_asks, work_by, work_of, step_at, step_on, step_unless, Verb, ClientAt}
+use Rattle.command_semantics.proofs.Names.{work_by, work_of, step_at, Verb, ClientAt}
 use Rattle.command_semantics.proofs.Names.{Interruption, Point, halt_of, unless_halted, after_serving, after_stepping}
-use Rattle.command_semantics.proofs.Names.{asks_left, reads_left, steps_left, steps_due, keys_of, of_client}
+use Rattle.command_semantics.proofs.Names.{steps_left, steps_due, keys_of, of_client}
 use Rattle.command_semantics.proofs.Names.{client_completes, client_settles, client_reads, client_steps, session_left}
 use Rattle.system_parts.specs.declared.resolve.SettlePoint.{SettlePoint}
 use Rattle.system_parts.specs.declared.resolve.SettlePoint.TheVariants.{FirstLook, Table, Marking, LastLook}
@@ -45,13 +45,10 @@ LowersAt at bound s verb step = session_left step.state s verb (after_at at (hal
 
 -- ---- the step that is made: of a commit to place, or of what is under way
 due_is : (w : State) (s : ℕ) (fate : Fate) (c : Client) (due : Option (ℕ × ℕ)) → ClientAt w.clients s c → step_refusal c.entry.state (is_reading c) ≡ None → handed_commit c.entry ≡ due → stepped w (event.Step s) fate ≡ stores_step w s (step_due s fate c w.rows w.pairs due)
-due_is w s fate c due at go is =
-    ap (λ (found : Option Client). at_client w found (λ d. stores_step w s (step_on s fate d w.rows w.pairs))) at
-    ∙ ap (λ (why : Option Cause). stores_step w s (step_unless s fate c w.rows w.pairs why)) go
-    ∙ ap (λ (stamps : Option (ℕ × ℕ)). stores_step w s (step_due s fate c w.rows w.pairs stamps)) is
+due_is w s fate c due at go is = grind arith
 
 pub step_is : (w : State) (s : ℕ) (fate : Fate) (c : Client) (work : UnderWay) → ClientAt w.clients s c → step_refusal c.entry.state (is_reading c) ≡ None → handed_commit c.entry ≡ None → work_of c ≡ work → stepped w (event.Step s) fate ≡ stores_step w s (step_at s fate c w.rows w.pairs work)
-step_is w s fate c work at go none is = due_is w s fate c None at go none ∙ ap (λ (work : UnderWay). stores_step w s (step_at s fate c w.rows w.pairs work)) is
+step_is w s fate c work at go none is = grind arith
 
 -- only a session that is to place its commit has one to place
 pub unhanded : (c : Client) (state : SessionState) → c.entry.state ≡ state → handed_by state c.entry.start c.entry.commit ≡ None → handed_commit c.entry ≡ None
@@ -69,7 +66,7 @@ place_due : (c : Client) (k : PlaceWork c) (left : ℕ) → steps_due (keys_of c
 place_due c k left = ap (λ (due : Option (ℕ × ℕ)). steps_due (keys_of c) due left) k.handed
 
 pub place_settles : (c : Client) (k : PlaceWork c) → client_settles c ≡ keys_of c + 2
-place_settles c k = place_due c k (client_completes c)
+place_settles c k = grind arith
 
 -- what is left to a client, by its state and by what is under way
 abbrev steps_by : Client → SessionState → UnderWay → ℕ
@@ -92,98 +89,44 @@ abbrev Falls : Reading → ReadTurn → Type 0
 Falls r turn = (next : Reading) → turn ≡ Asks next → read_left next < read_left r
 
 read_after : (c : Client) (k : ReadWork c) (turn : ReadTurn) → Falls k.r turn → client_reads (client_read c turn) < read_left k.r
-read_after c k (Asks next) falls = falls next refl
-read_after c k (Answers a) falls = omega (arith, read_some k.r)
+read_after c k turn falls = grind (arith, read_some)
 
 read_steps : (c : Client) (k : ReadWork c) (turn : ReadTurn) → Falls k.r turn → client_steps (client_read c turn) < read_left k.r
-read_steps c k (Asks next) falls = subst (λ (state : SessionState). steps_by c state (Reads next) < read_left k.r) (sym k.is_open) (falls next refl)
-read_steps c k (Answers a) falls = subst (λ (state : SessionState). steps_by c state Nothing < read_left k.r) (sym k.is_open) (omega (arith, read_some k.r))
+read_steps c k turn falls = grind (arith, read_some)
 
 -- whatever the client remembers
 abbrev remembering : (c : Client) (k : ReadWork c) (cache : Cache) → ReadWork (record c { cache = cache })
 remembering c k cache = record { r = k.r; is_open = k.is_open; under_way = k.under_way }
 
 -- ---- the resolve of an own commit
-settle_some : (p : SettlePoint) → 1 ≤ settle_left p
-settle_some FirstLook = omega arith
-settle_some Table = omega arith
-settle_some Marking = omega arith
-settle_some (LastLook met) = omega arith
-
 -- an aborted client has its keys to undo, and one whose commit is known those and the removal
-undo_steps : (e : SessionEntry) (start : Option ℕ) (keys : List ℕ) → steps_due (length (aborted_by e keys).keys) (handed_commit (aborted_by e keys)) (steps_left (length (aborted_by e keys).keys) (work_by (aborted_by e keys).state (aborted_by e keys) (undo_of start keys))) ≤ length keys
-undo_steps e None [] = omega arith
-undo_steps e (Some t) [] = omega arith
-undo_steps e None (k ∷ ks) = omega arith
-undo_steps e (Some t) (k ∷ ks) = omega (arith, undo_long t (k ∷ ks))
-
-finish_steps : (e : SessionEntry) (commit : ℕ) (keys : List ℕ) (start : Option ℕ) → steps_left (length keys) (work_by (phase.Completing false) e (finish_of start commit keys)) ≤ length keys + 1
-finish_steps e commit keys None = omega arith
-finish_steps e commit keys (Some t) = omega (arith, finish_long t commit keys)
-
 settle_steps : (ends : SettlesEnd) (c : Client) (x : Settling) (told : Told) (turn : SettleTurn) → c.entry.state ≡ phase.OpenOutcome → settle_turn x told ≡ turn → client_steps (client_settled c x turn) < settle_left x.point + keys_of c + 1
-settle_steps ends c x told (Goes p) is_open is =
-    let less : settle_left p < settle_left x.point = (ends x).1 told p is in
-    subst (λ (state : SessionState). steps_by c state (Settles (record x { point = p })) < settle_left x.point + keys_of c + 1) (sym is_open) (omega (arith, less))
-settle_steps ends c x told (Decides (Committed commit by_table)) is_open is = omega (arith, finish_steps (client_committed c commit).entry commit c.entry.keys c.entry.start, settle_some x.point)
-settle_steps ends c x told (Decides Dead) is_open is = omega (arith, undo_steps c.entry c.entry.start c.entry.keys, settle_some x.point)
+settle_steps ends c x told turn is_open is = grind (arith, finish_long, undo_long)
 
 -- ---- a completion
 complete_work : (c : Client) (k : CompleteWork c) → work_of c ≡ Completes (k.asked ∷ k.asks)
 complete_work c k = ap (λ (state : SessionState). work_by state c.entry c.under_way) k.completing ∙ k.under_way
-
-complete_after : (c : Client) (asks : List Ask) → client_completes (after_asks c asks) ≤ length asks
-complete_after c [] = omega arith
-complete_after c (asked ∷ asks) = omega arith
-
-complete_steps : (c : Client) (k : CompleteWork c) (asks : List Ask) → client_steps (after_asks c asks) ≤ length asks
-complete_steps c k [] = omega arith
-complete_steps c k (asked ∷ asks) = subst (λ (state : SessionState). steps_by c state (Completes (asked ∷ asks)) ≤ length (asked ∷ asks)) (sym k.completing) (omega arith)
-
--- a client that completes has nothing to place
-complete_settles : (c : Client) (k : CompleteWork c) (asks : List Ask) → client_settles (after_asks c asks) ≤ length asks
-complete_settles c k [] = omega arith
-complete_settles c k (asked ∷ asks) = subst (λ (state : SessionState). steps_due (keys_of c) (handed_by state c.entry.start c.entry.commit) (length (asked ∷ asks)) ≤ length (asked ∷ asks)) (sym k.completing) (omega arith)
-
-completing_settles : (c : Client) (k : CompleteWork c) → client_settles c ≡ client_completes c
-completing_settles c k = ap (λ (due : Option (ℕ × ℕ)). steps_due (keys_of c) due (client_completes c)) (unhanded c (phase.Completing k.undo) k.completing refl)
 
 -- ---- the whole step, as what is under way is counted
 found_less : (clients : List Client) (s : ℕ) (old now : Client) (f : Client → ℕ) (bound : ℕ) → ClientAt clients s old → f now < bound → of_client (slice_get (slice_set clients s now) s) f < bound
 found_less clients s old now f bound at less = omega (arith, client_now clients s old now f at, less)
 
 read_lowers : (ends : RecalledReadsEnd) (w : State) (s : ℕ) (verb : Verb) (fate : Fate) (c : Client) (k : ReadWork c) → ClientAt w.clients s c → LowersAt point.Steps (read_left k.r) s verb (stores_step w s (read_step s c k.r (met (Session s) (read_ask k.r) fate w.rows w.pairs)))
-read_lowers ends w s verb Works c k at =
-    let told : Told = told_by (read_ask k.r) w.rows w.pairs in
-    let x : Remembering = step_recall (client_put_fresh c) k.r told in
-    found_less w.clients s c (client_recalled c x) client_steps (read_left k.r) at (read_steps (record c { cache = x.1 }) (remembering c k x.1) x.0 (λ next. ends.falls _ k.r next told))
-read_lowers ends w s verb FailsUnchanged c k at = omega (arith, read_some k.r)
-read_lowers ends w s verb FailsApplied c k at = omega (arith, read_some k.r)
+read_lowers ends w s verb fate c k at = grind (arith, found_less, read_steps, read_some)
 
 settle_lowers : (ends : SettlesEnd) (w : State) (s : ℕ) (verb : Verb) (fate : Fate) (c : Client) (k : SettleWork c) → ClientAt w.clients s c → LowersAt point.Steps (settle_left k.x.point + keys_of c + 1) s verb (stores_step w s (settle_step s c k.x (met (Session s) (settle_ask k.x) fate w.rows w.pairs)))
-settle_lowers ends w s verb Works c k at =
-    let told : Told = told_by (settle_ask k.x) w.rows w.pairs in
-    found_less w.clients s c (client_settled c k.x (settle_turn k.x told)) client_steps (settle_left k.x.point + keys_of c + 1) at (settle_steps ends c k.x told (settle_turn k.x told) k.is_open refl)
-settle_lowers ends w s verb FailsUnchanged c k at = omega arith
-settle_lowers ends w s verb FailsApplied c k at = omega arith
+settle_lowers ends w s verb fate c k at = grind (arith, found_less, settle_steps)
 
 complete_lowers : (w : State) (s : ℕ) (verb : Verb) (fate : Fate) (c : Client) (k : CompleteWork c) → ClientAt w.clients s c → LowersAt point.Steps (length (k.asked ∷ k.asks)) s verb (stores_step w s (complete_step c k.asked k.asks (met (Session s) k.asked fate w.rows w.pairs)))
-complete_lowers w s verb Works c k at = found_less w.clients s c (after_asks c k.asks) client_steps (length (k.asked ∷ k.asks)) at (omega (arith, complete_steps c k k.asks))
-complete_lowers w s verb FailsUnchanged c k at = omega arith
-complete_lowers w s verb FailsApplied c k at = omega arith
+complete_lowers w s verb fate c k at = grind (arith, client_now)
 
 -- a placing, with the completion that may follow
 place_lowers : (w : State) (s : ℕ) (verb : Verb) (c : Client) (k : PlaceWork c) → ClientAt w.clients s c → (fate : Fate) (found : Option Mark) (pairs : Pairs) → LowersAt point.Steps (keys_of c + 2) s verb (placed_step w s (place_by s k.start k.commit fate found c pairs))
-place_lowers w s verb c k at Works None pairs = found_less w.clients s c (client_committed c k.commit) client_steps (keys_of c + 2) at (omega (arith, finish_steps (client_committed c k.commit).entry k.commit c.entry.keys c.entry.start))
-place_lowers w s verb c k at Works (Some mark) pairs = found_less w.clients s c (client_aborted c) client_completes (keys_of c + 2) at (omega (arith, aborted_left c))
-place_lowers w s verb c k at FailsUnchanged found pairs = omega arith
-place_lowers w s verb c k at FailsApplied found pairs = omega arith
+place_lowers w s verb c k at fate found pairs = grind (arith, aborted_left, client_now, finish_long)
 
 -- of whatever is under way
 lowers_by : (w : State) (s : ℕ) (verb : Verb) (fate : Fate) (c : Client) (work : UnderWay) (bound : ℕ) → ClientAt w.clients s c → step_refusal c.entry.state (is_reading c) ≡ None → handed_commit c.entry ≡ None → work_of c ≡ work → steps_left (keys_of c) work ≡ bound → LowersAt point.Steps bound s verb (stores_step w s (step_at s fate c w.rows w.pairs work)) → LowersAt point.Steps (client_steps c) s verb (stepped w (event.Step s) fate)
-lowers_by w s verb fate c work bound at go none is full less =
-    let same : client_steps c ≡ bound = ap (λ (due : Option (ℕ × ℕ)). steps_due (keys_of c) due (steps_left (keys_of c) (work_of c))) none ∙ ap (λ (x : UnderWay). steps_left (keys_of c) x) is ∙ full in
-    subst (λ (n : ℕ). LowersAt point.Steps n s verb (stepped w (event.Step s) fate)) (sym same) (subst (λ (step : Step). LowersAt point.Steps bound s verb step) (sym (step_is w s fate c work at go none is)) less)
+lowers_by w s verb fate c work bound at go none is full less = grind (arith, step_is)
 
 pub steps_lower : (ends : StepsEnd) (w : State) (s : ℕ) (verb : Verb) (fate : Fate) (c : Client) → ClientAt w.clients s c → step_refusal c.entry.state (is_reading c) ≡ None → HasWork c → LowersAt point.Steps (client_steps c) s verb (stepped w (event.Step s) fate)
 steps_lower ends w s verb fate c at go (inl k) = lowers_by w s verb fate c (Reads k.r) (read_left k.r) at go (unhanded c phase.Open k.is_open refl) (read_work c k) refl (read_lowers ends.reads w s verb fate c k at)
@@ -195,16 +138,10 @@ steps_lower ends w s verb fate c at go (inr (inr (inr k))) =
 
 -- ---- of a read alone
 one_read : (ends : RecalledReadsEnd) (w : State) (s : ℕ) (verb : Verb) (fate : Fate) (c : Client) (k : ReadWork c) → ClientAt w.clients s c → LowersAt point.Reads (read_left k.r) s verb (stores_step w s (read_step s c k.r (met (Session s) (read_ask k.r) fate w.rows w.pairs)))
-one_read ends w s verb Works c k at =
-    let told : Told = told_by (read_ask k.r) w.rows w.pairs in
-    let x : Remembering = step_recall (client_put_fresh c) k.r told in
-    found_less w.clients s c (client_recalled c x) client_reads (read_left k.r) at (read_after (record c { cache = x.1 }) (remembering c k x.1) x.0 (λ next. ends.falls _ k.r next told))
-one_read ends w s verb FailsUnchanged c k at = omega (arith, read_some k.r)
-one_read ends w s verb FailsApplied c k at = omega (arith, read_some k.r)
+one_read ends w s verb fate c k at = grind (arith, found_less, read_after, read_some)
 
 pub reads_lower : (ends : StepsEnd) (w : State) (s : ℕ) (verb : Verb) (fate : Fate) (c : Client) (k : ReadWork c) → ClientAt w.clients s c → step_refusal c.entry.state (is_reading c) ≡ None → LowersAt point.Reads (client_reads c) s verb (stepped w (event.Step s) fate)
-reads_lower ends w s verb fate c k at go =
-    subst (λ (work : UnderWay). LowersAt point.Reads (reads_left work) s verb (stepped w (event.Step s) fate)) (sym k.under_way) (subst (λ (step : Step). LowersAt point.Reads (read_left k.r) s verb step) (sym (step_is w s fate c (Reads k.r) at go (unhanded c phase.Open k.is_open refl) (read_work c k))) (one_read ends.reads w s verb fate c k at))
+reads_lower ends w s verb fate c k at go = grind (arith, step_is, unhanded, read_work, one_read)
 
 -- ---- of a completion alone, whether the run goes on or has ended
 pub record FewerAsks (w : State) (s : ℕ) (c : Client) (step : Step) : Type 0 where
@@ -215,12 +152,5 @@ pub record FewerAsks (w : State) (s : ℕ) (c : Client) (step : Step) : Type 0 w
   pub settles : client_settles now < client_settles c
   pub goes_on : after_serving (halt_of step.stop) ≡ point.Drives
 
-asks_fewer : (w : State) (s : ℕ) (fate : Fate) (c : Client) (k : CompleteWork c) → FewerAsks w s c (stores_step w s (complete_step c k.asked k.asks (met (Session s) k.asked fate w.rows w.pairs)))
-asks_fewer w s Works c k = record { now = after_asks c k.asks; clients = refl; nodes = refl; fewer = omega (arith, complete_after c k.asks, ap asks_left k.under_way); settles = omega (arith, complete_settles c k k.asks, completing_settles c k, ap asks_left k.under_way); goes_on = refl }
-asks_fewer w s FailsUnchanged c k = record { now = client_freed c; clients = refl; nodes = refl; fewer = omega (arith, ap asks_left k.under_way); settles = omega (arith, completing_settles c k, ap asks_left k.under_way); goes_on = refl }
-asks_fewer w s FailsApplied c k = record { now = client_freed c; clients = refl; nodes = refl; fewer = omega (arith, ap asks_left k.under_way); settles = omega (arith, completing_settles c k, ap asks_left k.under_way); goes_on = refl }
-
 pub completes_lower : (w : State) (s : ℕ) (fate : Fate) (c : Client) (k : CompleteWork c) → ClientAt w.clients s c → FewerAsks w s c (stepped w (event.Step s) fate)
-completes_lower w s fate c k at =
-    let go : step_refusal c.entry.state (is_reading c) ≡ None = ap (λ (state : SessionState). step_refusal state (is_reading c)) k.completing in
-    subst (λ (step : Step). FewerAsks w s c step) (sym (step_is w s fate c (Completes (k.asked ∷ k.asks)) at go (unhanded c (phase.Completing k.undo) k.completing refl) (complete_work c k))) (asks_fewer w s fate c k)
+completes_lower w s fate c k at = grind (arith, step_is, unhanded)

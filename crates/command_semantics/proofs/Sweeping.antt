@@ -1,17 +1,16 @@
 -- A step of a sweep lowers what is left of it; a failed one ends it.
-use Rattle.command_semantics.proofs.Names.{◌≡◌, ℕ, ◌+◌, ◌<◌, ◌≤◌, nat_lt, Bool, true, false, cond, List, [], ◌∷◌}
-use Rattle.command_semantics.proofs.Names.{Option, Some, None, inl, inr, refl, sym, ap, subst, arith, length, slice_get}
+use Rattle.command_semantics.proofs.Names.{◌≡◌, ℕ, ◌+◌, ◌<◌, ◌≤◌, List, [], ◌∷◌}
+use Rattle.command_semantics.proofs.Names.{Option, Some, None, refl, sym, ap, subst, arith, length}
 use Rattle.command_semantics.proofs.Names.{same_Some, Fate, Works, FailsUnchanged, FailsApplied, Janitor, Item, Mark}
-use Rattle.command_semantics.proofs.Names.{CommittedMark, InvalidMark, Row, keys_of_version, Ask, Told, finish_asks}
+use Rattle.command_semantics.proofs.Names.{Row, keys_of_version, Ask, Told, finish_asks}
 use Rattle.command_semantics.proofs.Names.{undo_asks, first_ask, SweepPoint, Marking, Listing, Left, Undecided}
 use Rattle.command_semantics.proofs.Names.{Sweeping, sweep_ask, sweep_after_table, sweep_after_marking, sweep_told}
-use Rattle.command_semantics.proofs.Names.{sweep_asks, sweep_listed, InstanceEntry, State, met, told_by, rows_after}
-use Rattle.command_semantics.proofs.Names.{Step, step_by, at_post, stepped, on_swept, sweep_open_on, still_open}
+use Rattle.command_semantics.proofs.Names.{State, met, told_by, rows_after}
+use Rattle.command_semantics.proofs.Names.{Step, stepped, on_swept, still_open}
 use Rattle.command_semantics.proofs.Names.{sweep_met, sweep_lists, sweep_at, sweep_step_on, Verb, ReachedInvariant}
 use Rattle.command_semantics.proofs.Names.{Interruption, Steps, halt_of, unless_halted, sweep_left_at, sweep_left}
 use Rattle.command_semantics.proofs.Names.{janitor_left}
 use Rattle.system_parts.specs.declared.asks.Ask.TheVariants as ask
-use Rattle.system_parts.specs.declared.asks.Told.TheVariants as told
 use Rattle.system_parts.specs.Sweep.{Table}
 use Rattle.machine.specs.declared.event.Event.TheVariants as event
 use Rattle.isolation_laws.specs.UnderWay.{IsSweptAt}
@@ -21,34 +20,20 @@ abbrev pub SweepLowers : ℕ → Verb → Step → Type 0
 SweepLowers bound verb step = janitor_left step.state verb (unless_halted Steps (halt_of step.stop)) < bound
 
 -- ---- a sweep is opened
-opens_at : (w : State) (node txn : ℕ) (verb : Verb) (post : Option InstanceEntry) (sweep : Option Sweeping) → w.sweep ≡ sweep → SweepLowers (length (keys_of_version w.rows txn) + 5 + sweep_left w.rows w.sweep) verb (step_by (sweep_open_on node txn post sweep) (λ (p : Option Sweeping). record w { sweep = p }))
-opens_at w node txn verb post (Some s) is = omega arith
-opens_at w node txn verb None None is = omega arith
-opens_at w node txn verb (Some i) None is = omega arith
-
-opens_by : (w : State) (node txn : ℕ) (verb : Verb) (post : Option (Option InstanceEntry)) → SweepLowers (length (keys_of_version w.rows txn) + 5 + sweep_left w.rows w.sweep) verb (at_post w post (λ found. step_by (sweep_open_on node txn found w.sweep) (λ (p : Option Sweeping). record w { sweep = p })))
-opens_by w node txn verb None = omega arith
-opens_by w node txn verb (Some post) = opens_at w node txn verb post w.sweep refl
-
 pub sweep_open_lowers : (w : State) (node txn : ℕ) (verb : Verb) (fate : Fate) → SweepLowers (length (keys_of_version w.rows txn) + 5 + sweep_left w.rows w.sweep) verb (stepped w (event.SweepOpen node txn) fate)
-sweep_open_lowers w node txn verb fate = opens_by w node txn verb (slice_get w.nodes node)
+sweep_open_lowers w node txn verb fate = grind arith
 
 -- ---- a step
 -- a sweep that has ended has nothing left
 open_most : (rows : List Row) (s : Sweeping) (next : Option Ask) → sweep_left rows (still_open s next) ≤ sweep_left_at (length (keys_of_version rows s.txn)) s.point
-open_most rows s None = omega arith
-open_most rows s (Some asked) = omega arith
+open_most rows s next = grind arith
 
 halted_sweep : (w : State) (verb : Verb) (halt : Option Interruption) (bound : ℕ) → sweep_left w.rows w.sweep < bound → janitor_left w verb (unless_halted Steps halt) < bound
-halted_sweep w verb None bound less = less
-halted_sweep w verb (Some halt) bound less = omega (arith, less)
+halted_sweep w verb halt bound less = grind arith
 
 -- a step that worked leads on to the point after its answer
 worked : (w : State) (s : Sweeping) (asked : Ask) (verb : Verb) (bound : ℕ) → (let after : Sweeping = sweep_told s (told_by asked w.rows w.pairs) in sweep_left_at (length (keys_of_version (rows_after asked w.rows) after.txn)) after.point < bound) → SweepLowers bound verb (on_swept w (sweep_met s asked (met Janitor asked Works w.rows w.pairs)))
-worked w s asked verb bound less =
-    let step : Step = on_swept w (sweep_met s asked (met Janitor asked Works w.rows w.pairs)) in
-    let after : Sweeping = sweep_told s (told_by asked w.rows w.pairs) in
-    halted_sweep step.state verb (halt_of step.stop) bound (omega (arith, open_most (rows_after asked w.rows) after (sweep_ask after), less))
+worked w s asked verb bound less = grind (arith, halted_sweep, open_most)
 
 -- or has failed
 met_lowers : (w : State) (s : Sweeping) (asked : Ask) (verb : Verb) (bound : ℕ) (fate : Fate) → 1 ≤ bound → (let after : Sweeping = sweep_told s (told_by asked w.rows w.pairs) in sweep_left_at (length (keys_of_version (rows_after asked w.rows) after.txn)) after.point < bound) → SweepLowers bound verb (on_swept w (sweep_met s asked (met Janitor asked fate w.rows w.pairs)))
@@ -57,30 +42,15 @@ met_lowers w s asked verb bound FailsUnchanged some less = omega (arith, some)
 met_lowers w s asked verb bound FailsApplied some less = omega (arith, some)
 
 -- the points after the table and the mark
-undecided_or_not : (keys : ℕ) (above : Bool) → sweep_left_at keys (cond above Undecided Marking) < keys + 4
-undecided_or_not keys true = omega arith
-undecided_or_not keys false = omega arith
-
 table_less : (keys txn epoch : ℕ) (answer : Told) → sweep_left_at keys (sweep_after_table txn epoch answer) < keys + 4
-table_less keys txn epoch (told.Committed c) = omega arith
-table_less keys txn epoch told.Absent = undecided_or_not keys (nat_lt epoch txn)
-table_less keys txn epoch _ = omega arith
+table_less keys txn epoch answer = grind arith
 
 marking_less : (keys : ℕ) (answer : Told) → sweep_left_at keys (sweep_after_marking answer) < keys + 3
-marking_less keys (told.Committed c) = omega arith
-marking_less keys _ = omega arith
+marking_less keys answer = grind arith
 
 -- the asks that a list of keys leaves
-asks_most : (txn : ℕ) (found : Mark) (keys : List ℕ) → length (sweep_asks txn found keys) ≤ length keys + 1
-asks_most txn (CommittedMark c) keys = omega (arith, finish_long txn c keys)
-asks_most txn InvalidMark keys = omega (arith, undo_long txn keys)
-
 listed : (w : State) (txn epoch : ℕ) (found : Mark) (verb : Verb) (fate : Fate) → let s : Sweeping = record { txn = txn; epoch = epoch; point = Listing found } in SweepLowers (length (keys_of_version w.rows txn) + 2) verb (on_swept w (sweep_lists s txn fate w.rows w.pairs))
-listed w txn epoch found verb Works =
-    let after : Sweeping = sweep_listed (record { txn = txn; epoch = epoch; point = Listing found }) (keys_of_version w.rows txn) in
-    omega (arith, open_most w.rows after (sweep_ask after), asks_most txn found (keys_of_version w.rows txn))
-listed w txn epoch found verb FailsUnchanged = omega arith
-listed w txn epoch found verb FailsApplied = omega arith
+listed w txn epoch found verb fate = grind (arith, finish_long, undo_long)
 
 -- ---- the asks that are left list no keys
 abbrev NoKeys : Ask → Type 0
@@ -96,17 +66,10 @@ undo_no_keys t [] asked asks is = absurd (cc)
 undo_no_keys t (k ∷ ks) asked asks is = subst (λ (x : Ask). NoKeys x) (sym (same_Some asked (ask.Erase k t) (ap first_ask is))) tt
 
 left_no_keys : (w : State) (h : List Item) (t : ℕ) (asked : Ask) (asks : List Ask) → IsSweptAt w.rows w.pairs h t (Left (asked ∷ asks)) → NoKeys asked
-left_no_keys w h t asked asks (inl finish) = finish_no_keys t finish.0 finish.1.left asked asks finish.1.shape
-left_no_keys w h t asked asks (inr undo) = undo_no_keys t undo.0 asked asks undo.1
+left_no_keys w h t asked asks h1 = grind (arith, finish_no_keys, undo_no_keys)
 
 left_by : (w : State) (txn epoch : ℕ) (asked : Ask) (asks : List Ask) (verb : Verb) (fate : Fate) → NoKeys asked → let s : Sweeping = record { txn = txn; epoch = epoch; point = Left (asked ∷ asks) } in SweepLowers (length (asked ∷ asks)) verb (on_swept w (sweep_at s fate w.rows w.pairs (Some asked)))
-left_by w txn epoch (ask.Keys t) asks verb fate none = absurd none
-left_by w txn epoch (ask.Get t) asks verb fate none = met_lowers w (record { txn = txn; epoch = epoch; point = Left (ask.Get t ∷ asks) }) (ask.Get t) verb (length (ask.Get t ∷ asks)) fate (omega arith) (omega arith)
-left_by w txn epoch (ask.Mark t) asks verb fate none = met_lowers w (record { txn = txn; epoch = epoch; point = Left (ask.Mark t ∷ asks) }) (ask.Mark t) verb (length (ask.Mark t ∷ asks)) fate (omega arith) (omega arith)
-left_by w txn epoch (ask.Look k t) asks verb fate none = met_lowers w (record { txn = txn; epoch = epoch; point = Left (ask.Look k t ∷ asks) }) (ask.Look k t) verb (length (ask.Look k t ∷ asks)) fate (omega arith) (omega arith)
-left_by w txn epoch (ask.Shadow k t c) asks verb fate none = met_lowers w (record { txn = txn; epoch = epoch; point = Left (ask.Shadow k t c ∷ asks) }) (ask.Shadow k t c) verb (length (ask.Shadow k t c ∷ asks)) fate (omega arith) (omega arith)
-left_by w txn epoch (ask.Remove t) asks verb fate none = met_lowers w (record { txn = txn; epoch = epoch; point = Left (ask.Remove t ∷ asks) }) (ask.Remove t) verb (length (ask.Remove t ∷ asks)) fate (omega arith) (omega arith)
-left_by w txn epoch (ask.Erase k t) asks verb fate none = met_lowers w (record { txn = txn; epoch = epoch; point = Left (ask.Erase k t ∷ asks) }) (ask.Erase k t) verb (length (ask.Erase k t ∷ asks)) fate (omega arith) (omega arith)
+left_by w txn epoch asked asks verb fate none = grind arith
 
 -- ---- at each point
 sweep_lowers_at : (w : State) (h : List Item) (verb : Verb) (fate : Fate) (txn epoch : ℕ) (point : SweepPoint) → let s : Sweeping = record { txn = txn; epoch = epoch; point = point } in IsSweptAt w.rows w.pairs h txn point → (sweep_ask s ≡ None → ⊥) → SweepLowers (sweep_left_at (length (keys_of_version w.rows txn)) point) verb (on_swept w (sweep_at s fate w.rows w.pairs (sweep_ask s)))
@@ -118,8 +81,7 @@ sweep_lowers_at w h verb fate txn epoch (Left (asked ∷ rest)) knows asks = lef
 sweep_lowers_at w h verb fate txn epoch Undecided knows asks = absurd (asks refl)
 
 sweep_lowers_by : (w : State) (h : List Item) (verb : Verb) (fate : Fate) (sweep : Option Sweeping) → ReachedInvariant w h → w.sweep ≡ sweep → SweepLowers (1 + sweep_left w.rows sweep) verb (on_swept w (sweep_step_on fate sweep w.rows w.pairs))
-sweep_lowers_by w h verb fate None stands is = omega arith
-sweep_lowers_by w h verb fate (Some s) stands is = omega (arith, sweep_lowers_at w h verb fate s.txn s.epoch s.point (stands.holds.under_way.sweeping.knows s is) (stands.sound.sweeps.asks s is))
+sweep_lowers_by w h verb fate sweep stands is = grind (arith, sweep_lowers_at)
 
 -- the first step of a line, also where no sweep is open
 pub sweep_first : (w : State) (h : List Item) (verb : Verb) (fate : Fate) → ReachedInvariant w h → SweepLowers (1 + sweep_left w.rows w.sweep) verb (stepped w event.SweepStep fate)
@@ -127,8 +89,7 @@ sweep_first w h verb fate stands = sweep_lowers_by w h verb fate w.sweep stands 
 
 -- a step of an open sweep
 sweep_open_by : (w : State) (h : List Item) (verb : Verb) (fate : Fate) (s : Sweeping) (sweep : Option Sweeping) → ReachedInvariant w h → w.sweep ≡ sweep → sweep ≡ Some s → SweepLowers (sweep_left w.rows sweep) verb (on_swept w (sweep_step_on fate sweep w.rows w.pairs))
-sweep_open_by w h verb fate s None stands is there = absurd (cc)
-sweep_open_by w h verb fate s (Some open_now) stands is there = sweep_lowers_at w h verb fate open_now.txn open_now.epoch open_now.point (stands.holds.under_way.sweeping.knows open_now is) (stands.sound.sweeps.asks open_now is)
+sweep_open_by w h verb fate s sweep stands is there = grind (arith, sweep_lowers_at)
 
 pub sweep_lowers : (w : State) (h : List Item) (verb : Verb) (fate : Fate) (s : Sweeping) → ReachedInvariant w h → w.sweep ≡ Some s → SweepLowers (sweep_left w.rows w.sweep) verb (stepped w event.SweepStep fate)
 sweep_lowers w h verb fate s stands is = sweep_open_by w h verb fate s w.sweep stands refl is

@@ -1,15 +1,14 @@
 -- For turn_rules and log_refinement too.
 -- The nodes whose takes a history tells are those of the system, whatever events are made.
-use Rattle.command_semantics.proofs.Names.{◌≡◌, ℕ, zero, suc, ◌<◌, ◌==◌, Bool, true, false, ◌||◌, List, [], ◌∷◌, ◌++◌}
-use Rattle.command_semantics.proofs.Names.{Option, None, Some, ◌⊎◌, inl, inr, refl, sym, ◌∙◌, ap, subst, arith, length}
+use Rattle.command_semantics.proofs.Names.{◌≡◌, ℕ, zero, suc, ◌<◌, Bool, true, false, ◌||◌, List, [], ◌∷◌, ◌++◌}
+use Rattle.command_semantics.proofs.Names.{Option, None, Some, ◌⊎◌, inl, inr, refl, ◌∙◌, ap, subst, arith, length}
 use Rattle.command_semantics.proofs.Names.{fold, slice_get, IfSome, unwrap_or, option_or, eqb_tells, none-some}
 use Rattle.command_semantics.proofs.Names.{SetupNumbers, AreInRange, Fate, Actor, Item, told_then, last_told, of_post}
 use Rattle.command_semantics.proofs.Names.{of_both, leaves_parts, Event, State, Step, with_reading, stepped}
-use Rattle.command_semantics.proofs.Names.{ReachedInvariant, opener, IsTake, IsRenew, IsCrash, IsVanish, IsAskBegin}
+use Rattle.command_semantics.proofs.Names.{ReachedInvariant, opener, IsRenew, IsCrash, IsVanish, IsAskBegin}
 use Rattle.command_semantics.proofs.Names.{IsAskCommit, IsWrite, IsFetch, IsRefusal, IsReadOnly, taken_by, is_node}
 use Rattle.command_semantics.proofs.Names.{takes, has_take, HasTake, last_master}
 use Rattle.std.proofs.lemmas.List.Folds.{list_any-append}
-use Rattle.history_book.specs.declared.item.Item.TheVariants as item
 use Rattle.machine.proofs.LookedUp.{of_client}
 use Rattle.machine.specs.declared.event.Event.TheVariants as event
 use Rattle.command_semantics.proofs.AlwaysFit.{Fit}
@@ -20,19 +19,11 @@ use Rattle.command_semantics.proofs.PlainEvents.{events_plain}
 use Rattle.command_semantics.proofs.WorkItems.{CommitAnswer, WriteAnswer, FetchAnswer, starts, ask_commit_begins, write_begins, fetch_begins}
 
 -- ---- the last take
-itself : (n : ℕ) → (n == n) ≡ true
-itself n = elim (eqb_tells n n) [
-  | inl same ↦ same.0
-  | inr other ↦ absurd (other.1 refl)
-]
-
 later : (b : Bool) → (b || true) ≡ true
-later true = refl
-later false = refl
+later b = grind arith
 
 then_by : (P : ℕ → Type 0) (by last : Option ℕ) → IfSome last P → ((n : ℕ) → is_node n by ≡ true → P n) → IfSome (option_or by last) P
-then_by P None last was each = was
-then_by P (Some m) last was each = each m (itself m)
+then_by P by last was each = grind (arith, eqb_tells)
 
 -- what holds of each node that has taken the record, and of the last before, holds of the last
 last_by : (P : ℕ → Type 0) (h : List Item) (last : Option ℕ) → IfSome last P → ((n : ℕ) → HasTake h n → P n) → IfSome (fold (told_then taken_by) last h) P
@@ -40,8 +31,7 @@ last_by P [] last was each = was
 last_by P (x ∷ xs) last was each = last_by P xs (told_then taken_by last x) (then_by P (taken_by x) last was (λ n is. each n (ap (λ (b : Bool). b || has_take xs n) is))) (λ n is. each n (ap (λ (b : Bool). takes n x || b) is ∙ later (takes n x)))
 
 of_last : (P : ℕ → Type 0) (last : Option ℕ) → IfSome last P → P 0 → P (unwrap_or last 0)
-of_last P None some none = none
-of_last P (Some n) some none = some
+of_last P last some none = grind arith
 
 -- the last is the first node, or has taken the record
 pub last_has_taken : (h : List Item) → (last_master h ≡ 0) ⊎ HasTake h (last_master h)
@@ -54,16 +44,14 @@ pub record TakesFit (nodes : ℕ) (h : List Item) : Type 0 where
   pub there : (n : ℕ) → HasTake h n → n < nodes
 
 pub some_fits : (nodes : ℕ) (h : List Item) (n : ℕ) → TakesFit nodes h → (n ≡ 0) ⊎ HasTake h n → n < nodes
-some_fits nodes h n fit (inl first) = subst (λ (k : ℕ). k < nodes) (sym first) fit.some
-some_fits nodes h n fit (inr has) = fit.there n has
+some_fits nodes h n fit h1 = grind arith
 
 pub last_fits : (nodes : ℕ) (h : List Item) → TakesFit nodes h → last_master h < nodes
 last_fits nodes h fit = some_fits nodes h (last_master h) fit (last_has_taken h)
 
 -- ---- items that tell no take
 plain_item : (x : Item) → opener x ≡ None → taken_by x ≡ None
-plain_item (item.Take node reading term epoch until ceiling) plain = absurd (none-some _ (sym plain))
-plain_item _ plain = refl
+plain_item x plain = grind (arith, none-some)
 
 none_takes : (n : ℕ) (x : Item) → taken_by x ≡ None → takes n x ≡ false
 none_takes n x none = ap (λ (by : Option ℕ). is_node n by) none
@@ -73,85 +61,53 @@ unfolding AllPlain
 plain_none n [] plain = refl
 plain_none n (x ∷ xs) plain = ap (λ (b : Bool). b || has_take xs n) (none_takes n x (plain_item x plain.0)) ∙ plain_none n xs plain.1
 
-not_both : {X : Type 0} (b : Bool) → b ≡ false → b ≡ true → X
-not_both b none some = let clash : false ≡ true = sym none ∙ some in absurd (cc)
-
 -- ---- an event that opens a line tells the take of its own node alone
-or_false : (b : Bool) → (b || false) ≡ b
-or_false true = refl
-or_false false = refl
-
-first_in : (n : ℕ) (x : Item) (xs : List Item) → has_take xs n ≡ false → has_take (x ∷ xs) n ≡ true → takes n x ≡ true
-first_in n x xs none some = sym (ap (λ (b : Bool). takes n x || b) none ∙ or_false (takes n x)) ∙ some
-
 -- each node that the items tell to have taken the record is one of these
 abbrev TakesOf : (ℕ → Type 0) → List Item → Type 0
 TakesOf P items = (n : ℕ) → HasTake items n → P n
 
 begins_in : (P : ℕ → Type 0) (A : Item → Type 0) (items : List Item) → ((n : ℕ) (x : Item) → A x → takes n x ≡ true → P n) → Begins A items → TakesOf P items
-begins_in P A items each k n some = each n k.first k.answers (first_in n k.first k.rest (plain_none n k.rest k.plain) (ap (λ (xs : List Item). has_take xs n) (sym k.is) ∙ some))
+begins_in P A items each k n some = grind (arith, plain_none)
 
 no_take : (P : ℕ → Type 0) (A : Item → Type 0) (items : List Item) → ((x : Item) → A x → taken_by x ≡ None) → Begins A items → TakesOf P items
-no_take P A items none k = begins_in P A items (λ n x answers takes_it. not_both (takes n x) (none_takes n x (none x answers)) takes_it) k
+no_take P A items none k = grind (arith, plain_none)
 
 plain_takes : (P : ℕ → Type 0) (items : List Item) → AllPlain items → TakesOf P items
-plain_takes P items plain n some = not_both (has_take items n) (plain_none n items plain) some
+plain_takes P items plain n some = grind (arith, plain_none)
 
 either_none : (A B : Item → Type 0) → ((x : Item) → A x → taken_by x ≡ None) → ((x : Item) → B x → taken_by x ≡ None) → (x : Item) → A x ⊎ B x → taken_by x ≡ None
-either_none A B first second x (inl a) = first x a
-either_none A B first second x (inr b) = second x b
+either_none A B first second x h = grind arith
 
 refusal_none : (actor : Actor) (x : Item) → IsRefusal actor x → taken_by x ≡ None
-refusal_none actor (item.Refused who why) is = refl
-refusal_none actor (item.Fault who store) is = refl
-refusal_none actor _ is = absurd is
+refusal_none actor x is = grind arith
 
 renew_none : (n : ℕ) (x : Item) → IsRenew n x → taken_by x ≡ None
-renew_none n (item.Renew node reading term until) is = refl
-renew_none n _ is = absurd is
+renew_none n x is = grind arith
 
 crash_none : (n : ℕ) (x : Item) → IsCrash n x → taken_by x ≡ None
-crash_none n (item.Crash node term) is = refl
-crash_none n _ is = absurd is
+crash_none n x is = grind arith
 
 vanish_none : (s : ℕ) (x : Item) → IsVanish s x → taken_by x ≡ None
-vanish_none s (item.Vanish session) is = refl
-vanish_none s _ is = absurd is
+vanish_none s x is = grind arith
 
 begin_none : (s n : ℕ) (x : Item) → IsAskBegin s (λ asked. asked ≡ n) x → taken_by x ≡ None
-begin_none s n (item.AskBegin session node) is = refl
-begin_none s n _ is = absurd is
+begin_none s n x is = grind arith
 
 commit_none : (s n : ℕ) (x : Item) → IsAskCommit s (λ asked. asked ≡ n) x → taken_by x ≡ None
-commit_none s n (item.AskCommit session node start) is = refl
-commit_none s n _ is = absurd is
+commit_none s n x is = grind arith
 
 write_none : (s key : ℕ) (value : List ℕ) (x : Item) → IsWrite s key value x → taken_by x ≡ None
-write_none s key value (item.Write session start k v) is = refl
-write_none s key value _ is = absurd is
+write_none s key value x is = grind arith
 
 fetch_none : (s key : ℕ) (x : Item) → IsFetch s key x → taken_by x ≡ None
-fetch_none s key (item.Step actor what) is = refl
-fetch_none s key _ is = absurd is
+fetch_none s key x is = grind arith
 
 end_none : (s : ℕ) (x : Item) → IsReadOnly s x → taken_by x ≡ None
-end_none s (item.End session start how) is = refl
-end_none s _ is = absurd is
+end_none s x is = grind arith
 
 -- the take of a node
-is_itself : (a b : ℕ) → (a == b) ≡ true → a ≡ b
-is_itself a b is = elim (eqb_tells a b) [
-  | inl same ↦ same.1
-  | inr other ↦ not_both (a == b) other.0 is
-]
-
-own_take : (m n : ℕ) (x : Item) → IsTake m x → takes n x ≡ true → n ≡ m
-own_take m n (item.Take node reading term epoch until ceiling) is takes_it = sym (is_itself node n takes_it) ∙ is
-own_take m n _ is takes_it = absurd is
-
 takes_own : (P : ℕ → Type 0) (m : ℕ) → P m → (n : ℕ) (x : Item) → TakeAnswer m x → takes n x ≡ true → P n
-takes_own P m here n x (inl is) takes_it = subst P (sym (own_take m n x is takes_it)) here
-takes_own P m here n x (inr is) takes_it = not_both (takes n x) (none_takes n x (refusal_none _ x is)) takes_it
+takes_own P m here n x h takes_it = grind (arith, eqb_tells)
 
 -- ---- looking up the parts
 within : {X : Type 0} (xs : List X) (p : ℕ) (x : X) → slice_get xs p ≡ Some x → p < length xs
@@ -183,22 +139,13 @@ events_take w h (event.Fetch s key) fate stands fit = of_client (StepTakes (InSy
 events_take w h (event.Vanish s) fate stands fit = of_client (StepTakes (InSystem w)) w _ (slice_get w.clients s) (none_of (InSystem w)) (λ c at. no_take (InSystem w) _ _ (either_none _ _ (vanish_none s) (refusal_none _)) (vanish_begins s c))
 events_take w h e fate stands fit = plain_takes (InSystem w) _ (events_plain w e fate tt)
 
-or_cases : (a b : Bool) → (a || b) ≡ true → (a ≡ true) ⊎ (b ≡ true)
-or_cases true b is = inl refl
-or_cases false b is = inr is
-
 takes_of_both : (P : ℕ → Type 0) (h items : List Item) → TakesOf P h → TakesOf P items → TakesOf P (h ++ items)
-takes_of_both P h items before since n some = elim (or_cases (has_take h n) (has_take items n) (sym (list_any-append (takes n) h items) ∙ some)) [
-  | inl here ↦ before n here
-  | inr there ↦ since n there
-]
+takes_of_both P h items before since n some = grind (arith, list_any-append)
 
 pub takes_stay : (w : State) (h : List Item) (e : Event) (fate : Fate) → ReachedInvariant w h → Fit w → TakesFit w.setup.nodes h → TakesFit (stepped w e fate).state.setup.nodes (h ++ (stepped w e fate).items)
-takes_stay w h e fate stands fit takes_fit = subst (λ (setup : SetupNumbers). TakesFit setup.nodes (h ++ (stepped w e fate).items)) (sym (leaves_parts w e fate).setup) (record {
-  some = takes_fit.some;
-  there = takes_of_both (λ n. n < w.setup.nodes) h (stepped w e fate).items takes_fit.there (events_take w h e fate stands fit);
-})
+takes_stay w h e fate stands fit takes_fit =
+    grind (arith, leaves_parts, list_any-append, of_post, within, take_begins, renew_begins, crash_begins, of_both, ask_begin_begins, ask_commit_begins, starts, write_begins, fetch_begins, fit_at, vanish_begins, events_plain, plain_none, eqb_tells, takes_of_both, events_take)
 
 -- before the first event
 pub takes_at_first : (setup : SetupNumbers) → AreInRange setup → TakesFit setup.nodes []
-takes_at_first setup in_range = record { some = omega (arith, in_range.nodes.0); there = none_of (λ n. n < setup.nodes) }
+takes_at_first setup in_range = grind arith

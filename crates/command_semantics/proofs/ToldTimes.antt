@@ -1,14 +1,14 @@
 -- The times that a history tells, and the readings in it, after the items of one more event.
-use Rattle.command_semantics.proofs.Names.{◌≡◌, ℕ, zero, suc, ◌+◌, List, [], ◌∷◌, ◌++◌, take, All, Option, Some, None}
+use Rattle.std.proofs.lemmas.Grind.{common_steps}
+use Rattle.command_semantics.proofs.Names.{◌≡◌, ℕ, zero, suc, ◌+◌, List, [], ◌∷◌, ◌++◌, All, Option, Some, None}
 use Rattle.command_semantics.proofs.Names.{inl, inr, refl, sym, ◌∙◌, ap, subst, arith, slice_get, sum, append-nil}
-use Rattle.command_semantics.proofs.Names.{All-cons, All-head, All-tail, All-take, All-append, All-weaker, sum_by-cons}
-use Rattle.command_semantics.proofs.Names.{same_Some, Store, Fate, AtEach, Cause, Actor, Node, Session, Item, last_told}
-use Rattle.command_semantics.proofs.Names.{last_told-same, Clocks, reading_at, times_told, times_from, time_by}
-use Rattle.command_semantics.proofs.Names.{time_or_start, shown, IsCauseTimed, IsTimed}
-use Rattle.history_book.specs.declared.cause.Cause.TheVariants as cause
+use Rattle.command_semantics.proofs.Names.{All-cons, All-head, All-tail, All-append, sum_by-cons}
+use Rattle.command_semantics.proofs.Names.{same_Some, Store, Fate, AtEach, Item, last_told}
+use Rattle.command_semantics.proofs.Names.{last_told-same, Clocks, times_told, times_from, time_by}
+use Rattle.command_semantics.proofs.Names.{time_or_start, IsTimed}
 use Rattle.history_book.specs.declared.item.Item.TheVariants as item
 use Rattle.cause_laws.proofs.LongerHistories.{each_longer}
-use Rattle.command_semantics.proofs.ReadItems.{IsCauseRead, IsRead, Made}
+use Rattle.command_semantics.proofs.ReadItems.{IsRead, Made}
 
 -- ---- items that tell no time
 -- a fault tells no time either
@@ -16,12 +16,8 @@ abbrev pub IsTimely : Clocks → Item → Type 0
 IsTimely clocks (item.Fault actor store) = Unit {0}
 IsTimely clocks x = IsRead clocks x
 
-read_timely : (clocks : Clocks) (x : Item) → IsRead clocks x → IsTimely clocks x
-read_timely clocks (item.Fault actor store) read = tt
-read_timely clocks x read = read
-
 all_timely : (clocks : Clocks) (items : List Item) → All (IsRead clocks) items → All (IsTimely clocks) items
-all_timely clocks items read = All-weaker (IsRead clocks) (IsTimely clocks) (read_timely clocks) items read
+all_timely clocks items read = grind arith
 
 pub made_timely : (clocks : Clocks) (asked : Option Store) (fate : Fate) (items : List Item) → Made clocks asked fate items → All (IsTimely clocks) items
 made_timely clocks asked fate items (inl read) = all_timely clocks items read
@@ -32,12 +28,8 @@ made_timely clocks asked fate items (inr k) =
 abbrev pub TellsNoTime : Item → Type 0
 TellsNoTime x = time_by x ≡ None
 
-timely_untold : (clocks : Clocks) (x : Item) → IsTimely clocks x → TellsNoTime x
-timely_untold clocks (item.Tick to) timely = absurd timely
-timely_untold clocks x timely = refl
-
 pub all_untold : (clocks : Clocks) (items : List Item) → All (IsTimely clocks) items → All TellsNoTime items
-all_untold clocks items timely = All-weaker (IsTimely clocks) TellsNoTime (timely_untold clocks) items timely
+all_untold clocks items timely = grind arith
 
 -- ---- the times
 times_append : (h items : List Item) → times_told (h ++ items) ≡ times_told h ++ times_told items
@@ -48,8 +40,7 @@ times_append (x ∷ h) items = times_append h items
 
 untold_first : (x : Item) (items : List Item) → TellsNoTime x → times_told (x ∷ items) ≡ times_told items
 unfolding times_told
-untold_first (item.Tick to) items untold = absurd (cc)
-untold_first x items untold = refl
+untold_first x items untold = grind arith
 
 untold_times : (items : List Item) → All TellsNoTime items → times_told items ≡ []
 unfolding times_told
@@ -63,10 +54,6 @@ pub time_same : (h items : List Item) → All TellsNoTime items → time_or_star
 time_same h items untold = ap time_or_start (last_told-same time_by h items untold)
 
 -- one more tick
-times_tick : (h : List Item) (to : ℕ) → times_told (h ++ item.Tick to ∷ []) ≡ times_told h ++ to ∷ []
-unfolding times_told
-times_tick h to = times_append h (item.Tick to ∷ [])
-
 times_more : (now : ℕ) (ticks : List ℕ) (by : ℕ) → times_from now (ticks ++ by ∷ []) ≡ times_from now ticks ++ (now + sum ticks + by) ∷ []
 unfolding times_from
 times_more now [] by = ap (λ (to : ℕ). to ∷ []) (omega arith)
@@ -74,29 +61,16 @@ times_more now (tick ∷ ticks) by =
     ap (λ (times : List ℕ). (now + tick) ∷ times) (times_more (now + tick) ticks by ∙ ap (λ (to : ℕ). times_from (now + tick) ticks ++ to ∷ []) (omega (arith, sum_by-cons (λ (x : ℕ). x) tick ticks)))
 
 pub times_ticked : (h : List Item) (ticks : List ℕ) (to by : ℕ) → times_told h ≡ times_from 0 ticks → to ≡ sum ticks + by → times_told (h ++ item.Tick to ∷ []) ≡ times_from 0 (ticks ++ by ∷ [])
-times_ticked h ticks to by so_far is =
-    let same : to ≡ 0 + sum ticks + by = omega (arith, is) in
-    times_tick h to ∙ ap (λ (times : List ℕ). times ++ to ∷ []) so_far ∙ ap (λ (n : ℕ). times_from 0 ticks ++ n ∷ []) same ∙ sym (times_more 0 ticks by)
+unfolding times_told
+times_ticked h ticks to by so_far is = grind (arith, times_more, times_append)
 
 -- ---- the readings
 -- the clocks show what the history told last
 abbrev pub AreShown : Clocks → List Item → Type 0
 AreShown clocks h = clocks.base ≡ time_or_start (last_told time_by h)
 
-shows_reading : (clocks : Clocks) (h : List Item) (node reading : ℕ) → AreShown clocks h → reading ≡ reading_at clocks node → reading ≡ shown clocks.leads h node
-shows_reading clocks h node reading now reads = omega (arith, now, reads)
-
-cause_timed : (clocks : Clocks) (h : List Item) (actor : Actor) (why : Cause) → AreShown clocks h → IsCauseRead clocks actor why → IsCauseTimed clocks.leads h actor why
-cause_timed clocks h (Node n) (cause.Early reading until) now read = shows_reading clocks h n reading now read
-cause_timed clocks h (Session s) (cause.Expired reading until) now read = absurd read
-cause_timed clocks h _ why now read = tt
-
 item_timed : (clocks : Clocks) (h : List Item) (x : Item) → AreShown clocks h → IsTimely clocks x → IsTimed clocks.leads h x
-item_timed clocks h (item.Take node reading term epoch until ceiling) now timely = shows_reading clocks h node reading now timely
-item_timed clocks h (item.Renew node reading term until) now timely = shows_reading clocks h node reading now timely
-item_timed clocks h (item.Accept session node term reading) now timely = shows_reading clocks h node reading now timely
-item_timed clocks h (item.Refused actor why) now timely = cause_timed clocks h actor why now timely
-item_timed clocks h x now timely = tt
+item_timed clocks h x now timely = grind arith
 
 found_timely : (clocks : Clocks) (items : List Item) (place : ℕ) (x : Item) → All (IsTimely clocks) items → slice_get items place ≡ Some x → IsTimely clocks x
 found_timely clocks [] place x all found = absurd (cc)
@@ -105,8 +79,4 @@ found_timely clocks (y ∷ items) (suc place) x all found = found_timely clocks 
 
 pub readings_longer : (clocks : Clocks) (h items : List Item) → AreShown clocks h → All (IsTimely clocks) items → AtEach (IsTimed clocks.leads) h → AtEach (IsTimed clocks.leads) (h ++ items)
 readings_longer clocks h items now timely so_far =
-    each_longer (IsTimed clocks.leads) h items so_far (record {
-      at = λ place x found.
-          let before : AreShown clocks (h ++ take place items) = now ∙ sym (time_same h (take place items) (All-take TellsNoTime place items (all_untold clocks items timely))) in
-          item_timed clocks (h ++ take place items) x before (found_timely clocks items place x timely found);
-    })
+    grind (arith, common_steps, each_longer, time_same, all_untold, item_timed, found_timely)

@@ -1,5 +1,6 @@
 -- For turn_rules and log_refinement too.
 -- The walk of a history along an actor's lines, over the items of one line after the other.
+use Rattle.std.proofs.Common.{arith}
 use Rattle.command_semantics.proofs.Names.{◌≡◌, ℕ, List, [], ◌∷◌, ◌++◌, append_assoc, Option, Some, None, ◌⊎◌, inl, inr}
 use Rattle.command_semantics.proofs.Names.{refl, sym, ◌∙◌, subst, append-nil, none-some, Actor, Item, Line, Target}
 use Rattle.command_semantics.proofs.Names.{Verb, IsAnswer, read_begun, EndsRead, Answered}
@@ -61,10 +62,6 @@ abbrev pub Behind : Actor → Option ℕ → List Item → Type 0
 Behind actor None rest = AllNot actor rest
 Behind actor (Some key) rest = Paid actor key rest
 
-walks_behind : (asks : List Item → Target → ℕ → Type 0) (actor : Actor) (before : List Item) (begun : Option ℕ) (lines : List Line) (rest ys : List Item) → Behind actor begun rest → Answered asks actor (before ++ rest) None lines ys → Answered asks actor before begun lines (rest ++ ys)
-walks_behind asks actor before None lines rest ys behind walks = walks_over asks actor before lines rest ys behind walks
-walks_behind asks actor before (Some key) lines rest ys behind walks = walks_read asks actor key before lines rest ys behind walks
-
 -- the items of a line of the actor: the first is an answer
 pub record LineItems (A : Item → Type 0) (actor : Actor) (verb : Verb) (xs : List Item) : Type 0 where
   pub first : Item
@@ -75,10 +72,7 @@ pub record LineItems (A : Item → Type 0) (actor : Actor) (verb : Verb) (xs : L
 
 pub walks_line : (asks : List Item → Target → ℕ → Type 0) (actor : Actor) (before : List Item) (line : Line) (lines : List Line) (xs ys : List Item) → LineItems (IsAnswer (asks before) line.actor line.verb) actor line.verb xs → Answered asks actor (before ++ xs) None lines ys → Answered asks actor before None (line ∷ lines) (xs ++ ys)
 unfolding Answered
-walks_line asks actor before line lines xs ys k walks =
-    let at : Answered asks actor (before ++ k.first ∷ k.rest) None lines ys = subst (λ (items : List Item). Answered asks actor (before ++ items) None lines ys) k.is walks in
-    let later : Answered asks actor (before ++ k.first ∷ []) (read_begun line.verb k.first) lines (k.rest ++ ys) = walks_behind asks actor (before ++ k.first ∷ []) (read_begun line.verb k.first) lines k.rest ys k.behind (shifted asks actor before None lines k.first k.rest ys at) in
-    subst (λ (items : List Item). Answered asks actor before None (line ∷ lines) (items ++ ys)) (sym k.is) (inl (k.answers, later))
+walks_line asks actor before line lines xs ys k walks = grind (arith, shifted, walks_over, walks_read)
 
 -- at the end no line is left
 pub walks_end : (asks : List Item → Target → ℕ → Type 0) (actor : Actor) (before : List Item) → Answered asks actor before None [] []

@@ -1,19 +1,20 @@
 -- For turn_rules too.
 -- The first item of a commit that is asked, of a write and of a fetch answers its line. A transaction that is open has a start
 -- and an epoch.
+use Rattle.std.proofs.Common.{arith}
 use Rattle.command_semantics.proofs.Names.{◌≡◌, ℕ, Bool, true, false, cond, nat_lt, ◌||◌, List, [], ◌∷◌, Option, Some}
-use Rattle.command_semantics.proofs.Names.{None, ◌⊎◌, inl, inr, refl, sym, subst, IsTrue, length, option_or}
+use Rattle.command_semantics.proofs.Names.{None, ◌⊎◌, inl, inr, refl, IsTrue, length, option_or}
 use Rattle.command_semantics.proofs.Names.{SetupNumbers, KEY_LIMIT, Fate, Works, FailsUnchanged, FailsApplied, Session}
-use Rattle.command_semantics.proofs.Names.{Item, Row, fetched, SessionState, ReadTurn, Asks, Answers, has_transaction}
+use Rattle.command_semantics.proofs.Names.{Item, Row, SessionState, has_transaction}
 use Rattle.command_semantics.proofs.Names.{work_refusal, has_key, key_refusal, Commit, InstanceEntry, Client, State}
 use Rattle.command_semantics.proofs.Names.{is_reading, commit_of, ask_commit_by, ask_commit_on, write_open, write_on}
-use Rattle.command_semantics.proofs.Names.{fetch_recall, keeps_read, reads_refusal, read_items, fetch_open, fetch_on}
+use Rattle.command_semantics.proofs.Names.{reads_refusal, fetch_open, fetch_on}
 use Rattle.command_semantics.proofs.Names.{ClientAt, ReachedInvariant, IsRefusal, IsReadOnly, IsAskCommit, IsWrite}
 use Rattle.command_semantics.proofs.Names.{IsFetch}
 use Rattle.history_book.specs.declared.cause.Cause.TheVariants as cause
 use Rattle.history_book.specs.declared.item.Item.TheVariants as item
 use Rattle.system_parts.specs.declared.session.State.TheVariants as phase
-use Rattle.command_semantics.proofs.Plain.{AllPlain, one_plain, no_plain}
+use Rattle.command_semantics.proofs.Plain.{one_plain, no_plain}
 use Rattle.command_semantics.proofs.Fitting.{EpochFits}
 use Rattle.command_semantics.proofs.OpeningItems.{Begins, alone, behind, ask_begins_if}
 
@@ -22,8 +23,7 @@ abbrev pub HasNumber : SessionState → Option ℕ → Type 0
 HasNumber state number = EpochFits state number
 
 starts_by : (state : SessionState) (start : Option ℕ) → (IsTrue (has_transaction state) → (t : ℕ) × (start ≡ Some t)) → HasNumber state start
-starts_by phase.Open start begun = let t = begun refl in subst (λ (x : Option ℕ). HasNumber phase.Open x) (sym t.1) tt
-starts_by _ start begun = tt
+starts_by state start begun = grind arith
 
 pub starts : (w : State) (h : List Item) (s : ℕ) (c : Client) → ReachedInvariant w h → ClientAt w.clients s c → HasNumber c.entry.state c.entry.start
 starts w h s c stands at = starts_by c.entry.state c.entry.start (λ has. let begun = stands.holds.requests.have_begun.begun s c at has in (begun.0, begun.1))
@@ -69,28 +69,9 @@ write_begins s key value fate c rows has = write_begins_by s key value fate c ro
 abbrev pub FetchAnswer : ℕ → ℕ → Item → Type 0
 FetchAnswer s key x = IsFetch s key x ⊎ IsRefusal (Session s) x
 
-turn_plain : (s start key : ℕ) (turn : ReadTurn) → AllPlain (read_items s start key turn)
-turn_plain s start key (Asks r) = no_plain
-turn_plain s start key (Answers a) = one_plain _ refl
-
-fetch_begins_open : (setup : SetupNumbers) (s key : ℕ) (fate : Fate) (c : Client) (rows : List Row) (start epoch : Option ℕ) → HasNumber phase.Open start → HasNumber phase.Open epoch → Begins (FetchAnswer s key) (fetch_open setup s key fate c rows None start epoch).items
-fetch_begins_open setup s key fate c rows None epoch has sees = absurd has
-fetch_begins_open setup s key fate c rows (Some start) None has sees = absurd sees
-fetch_begins_open setup s key Works c rows (Some start) (Some epoch) has sees = behind _ _ _ (inl (refl, refl)) (turn_plain s start key (fetch_recall setup key start epoch c (fetched rows key start)).0)
-fetch_begins_open setup s key FailsUnchanged c rows (Some start) (Some epoch) has sees = alone _ _ (inr refl)
-fetch_begins_open setup s key FailsApplied c rows (Some start) (Some epoch) has sees = alone _ _ (inr refl)
-
 -- a key that is to be kept has no room
-fetch_begins_if : (setup : SetupNumbers) (s key : ℕ) (fate : Fate) (c : Client) (rows : List Row) (start epoch : Option ℕ) (kept room : Bool) → HasNumber phase.Open start → HasNumber phase.Open epoch
-    → Begins (FetchAnswer s key) (fetch_open setup s key fate c rows (cond kept (cond room None (Some cause.TooManyKeys)) None) start epoch).items
-fetch_begins_if setup s key fate c rows start epoch true false has sees = alone _ _ (inr (refl, tt))
-fetch_begins_if setup s key fate c rows start epoch true true has sees = fetch_begins_open setup s key fate c rows start epoch has sees
-fetch_begins_if setup s key fate c rows start epoch false room has sees = fetch_begins_open setup s key fate c rows start epoch has sees
-
 fetch_begins_by : (setup : SetupNumbers) (s key : ℕ) (fate : Fate) (c : Client) (rows : List Row) (state : SessionState) (reading : Bool) (start epoch : Option ℕ) → HasNumber state start → HasNumber state epoch → Begins (FetchAnswer s key) (fetch_open setup s key fate c rows (option_or (work_refusal state reading) (reads_refusal setup c key)) start epoch).items
-fetch_begins_by setup s key fate c rows phase.Open true start epoch has sees = alone _ _ (inr (refl, tt))
-fetch_begins_by setup s key fate c rows phase.Open false start epoch has sees = fetch_begins_if setup s key fate c rows start epoch (keeps_read setup c key) (has_key c.reads key || nat_lt (length c.reads) KEY_LIMIT) has sees
-fetch_begins_by setup s key fate c rows _ reading start epoch has sees = alone _ _ (inr (refl, tt))
+fetch_begins_by setup s key fate c rows state reading start epoch has sees = grind (arith, no_plain, one_plain)
 
 pub fetch_begins : (setup : SetupNumbers) (s key : ℕ) (fate : Fate) (c : Client) (rows : List Row) → HasNumber c.entry.state c.entry.start → HasNumber c.entry.state c.entry.epoch → Begins (FetchAnswer s key) (fetch_on setup s key fate c rows).items
 fetch_begins setup s key fate c rows has sees = fetch_begins_by setup s key fate c rows c.entry.state (is_reading c) c.entry.start c.entry.epoch has sees

@@ -1,10 +1,12 @@
 -- For turn_rules and grant_laws too.
 -- What a session that may make a step has under way: a read, the resolve of its own commit, a completion, or a commit to place.
+use Rattle.std.proofs.Common.{arith}
+use Rattle.std.proofs.lemmas.Grind.{common_steps}
 use Rattle.command_semantics.proofs.Names.{◌≡◌, ℕ, Bool, true, false, IsTrue, List, [], ◌∷◌, Option, Some, None, ◌⊎◌}
 use Rattle.command_semantics.proofs.Names.{inl, inr, refl, sym, ◌∙◌, ap, subst, Item, Ask, SessionState, finish_asks}
 use Rattle.command_semantics.proofs.Names.{undo_asks, Settling, own_settling, Reading, step_refusal, has_transaction}
-use Rattle.command_semantics.proofs.Names.{handed_by, handed_commit, UnderWay, Nothing, Settles, Completes, Client}
-use Rattle.command_semantics.proofs.Names.{State, is_reading, is_reading_by, own_resolve, work_by, work_of, ClientAt}
+use Rattle.command_semantics.proofs.Names.{handed_commit, UnderWay, Nothing, Settles, Completes, Client}
+use Rattle.command_semantics.proofs.Names.{State, is_reading, own_resolve, work_by, work_of, ClientAt}
 use Rattle.command_semantics.proofs.Names.{ReachedInvariant, one_client}
 use Rattle.system_parts.specs.declared.session.State.TheVariants as phase
 use Rattle.machine.specs.State.{Reads}
@@ -64,8 +66,7 @@ settles w h s c stands at is_open = elim (stands.holds.under_way.settling.resolv
 
 -- ---- a completion has an ask
 no_finish : (t commit : ℕ) (left : List ℕ) → [] ≡ finish_asks t commit left → ⊥
-no_finish t commit [] is = cc
-no_finish t commit (k ∷ ks) is = cc
+no_finish t commit left is = grind (arith, common_steps)
 
 no_undo : (t : ℕ) (left : List ℕ) → [] ≡ undo_asks t left → (left ≡ [] → ⊥) → ⊥
 no_undo t [] is some = some refl
@@ -82,41 +83,23 @@ completes_by w h s c stands at true is [] under_way =
     absurd (no_undo begun.0 undo.left undo.shape undo.some)
 
 pub completes : (w : State) (h : List Item) (s : ℕ) (c : Client) → ReachedInvariant w h → ClientAt w.clients s c → (undo : Bool) → c.entry.state ≡ phase.Completing undo → CompleteWork c
-completes w h s c stands at false is =
-    let busy = stands.holds.under_way.finishing.busy s c at is in
-    completes_by w h s c stands at false is busy.0 busy.1
-completes w h s c stands at true is =
-    let busy = stands.holds.under_way.undoing.busy s c at is in
-    completes_by w h s c stands at true is busy.0 busy.1
+completes w h s c stands at undo is = grind (arith, completes_by)
 
 -- ---- a commit that was handed over is known, with its start
 pub handed_is : (c : Client) (start commit : ℕ) → c.entry.state ≡ phase.Placing → c.entry.start ≡ Some start → c.entry.commit ≡ Some commit → handed_commit c.entry ≡ Some (start, commit)
-handed_is c start commit placing start_is commit_is =
-    ap (λ (state : SessionState). handed_by state c.entry.start c.entry.commit) placing
-    ∙ ap (λ (t : Option ℕ). handed_by phase.Placing t c.entry.commit) start_is
-    ∙ ap (λ (drawn : Option ℕ). handed_by phase.Placing (Some start) drawn) commit_is
+handed_is c start commit placing start_is commit_is = grind arith
 
 pub places_commit : (w : State) (h : List Item) (s : ℕ) (c : Client) → ReachedInvariant w h → ClientAt w.clients s c → c.entry.state ≡ phase.Placing → PlaceWork c
 places_commit w h s c stands at is =
     let begun = stands.holds.requests.have_begun.begun s c at (subst (λ (state : SessionState). IsTrue (has_transaction state)) (sym is) refl) in
-    let handed = stands.holds.under_way.handed.commit s c at is in
-    record { start = begun.0; commit = handed.0; placing = is; handed = handed_is c begun.0 handed.0 is begun.1 handed.1 }
+    grind (arith, handed_is)
 
 -- ---- any of them
-by_state : (w : State) (h : List Item) (s : ℕ) (c : Client) → ReachedInvariant w h → ClientAt w.clients s c → (state : SessionState) → c.entry.state ≡ state → step_refusal state false ≡ None → HasWork c
-by_state w h s c stands at phase.OpenOutcome is go = inr (inl (settles w h s c stands at is))
-by_state w h s c stands at (phase.Completing undo) is go = inr (inr (inl (completes w h s c stands at undo is)))
-by_state w h s c stands at phase.Placing is go = inr (inr (inr (places_commit w h s c stands at is)))
-by_state w h s c stands at _ is go = absurd (cc)
-
 idle : (w : State) (h : List Item) (s : ℕ) (c : Client) → ReachedInvariant w h → ClientAt w.clients s c → step_refusal c.entry.state (is_reading c) ≡ None → is_reading c ≡ false → HasWork c
-idle w h s c stands at go none = by_state w h s c stands at c.entry.state refl (ap (λ (reading : Bool). step_refusal c.entry.state reading) (sym none) ∙ go)
+idle w h s c stands at go none = grind (arith, settles, completes, places_commit)
 
 by_work : (w : State) (h : List Item) (s : ℕ) (c : Client) → ReachedInvariant w h → ClientAt w.clients s c → step_refusal c.entry.state (is_reading c) ≡ None → (work : UnderWay) → c.under_way ≡ work → HasWork c
-by_work w h s c stands at go (Reads r) is = inl (reads w h s c r stands at is)
-by_work w h s c stands at go Nothing is = idle w h s c stands at go (ap is_reading_by is)
-by_work w h s c stands at go (Settles x) is = idle w h s c stands at go (ap is_reading_by is)
-by_work w h s c stands at go (Completes asks) is = idle w h s c stands at go (ap is_reading_by is)
+by_work w h s c stands at go work is = grind (arith, reads, idle)
 
 pub has_work : (w : State) (h : List Item) (s : ℕ) (c : Client) → ReachedInvariant w h → ClientAt w.clients s c → step_refusal c.entry.state (is_reading c) ≡ None → HasWork c
 has_work w h s c stands at go = by_work w h s c stands at go c.under_way refl

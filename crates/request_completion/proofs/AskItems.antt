@@ -1,20 +1,18 @@
 -- Which items ask: where a session's own client does not, what stands since its last ask grows longer.
-use Rattle.request_completion.proofs.Names.{◌≡◌, ℕ, ◌+◌, Bool, true, false, if◌then◌else◌, List, [], ◌∷◌, ◌++◌, Option}
+use Rattle.std.proofs.Common.{arith}
+use Rattle.request_completion.proofs.Names.{◌≡◌, ℕ, Bool, true, false, List, [], ◌∷◌, ◌++◌, Option}
 use Rattle.request_completion.proofs.Names.{None, Some, inl, inr, refl, sym, ◌∙◌, ap, subst, All, cases_eq, ne_eqb}
-use Rattle.request_completion.proofs.Names.{All-nil, All-cons, All-append, All-weaker, ◌∈◌, Session, Handed, Item}
-use Rattle.request_completion.proofs.Names.{in_front, in_back, granted, SettleTurn, Goes, Decides, settle_ask}
-use Rattle.request_completion.proofs.Names.{settle_turn, Held, Request, Begin, Commit, Settled, Client, State, told_by}
-use Rattle.request_completion.proofs.Names.{loss_heard, loss_items, crashed_items, all_crashed_items, draw_item}
-use Rattle.request_completion.proofs.Names.{settle_items, rules_of, take_item, ask_by, asks_for, its_ask, since_ask}
-use Rattle.request_completion.proofs.Names.{ClientAt, one_client, not_true, Silent, AllSilent, fault_if, answered_item}
-use Rattle.request_completion.proofs.Names.{own_told, Outcome, OfGranted, OfCrashed, OfAskedBegin, OfAskedCommit}
-use Rattle.request_completion.proofs.Names.{OfAccepted, OfEnded, OfDrew, OfAnsweredBegin, OfAnsweredCommit, OfHanded}
-use Rattle.request_completion.proofs.Names.{OfOwnPlaced, OfOwnNotPlaced, OfOutcome, told_by_outcome, fault_if_silent}
+use Rattle.request_completion.proofs.Names.{All-nil, All-cons, All-append, ◌∈◌, Item}
+use Rattle.request_completion.proofs.Names.{in_front, in_back, SettleTurn, Goes, Decides}
+use Rattle.request_completion.proofs.Names.{Held, Request, Begin, Commit, Settled, Client, State}
+use Rattle.request_completion.proofs.Names.{crashed_items, all_crashed_items, draw_item}
+use Rattle.request_completion.proofs.Names.{settle_items, asks_for, its_ask, since_ask}
+use Rattle.request_completion.proofs.Names.{ClientAt, one_client, not_true, Silent, answered_item}
+use Rattle.request_completion.proofs.Names.{own_told, Outcome, OfAskedBegin, OfAskedCommit}
+use Rattle.request_completion.proofs.Names.{told_by_outcome, fault_if_silent}
 use Rattle.request_completion.proofs.Names.{silent_items}
-use Rattle.history_book.specs.declared.cause.Cause.TheVariants as cause
 use Rattle.history_book.specs.declared.item.Item.TheVariants as item
 use Rattle.system_parts.specs.declared.resolve.Outcome.TheVariants as outcome
-use Rattle.system_parts.specs.declared.session.State as state
 use Rattle.system_parts.specs.declared.session.State.TheVariants as phase
 use Rattle.system_parts.specs.declared.instance.Settled.TheVariants as how
 use Rattle.cause_laws.proofs.SinceWords.{last_told-same, since-more}
@@ -26,31 +24,20 @@ abbrev pub NoneAsked : ℕ → List Item → Type 0
 NoneAsked s items = All (NotAsked s) items
 
 -- ---- since the last ask
-not_told : (s : ℕ) (x : Item) → NotAsked s x → ask_by s x ≡ None
-not_told s (item.AskBegin session node) none = ap (λ (b : Bool). if b then Some (record { node = node; start = None }) else None) none
-not_told s (item.AskCommit session node start) none = ap (λ (b : Bool). if b then Some (record { node = node; start = Some start }) else None) none
-not_told s _ none = refl
-
 pub ask_stays : (h items : List Item) (s : ℕ) → NoneAsked s items → its_ask (h ++ items) s ≡ its_ask h s
-ask_stays h items s none = last_told-same (ask_by s) h items (All-weaker (NotAsked s) (λ x. ask_by s x ≡ None) (λ x one. not_told s x one) items none)
-
-pub since_grows : (h items : List Item) (s : ℕ) → NoneAsked s items → since_ask (h ++ items) s ≡ since_ask h s ++ items
-since_grows h items s none = since-more (asks_for s) h items none
+ask_stays h items s none = grind (arith, last_told-same)
 
 pub since_was : (x : Item) (h items : List Item) (s : ℕ) → NoneAsked s items → x ∈ since_ask h s → x ∈ since_ask (h ++ items) s
-since_was x h items s none m = subst (λ (xs : List Item). x ∈ xs) (sym (since_grows h items s none)) (in_front x (since_ask h s) items m)
+since_was x h items s none m = grind (arith, since-more, in_front)
 
 pub since_now : (x : Item) (h items : List Item) (s : ℕ) → NoneAsked s items → x ∈ items → x ∈ since_ask (h ++ items) s
-since_now x h items s none m = subst (λ (xs : List Item). x ∈ xs) (sym (since_grows h items s none)) (in_back x (since_ask h s) items m)
+since_now x h items s none m = grind (arith, since-more, in_back)
 
 -- ---- items that ask nothing
 silent_asks : (s : ℕ) (x : Item) → Silent x → NotAsked s x
 silent_asks s (item.AskBegin session node) silent = absurd (not_true silent)
 silent_asks s (item.AskCommit session node start) silent = absurd (not_true silent)
 silent_asks s _ silent = refl
-
-pub silent_unasked : (s : ℕ) (items : List Item) → AllSilent items → NoneAsked s items
-silent_unasked s items silent = All-weaker Silent (NotAsked s) (λ x one. silent_asks s x one) items silent
 
 pub one_unasked : (s : ℕ) (x : Item) → NotAsked s x → NoneAsked s (x ∷ [])
 one_unasked s x none = All-cons (NotAsked s) x [] none (All-nil (NotAsked s))
@@ -67,13 +54,8 @@ answered_asks s how.Placed session start commit = refl
 answered_asks s how.Invalid session start commit = refl
 answered_asks s how.Faulted session start commit = refl
 
-two_unasked : (s : ℕ) (x y : Item) → NotAsked s x → NotAsked s y → NoneAsked s (x ∷ y ∷ [])
-two_unasked s x y one two = All-cons (NotAsked s) x (y ∷ []) one (one_unasked s y two)
-
 own_unasked : (s : ℕ) (by : Settled) (session start commit : ℕ) → NoneAsked s (own_told by session start commit)
-own_unasked s how.Placed session start commit = one_unasked s (item.Committed session start commit) refl
-own_unasked s how.Invalid session start commit = two_unasked s _ _ refl refl
-own_unasked s how.Faulted session start commit = two_unasked s _ _ refl refl
+own_unasked s by session start commit = grind (arith, one_unasked)
 
 settle_unasked : (s r : ℕ) (start : Option ℕ) (turn : SettleTurn) → NoneAsked s (settle_items r start turn)
 settle_unasked s r (Some start) (Decides (outcome.Committed commit by_table)) = one_unasked s _ refl
@@ -81,17 +63,8 @@ settle_unasked s r (Some start) (Decides outcome.Dead) = one_unasked s _ refl
 settle_unasked s r (Some start) (Goes point) = All-nil (NotAsked s)
 settle_unasked s r None turn = All-nil (NotAsked s)
 
-heard_unasked : (s : ℕ) (heard : state.State) (items : List Item) → NoneAsked s items → NoneAsked s (loss_heard heard items)
-heard_unasked s phase.Gone items none = All-nil (NotAsked s)
-heard_unasked s _ items none = none
-
-loss_unasked : (s node term : ℕ) (request : Request) (c : Client) → NoneAsked s (loss_items node term request c)
-loss_unasked s node term (Begin session) c = heard_unasked s c.entry.state _ (one_unasked s (item.Refused (Session session) (cause.Crashed node term)) refl)
-loss_unasked s node term (Commit session start keys) c = heard_unasked s c.entry.state _ (one_unasked s (item.Refused (Session session) (cause.Open start)) refl)
-
 lost_unasked : (s node term : ℕ) (held : Option Held) (c : Client) → NoneAsked s (crashed_items node term held c)
-lost_unasked s node term None c = All-nil (NotAsked s)
-lost_unasked s node term (Some held) c = loss_unasked s node term held.request c
+lost_unasked s node term held c = grind (arith, one_unasked)
 
 crash_unasked : (s node term : ℕ) (requests : List (Option Held)) (cs : List Client) → NoneAsked s (all_crashed_items node term requests cs)
 unfolding all_crashed_items
@@ -106,22 +79,8 @@ is_asking (OfAskedCommit k) = true
 is_asking _ = false
 
 pub plain_asks : (w : State) (o : Outcome w) (s : ℕ) → is_asking o ≡ false → NoneAsked s (told_by_outcome w o)
-plain_asks w (OfGranted k) s is = these_unasked s k.items _ k.tells (All-cons (NotAsked s) (take_item k.node k.reading (granted (rules_of w.setup) w.master k.reading)) (fault_if k.failed k.node) refl (silent_unasked s (fault_if k.failed k.node) (fault_if_silent k.failed k.node)))
-plain_asks w (OfCrashed k) s is = these_unasked s k.items _ k.tells (All-cons (NotAsked s) (item.Crash k.node k.i.term) (all_crashed_items k.node k.i.term k.i.requests w.clients) refl (crash_unasked s k.node k.i.term k.i.requests w.clients))
-plain_asks w (OfAccepted k) s is = these_unasked s k.items _ k.tells (one_unasked s (item.Accept k.session k.node k.i.term k.reading) refl)
-plain_asks w (OfEnded k) s is = these_unasked s k.items _ k.tells (one_unasked s (item.Refused (Session k.session) k.why) refl)
-plain_asks w (OfDrew k) s is = one_unasked s _ (draw_asks s k.node k.i.term (k.i.last + 1) k.held.request)
-plain_asks w (OfAnsweredBegin k) s is = one_unasked s (item.Begin k.session k.start) refl
-plain_asks w (OfAnsweredCommit k) s is = these_unasked s k.items _ k.tells (one_unasked s _ (answered_asks s k.by k.session k.start k.commit))
-plain_asks w (OfHanded k) s is = these_unasked s k.items _ k.tells (one_unasked s (item.Step (Session k.session) (Handed k.start k.commit)) refl)
-plain_asks w (OfOwnPlaced k) s is = All-cons (NotAsked s) (item.Placed k.it.start k.it.commit) k.items refl (these_unasked s k.items _ k.tells (own_unasked s k.by k.it.session k.it.start k.it.commit))
-plain_asks w (OfOwnNotPlaced k) s is = these_unasked s k.items _ k.tells (own_unasked s k.by k.it.session k.it.start k.it.commit)
-plain_asks w (OfOutcome k) s is =
-    let turn : SettleTurn = settle_turn k.x (told_by (settle_ask k.x) w.rows w.pairs) in
-    these_unasked s k.items _ k.tells (All-cons (NotAsked s) k.first (settle_items k.it.session k.it.c.entry.start turn) (silent_asks s k.first k.silent) (settle_unasked s k.it.session k.it.c.entry.start turn))
-plain_asks w (OfAskedBegin k) s is = absurd (cc)
-plain_asks w (OfAskedCommit k) s is = absurd (cc)
-plain_asks w o s is = silent_unasked s (told_by_outcome w o) (silent_items w o refl)
+plain_asks w o s is =
+    grind (arith, these_unasked, silent_asks, fault_if_silent, crash_unasked, one_unasked, draw_asks, answered_asks, own_unasked, settle_unasked, silent_items)
 
 -- nobody asks for the session, or its own client does
 pub data Asking (w : State) (s : ℕ) (items : List Item) : Type 0 where

@@ -1,7 +1,8 @@
 -- Who asks was free, or had its transaction open, and the ask is told alone.
-use Rattle.request_completion.proofs.Names.{◌≡◌, ℕ, true, false, List, [], ◌∷◌, Some, inl, inr, refl, sym, ◌∙◌, ap}
-use Rattle.request_completion.proofs.Names.{subst, slice_set, eq-eqb, All-head, All-tail, ◌∈◌, Item, asked_state}
-use Rattle.request_completion.proofs.Names.{Client, State, client_asked, ClientAt, each_outcome, client_set, one_client}
+use Rattle.std.proofs.Common.{arith}
+use Rattle.request_completion.proofs.Names.{◌≡◌, ℕ, true, false, List, [], ◌∷◌, inl, inr, refl, sym, ◌∙◌}
+use Rattle.request_completion.proofs.Names.{subst, slice_set, eq-eqb, All-head, All-tail, ◌∈◌, Item}
+use Rattle.request_completion.proofs.Names.{Client, State, ClientAt, each_outcome, client_set, one_client}
 use Rattle.request_completion.proofs.Names.{AskedBegin, asked_begin_state, asked_begin_items, AskedCommit}
 use Rattle.request_completion.proofs.Names.{asked_commit_state, Outcome, OfAskedBegin, OfAskedCommit, left_by}
 use Rattle.request_completion.proofs.Names.{told_by_outcome, TakesAsks, AsksAreTurns}
@@ -33,44 +34,18 @@ set_is w r s old new c d same was at there = (
 )
 
 -- ---- a begin
-begin_same : (s n r m : ℕ) → item.AskBegin s n ≡ item.AskBegin r m → (r ≡ s) × (m ≡ n)
-begin_same s n r m same = (cc, cc)
-
 pub commit_same : (s n t r m u : ℕ) → item.AskCommit s n t ≡ item.AskCommit r m u → (r ≡ s) × (m ≡ n) × (u ≡ t)
 commit_same s n t r m u same = (cc, cc, cc)
-
-commit_begins_not : (s n r m t : ℕ) → item.AskBegin s n ≡ item.AskCommit r m t → ⊥
-commit_begins_not s n r m t same = cc
 
 pub begin_commits_not : (s n t r m : ℕ) → item.AskCommit s n t ≡ item.AskBegin r m → ⊥
 begin_commits_not s n t r m same = cc
 
 begin_taken : (w : State) (k : AskedBegin w) (s : ℕ) (c d : Client) → ClientAt w.clients s c → ClientAt (asked_begin_state w k).clients s d → TakesAsks s c (asked_begin_items w k) d
-begin_taken w k s c d at there = record {
-  begins = λ node m.
-      let same : (k.session ≡ s) × (k.node ≡ node) = begin_same s node k.session k.node (only_is _ _ m) in
-      let set : (k.c ≡ c) × (d ≡ client_asked k.c) = set_is w k.session s k.c (client_asked k.c) c d same.0 k.client_at at there in
-      (ap (λ (x : Client). x.entry.state) (sym set.0) ∙ k.free, ap (λ (x : Client). x.entry.state) set.1 ∙ ap asked_state k.free, ap (λ (q : ℕ). item.AskBegin q k.node ∷ []) same.0 ∙ ap (λ (q : ℕ). item.AskBegin s q ∷ []) same.1);
-  commits = λ node start m. absurd (begin_commits_not s node start k.session k.node (only_is _ _ m));
-}
+begin_taken w k s c d at there = grind (arith, only_is, set_is, begin_commits_not)
 
 -- ---- a commit
 commit_taken : (w : State) (k : AskedCommit w) (s : ℕ) (c d : Client) → ClientAt w.clients s c → ClientAt (asked_commit_state w k).clients s d → TakesAsks s c k.items d
-commit_taken w k s c d at there = record {
-  begins = λ node m. absurd (commit_begins_not s node k.session k.node k.start (only_is _ _ (among _ k.items (item.AskCommit k.session k.node k.start ∷ []) k.tells m)));
-  commits = λ node start m.
-      let same : (k.session ≡ s) × (k.node ≡ node) × (k.start ≡ start) = commit_same s node start k.session k.node k.start (only_is _ _ (among _ k.items (item.AskCommit k.session k.node k.start ∷ []) k.tells m)) in
-      let set : (k.c ≡ c) × (d ≡ client_asked k.c) = set_is w k.session s k.c (client_asked k.c) c d same.0 k.client_at at there in
-      let start_is : k.c.entry.start ≡ Some start = k.start_is ∙ ap Some same.2 in
-      let told : item.AskCommit k.session k.node k.start ∷ [] ≡ item.AskCommit s node start ∷ [] =
-      ap (λ (q : ℕ). item.AskCommit q k.node k.start ∷ []) same.0 ∙ (ap (λ (q : ℕ). item.AskCommit s q k.start ∷ []) same.1 ∙ ap (λ (q : ℕ). item.AskCommit s node q ∷ []) same.2) in (
-        ap (λ (x : Client). x.entry.state) (sym set.0) ∙ k.is_open,
-        ap (λ (x : Client). x.entry.state) set.1 ∙ ap asked_state k.is_open,
-        ap (λ (x : Client). x.entry.start) (sym set.0) ∙ start_is,
-        ap (λ (x : Client). x.entry.start) set.1 ∙ start_is,
-        k.tells ∙ told,
-      );
-}
+commit_taken w k s c d at there = grind (arith, only_is, among, commit_same, set_is)
 
 -- ---- every outcome
 none_taken : (s : ℕ) (c d : Client) (items : List Item) → NoneAsked s items → TakesAsks s c items d

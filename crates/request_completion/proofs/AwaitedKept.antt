@@ -1,12 +1,13 @@
 -- Every outcome keeps that a node holds the request of each session that waits for the end of its commit.
-use Rattle.request_completion.proofs.Names.{◌≡◌, ℕ, ◌<◌, Bool, true, false, List, [], ◌∷◌, length, Option, None, Some}
-use Rattle.request_completion.proofs.Names.{inl, inr, refl, sym, ◌∙◌, ap, subst, slice_set, cases_eq, cases_lt}
-use Rattle.request_completion.proofs.Names.{get_or_past, same_Some, none-some, Item, SessionState, SessionEntry}
-use Rattle.request_completion.proofs.Names.{aborted_by, Held, Request, Begin, Commit, Settled, InstanceEntry, held_of}
+use Rattle.std.proofs.Common.{arith}
+use Rattle.request_completion.proofs.Names.{◌≡◌, ℕ, ◌<◌, Bool, true, false, List, length, Option, None, Some}
+use Rattle.request_completion.proofs.Names.{inl, inr, sym, ◌∙◌, ap, subst, slice_set, cases_eq, cases_lt}
+use Rattle.request_completion.proofs.Names.{get_or_past, same_Some, none-some, Item}
+use Rattle.request_completion.proofs.Names.{Held, Request, Begin, Commit, Settled, InstanceEntry, held_of}
 use Rattle.request_completion.proofs.Names.{with_request, without_request, instance_stopped, held_of-with_request_same}
 use Rattle.request_completion.proofs.Names.{held_of-with_request_other, Client, State, client_begun, client_freed}
-use Rattle.request_completion.proofs.Names.{client_aborted, client_handed, client_opened, unless_gone, unless_gone_by}
-use Rattle.request_completion.proofs.Names.{after_refusal, after_loss, crashed_client, InstanceAt, ClientAt, set_found}
+use Rattle.request_completion.proofs.Names.{client_aborted, client_handed, unless_gone}
+use Rattle.request_completion.proofs.Names.{after_refusal, crashed_client, InstanceAt, ClientAt, set_found}
 use Rattle.request_completion.proofs.Names.{set_other, client_set, one_instance, StillBy, RestsBy, Stops, TellsOne}
 use Rattle.request_completion.proofs.Names.{Granted, granted_nodes, Renewed, renewed_nodes, Extended, extended_nodes}
 use Rattle.request_completion.proofs.Names.{Crashed, crashed_state, AtDrawn, settled_nodes, answered_client, Outcome}
@@ -76,19 +77,11 @@ extended_held w g s true k = k
 extended_held w g s false k = put_held w.nodes g.node s g.i _ g.at (holds_same g.i s) k
 
 -- ---- whoever waits on was not answered
-unlike_gone : (old new : Client) (state : SessionState) → old.entry.state ≡ state → (new.entry.state ≡ phase.Committing → ⊥) → (unless_gone_by state old new).entry.state ≡ phase.Committing → ⊥
-unlike_gone old new phase.Gone gone not waits = let clash : phase.Gone ≡ phase.Committing = sym gone ∙ waits in cc
-unlike_gone old new _ is not waits = not waits
-
 heard_not : (old new : Client) → (new.entry.state ≡ phase.Committing → ⊥) → (unless_gone old new).entry.state ≡ phase.Committing → ⊥
-heard_not old new not waits = unlike_gone old new old.entry.state refl not waits
-
-aborted_not_by : (e : SessionEntry) (keys : List ℕ) → (aborted_by e keys).state ≡ phase.Committing → ⊥
-aborted_not_by e [] waits = cc
-aborted_not_by e (key ∷ keys) waits = cc
+heard_not old new not waits = grind arith
 
 pub aborted_not : (c : Client) → (client_aborted c).entry.state ≡ phase.Committing → ⊥
-aborted_not c waits = aborted_not_by c.entry c.entry.keys waits
+aborted_not c waits = grind arith
 
 refused_not : (request : Request) (c : Client) → (after_refusal request c).entry.state ≡ phase.Committing → ⊥
 refused_not (Begin asker) c waits = heard_not c (client_freed c) (λ is. cc) waits
@@ -99,10 +92,6 @@ answered_not how.Placed c commit waits = cc
 answered_not how.Invalid c commit waits = aborted_not c waits
 answered_not how.Faulted c commit waits = cc
 
-lost_not : (request : Request) (c : Client) → (after_loss request c).entry.state ≡ phase.Committing → ⊥
-lost_not (Begin asker) c waits = heard_not c (client_freed c) (λ is. cc) waits
-lost_not (Commit asker start keys) c waits = heard_not c (client_opened c) (λ is. cc) waits
-
 -- a session that waits on is not the one that is set
 not_set : (w : State) (r s : ℕ) (new d : Client) → (new.entry.state ≡ phase.Committing → ⊥) → ClientAt (slice_set w.clients r new) s d → d.entry.state ≡ phase.Committing → s ≡ r → ⊥
 not_set w r s new d not there waits same = elim (client_set w.clients r s new d there) [
@@ -111,8 +100,7 @@ not_set w r s new d not there waits same = elim (client_set w.clients r s new d 
 ]
 
 crash_not_by : (found : Option Held) (c : Client) → (crashed_client found c).entry.state ≡ phase.Committing → (held : Held) → found ≡ Some held → ⊥
-crash_not_by None c waits held is = none-some held is
-crash_not_by (Some lost) c waits held is = lost_not lost.request c waits
+crash_not_by found c waits held is = grind (arith, none-some, heard_not)
 
 crash_not : (w : State) (g : Crashed w) (s : ℕ) (c d : Client) (k : IsHeld w.nodes s) → ClientAt w.clients s c → ClientAt (crashed_state w g).clients s d → d.entry.state ≡ phase.Committing → k.node ≡ g.node → ⊥
 crash_not w g s c d k at there waits same =

@@ -1,13 +1,12 @@
 -- One event: a step that a session has still to make is made, fails, or is left; or the session vanishes.
+use Rattle.std.proofs.Common.{arith}
 use Rattle.request_completion.proofs.Names.{◌≡◌, ℕ, Bool, List, [], ◌∷◌, ◌++◌, Option, Some, ◌⊎◌, inl, inr, refl, sym}
 use Rattle.request_completion.proofs.Names.{◌∙◌, ap, subst, slice_set, cases_eq, Fate, ◌∈◌, Session, Item, in_front}
-use Rattle.request_completion.proofs.Names.{in_back, Ask, Told, SessionState, SessionEntry, vanish_refusal, Event}
+use Rattle.request_completion.proofs.Names.{in_back, Ask, Told, SessionState, vanish_refusal, Event}
 use Rattle.request_completion.proofs.Names.{Completes, Client, State, client_vanished, Step, stepped, at_client}
 use Rattle.request_completion.proofs.Names.{step_by, with_client, after_asks, vanish_by, vanish_on, step_item, store_of}
 use Rattle.request_completion.proofs.Names.{ClientAt, client_set, ExplainedInvariant, GoesOn, AreGoneSince, IsToAsk}
-use Rattle.request_completion.proofs.Names.{HasVanished, Comes, Made, Failed, Vanished, Left, SessionTransition, Rests}
-use Rattle.request_completion.proofs.Names.{AsksBegin, AsksCommit, Begins, LosesBegin, Writes, Frees, Undoes, Hands}
-use Rattle.request_completion.proofs.Names.{Commits, Refuses, LeavesOpen, Vanishes, IsGone}
+use Rattle.request_completion.proofs.Names.{HasVanished, Comes, Made, Failed, Vanished, Left, SessionTransition}
 use Rattle.history_book.specs.declared.item.Item.TheVariants as item
 use Rattle.system_parts.specs.declared.session.State.TheVariants as phase
 use Rattle.machine.specs.declared.event.Event.TheVariants as event
@@ -18,49 +17,12 @@ use Rattle.request_completion.proofs.SinceKept.{gone_kept}
 use Rattle.request_completion.proofs.TurnsOfOutcomes.{session_turns}
 
 -- ---- whose event it is
-same_step : (r s : ℕ) → event.Step r ≡ event.Step s → r ≡ s
-same_step r s same = cc
-
-same_vanish : (r s : ℕ) → event.Vanish r ≡ event.Vanish s → r ≡ s
-same_vanish r s same = cc
-
 which : (e : Event) (s : ℕ) → (e ≡ event.Step s) ⊎ ((e ≡ event.Vanish s) ⊎ ((e ≡ event.Step s → ⊥) × (e ≡ event.Vanish s → ⊥)))
-which (event.Step r) s = elim (cases_eq r s) [
-  | inl same ↦ inl (ap (λ (q : ℕ). event.Step q) same)
-  | inr other ↦ inr (inr (λ is. other (same_step r s is), λ is. cc))
-]
-which (event.Vanish r) s = elim (cases_eq r s) [
-  | inl same ↦ inr (inl (ap (λ (q : ℕ). event.Vanish q) same))
-  | inr other ↦ inr (inr (λ is. cc, λ is. other (same_vanish r s is)))
-]
-which _ s = inr (inr (λ is. cc, λ is. cc))
+which e s = grind (arith, cases_eq)
 
 -- ---- a session that is gone stays so
-unlike : (state one other : SessionState) → state ≡ one → state ≡ other → (one ≡ other → ⊥) → ⊥
-unlike state one other is same not = not (sym is ∙ same)
-
-waits_not : (state : SessionState) → (state ≡ phase.Committing) ⊎ (state ≡ phase.Placing) → state ≡ phase.Gone → ⊥
-waits_not state (inl committing) gone = unlike state phase.Committing phase.Gone committing gone (λ is. cc)
-waits_not state (inr placing) gone = unlike state phase.Placing phase.Gone placing gone (λ is. cc)
-
 gone_stays : (h : List Item) (s : ℕ) (c d : Client) (items : List Item) → SessionTransition h s c items d → c.entry.state ≡ phase.Gone → d.entry.state ≡ phase.Gone
-gone_stays h s c d items (Rests same none) gone = ap (λ (e : SessionEntry). e.state) same ∙ gone
-gone_stays h s c d items (AsksBegin node free asking is) gone = absurd (unlike c.entry.state phase.Free phase.Gone free gone (λ is. cc))
-gone_stays h s c d items (AsksCommit node start opened committing start_is then is) gone = absurd (unlike c.entry.state phase.Open phase.Gone opened gone (λ is. cc))
-gone_stays h s c d items (Begins asking opened keys asked none) gone = absurd (unlike c.entry.state phase.Asking phase.Gone asking gone (λ is. cc))
-gone_stays h s c d items (LosesBegin asking free asked none) gone = absurd (unlike c.entry.state phase.Asking phase.Gone asking gone (λ is. cc))
-gone_stays h s c d items (Writes start key value opened same start_is is) gone = absurd (unlike c.entry.state phase.Open phase.Gone opened gone (λ is. cc))
-gone_stays h s c d items (Frees (inl opened) free none) gone = absurd (unlike c.entry.state phase.Open phase.Gone opened gone (λ is. cc))
-gone_stays h s c d items (Frees (inr completing) free none) gone = absurd (unlike c.entry.state (phase.Completing completing.0) phase.Gone completing.1 gone (λ is. cc))
-gone_stays h s c d items (Undoes (inl opened) undone none) gone = absurd (unlike c.entry.state phase.Open phase.Gone opened gone (λ is. cc))
-gone_stays h s c d items (Undoes (inr outcome) undone none) gone = absurd (unlike c.entry.state phase.OpenOutcome phase.Gone outcome gone (λ is. cc))
-gone_stays h s c d items (Hands committing placing start none) gone = absurd (unlike c.entry.state phase.Committing phase.Gone committing gone (λ is. cc))
-gone_stays h s c d items (Commits start commit (inl waits) ends same) gone = absurd (waits_not c.entry.state waits.state gone)
-gone_stays h s c d items (Commits start commit (inr outcome) ends same) gone = absurd (unlike c.entry.state phase.OpenOutcome phase.Gone outcome.0 gone (λ is. cc))
-gone_stays h s c d items (Refuses start why waits leaves ends same) gone = absurd (waits_not c.entry.state waits.state gone)
-gone_stays h s c d items (LeavesOpen start waits told none same) gone = absurd (waits_not c.entry.state waits.state gone)
-gone_stays h s c d items (Vanishes now is) gone = now
-gone_stays h s c d items (IsGone was same) gone = ap (λ (x : Client). x.entry.state) same ∙ gone
+gone_stays h s c d items h1 gone = grind arith
 
 pub gone_vanished : (w : State) (h : List Item) (e : Event) (fate : Fate) (s : ℕ) (c : Client) → ExplainedInvariant w h → AreGoneSince w.clients h → ClientAt w.clients s c → c.entry.state ≡ phase.Gone → HasVanished (stepped w e fate).state.clients (h ++ (stepped w e fate).items) s
 gone_vanished w h e fate s c tells are at gone =

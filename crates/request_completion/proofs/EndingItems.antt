@@ -1,12 +1,13 @@
 -- Which items tell a session how its commit ends, and of which outcomes.
-use Rattle.request_completion.proofs.Names.{◌≡◌, ℕ, ◌+◌, Bool, true, false, List, [], ◌∷◌, ◌++◌, inl, inr, refl, sym}
-use Rattle.request_completion.proofs.Names.{subst, All-head, All-tail, Table, ◌∈◌, Cause, Session, Handed, PutFound}
-use Rattle.request_completion.proofs.Names.{Item, granted, Request, Begin, Commit, Settled, session_of, Client, State}
-use Rattle.request_completion.proofs.Names.{loss_heard, loss_items, draw_item, rules_of, take_item, ends_request}
-use Rattle.request_completion.proofs.Names.{not_true, in_append, Silent, AllSilent, none_silent, one_silent, fault_if}
-use Rattle.request_completion.proofs.Names.{answered_item, own_told, Outcome, OfGranted, OfCrashed, OfAskedBegin}
-use Rattle.request_completion.proofs.Names.{OfAskedCommit, OfAccepted, OfEnded, OfDrew, OfAnsweredBegin}
-use Rattle.request_completion.proofs.Names.{OfAnsweredCommit, OfHanded, OfOwnPlaced, OfOwnNotPlaced, OfOutcome}
+use Rattle.std.proofs.Common.{arith}
+use Rattle.request_completion.proofs.Names.{◌≡◌, ℕ, Bool, true, false, List, [], ◌∷◌, ◌++◌, inl, inr, refl, sym}
+use Rattle.request_completion.proofs.Names.{subst, All-head, All-tail, Table, ◌∈◌, Cause, Session, PutFound}
+use Rattle.request_completion.proofs.Names.{Item, Request, Begin, Commit, Settled, session_of, Client, State}
+use Rattle.request_completion.proofs.Names.{loss_heard, loss_items}
+use Rattle.request_completion.proofs.Names.{not_true, in_append, Silent, AllSilent, none_silent, one_silent}
+use Rattle.request_completion.proofs.Names.{answered_item, own_told, Outcome, OfCrashed}
+use Rattle.request_completion.proofs.Names.{OfEnded}
+use Rattle.request_completion.proofs.Names.{OfAnsweredCommit, OfOwnPlaced, OfOwnNotPlaced, OfOutcome}
 use Rattle.request_completion.proofs.Names.{told_by_outcome, fault_if_silent, silent_items, leaves_cells, Owes}
 use Rattle.request_completion.proofs.Names.{ends_commit, EndsCommit, NoneEnds}
 use Rattle.history_book.specs.declared.cause.Cause.TheVariants as cause
@@ -18,14 +19,8 @@ use Rattle.request_completion.proofs.OwingItems.{only_is, refusal_not, leaves_en
 use Rattle.request_completion.proofs.OwingOutcomes.{among}
 
 -- ---- silent items do not
-commit_ends : (why : Cause) → ends_commit why ≡ true → ends_request why ≡ true
-commit_ends (cause.Open start) is = refl
-commit_ends why is = leaves_ends why is
-
 ends_silent : (s : ℕ) (x : Item) → Silent x → EndsCommit s x → ⊥
-ends_silent s (item.Committed session start commit) silent ends = not_true silent
-ends_silent s (item.Refused (Session session) why) silent ends = refusal_not (ends_request why) (commit_ends why ends.1) silent
-ends_silent s _ silent ends = ends
+ends_silent s x silent ends = grind (arith, not_true, refusal_not, leaves_ends)
 
 pub silent_ends : (s : ℕ) (items : List Item) → AllSilent items → NoneEnds s items
 unfolding ◌∈◌
@@ -51,9 +46,6 @@ first_none s y ys not silent x m ends = elim m [
   | inl same ↦ not (subst (λ (z : Item). EndsCommit s z) same ends)
   | inr deeper ↦ silent_ends s ys silent x deeper ends
 ]
-
-pub only_none : (s : ℕ) (y : Item) → (EndsCommit s y → ⊥) → NoneEnds s (y ∷ [])
-only_none s y not = first_none s y [] not none_silent
 
 pub last_is : (s : ℕ) (x : Item) (front : List Item) (last : Item) (items : List Item) → items ≡ front ++ last ∷ [] → AllSilent front → x ∈ items → EndsCommit s x → x ≡ last
 last_is s x front last items is silent m ends = elim (in_append x front (last ∷ []) (among x items (front ++ last ∷ []) is m)) [
@@ -88,10 +80,6 @@ own_silent how.Invalid session start = one_silent (item.Step (Session session) (
 own_silent how.Faulted session start = one_silent (item.Fault (Session session) Table) refl
 
 -- ---- what a crash tells
-draw_none : (s node term stamp : ℕ) (request : Request) → EndsCommit s (draw_item node term request stamp) → ⊥
-draw_none s node term stamp (Begin session) ends = ends
-draw_none s node term stamp (Commit session start keys) ends = ends
-
 pub heard_is : (x : Item) (heard : state.State) (items : List Item) → x ∈ loss_heard heard items → x ∈ items
 unfolding ◌∈◌
 heard_is x phase.Gone items m = absurd m
@@ -116,19 +104,4 @@ is_ending (OfOutcome k) = true
 is_ending _ = false
 
 pub ends_none : (w : State) (o : Outcome w) (s : ℕ) → is_ending o ≡ false → NoneEnds s (told_by_outcome w o)
-ends_none w (OfGranted k) s is x m ends =
-    let told : Item = take_item k.node k.reading (granted (rules_of w.setup) w.master k.reading) in
-    first_none s told (fault_if k.failed k.node) (λ owed. owed) (fault_if_silent k.failed k.node) x (among x k.items (told ∷ fault_if k.failed k.node) k.tells m) ends
-ends_none w (OfAskedBegin k) s is x m ends = only_none s (item.AskBegin k.session k.node) (λ owed. owed) x m ends
-ends_none w (OfAskedCommit k) s is x m ends = only_none s (item.AskCommit k.session k.node k.start) (λ owed. owed) x (among x k.items (item.AskCommit k.session k.node k.start ∷ []) k.tells m) ends
-ends_none w (OfAccepted k) s is x m ends = only_none s (item.Accept k.session k.node k.i.term k.reading) (λ owed. owed) x (among x k.items (item.Accept k.session k.node k.i.term k.reading ∷ []) k.tells m) ends
-ends_none w (OfDrew k) s is x m ends = only_none s (draw_item k.node k.i.term k.held.request (k.i.last + 1)) (λ owed. draw_none s k.node k.i.term (k.i.last + 1) k.held.request owed) x m ends
-ends_none w (OfAnsweredBegin k) s is x m ends = only_none s (item.Begin k.session k.start) (λ owed. owed) x m ends
-ends_none w (OfHanded k) s is x m ends = only_none s (item.Step (Session k.session) (Handed k.start k.commit)) (λ owed. owed) x (among x k.items (item.Step (Session k.session) (Handed k.start k.commit) ∷ []) k.tells m) ends
-ends_none w (OfCrashed k) s is x m ends = absurd (cc)
-ends_none w (OfEnded k) s is x m ends = absurd (cc)
-ends_none w (OfAnsweredCommit k) s is x m ends = absurd (cc)
-ends_none w (OfOwnPlaced k) s is x m ends = absurd (cc)
-ends_none w (OfOwnNotPlaced k) s is x m ends = absurd (cc)
-ends_none w (OfOutcome k) s is x m ends = absurd (cc)
-ends_none w o s is x m ends = silent_ends s (told_by_outcome w o) (silent_items w o refl) x m ends
+ends_none w o s is x m ends = grind (arith, first_none, fault_if_silent, among, none_silent, silent_ends, silent_items)

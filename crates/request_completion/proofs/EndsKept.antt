@@ -1,12 +1,11 @@
 -- What the history shows of sessions whose asks and transactions come to their end: at first, and after every event.
-use Rattle.request_completion.proofs.Names.{◌≡◌, ℕ, zero, suc, List, [], ◌∷◌, ◌++◌, append_assoc, None, Some, sym, ◌∙◌}
-use Rattle.request_completion.proofs.Names.{ap, subst, slice_get, replicate, append-nil, same_Some, none-some}
-use Rattle.request_completion.proofs.Names.{SetupNumbers, AreInRange, Fate, ◌∈◌, Item, SessionState, InstanceEntry}
-use Rattle.request_completion.proofs.Names.{Event, Client, State, client_new, opening, Step, stepped, Move, state_after}
-use Rattle.request_completion.proofs.Names.{items_after, history_after, AreSteady, Steady, InstanceAt, ClientAt}
+use Rattle.std.proofs.Common.{arith}
+use Rattle.request_completion.proofs.Names.{◌≡◌, ℕ, zero, suc, List, [], ◌∷◌, ◌++◌, append_assoc, Some, sym}
+use Rattle.request_completion.proofs.Names.{subst, slice_get, replicate, append-nil, same_Some, none-some}
+use Rattle.request_completion.proofs.Names.{SetupNumbers, AreInRange, Fate, ◌∈◌, Item}
+use Rattle.request_completion.proofs.Names.{Event, State, opening, Step, stepped, Move, state_after}
+use Rattle.request_completion.proofs.Names.{items_after, history_after, AreSteady, Steady}
 use Rattle.request_completion.proofs.Names.{each_outcome, steady_now, steady_stays, ExplainedInvariant, AreClosed, Ends}
-use Rattle.history_book.specs.declared.item.Item.TheVariants as item
-use Rattle.system_parts.specs.declared.session.State.TheVariants as phase
 use Rattle.cause_laws.proofs.AlwaysExplained.{tells_stay, tells_at_first}
 use Rattle.request_completion.specs.Laws.{EndsAtFirst, EventsKeepEnds, ToldWaitsStand, OpenOutcomesWereTold, CommitsAreRemoved, RefusalsAreErased}
 use Rattle.request_completion.proofs.AwaitedNow.{awaited_kept}
@@ -21,12 +20,6 @@ found_copy zero x y p found = absurd (cc)
 found_copy (suc n) x y zero found = sym (same_Some x y found)
 found_copy (suc n) x y (suc p) found = found_copy n x y p found
 
-none_at : (n m : ℕ) (i : InstanceEntry) → InstanceAt (replicate n None) m i → ⊥
-none_at n m i at = none-some i (sym (found_copy n None (Some i) m at))
-
-all_free : (setup : SetupNumbers) (s : ℕ) (c : Client) (state : SessionState) → ClientAt (opening setup).clients s c → (phase.Free ≡ state → ⊥) → c.entry.state ≡ state → ⊥
-all_free setup s c state at not is = not (sym (ap (λ (x : Client). x.entry.state) (found_copy 16 (client_new setup.cache) c s at)) ∙ is)
-
 none_stood : (before behind : List Item) (x : Item) → [] ≡ before ++ x ∷ behind → ⊥
 none_stood [] behind x is = cc
 none_stood (y ∷ before) behind x is = cc
@@ -36,19 +29,7 @@ unfolding ◌∈◌
 none_in x m = m
 
 pub ends_at_first : EndsAtFirst
-ends_at_first setup = record {
-  waits = record { told = λ n s i at. absurd (none_at setup.nodes n i at) };
-  gone = record { vanished = λ s c at gone. absurd (all_free setup s c phase.Gone at (λ is. cc) gone) };
-  outcomes = record { told = λ s c at outcome. absurd (all_free setup s c phase.OpenOutcome at (λ is. cc) outcome) };
-  awaited = record { each = λ s c at waits. absurd (all_free setup s c phase.Committing at (λ is. cc) waits) };
-  closed = record {
-    begun = λ s n start m. absurd (none_in (item.AskCommit s n start) m);
-    closed = λ s n start m. absurd (none_in (item.AskCommit s n start) m);
-    keys = λ before behind s n start is. absurd (none_stood before behind (item.AskCommit s n start) is);
-  };
-  removed = record { each = λ before behind s start commit is. absurd (none_stood before behind (item.Committed s start commit) is) };
-  erased = record { each = λ before behind s n start key why is. absurd (none_stood before behind _ is) };
-}
+ends_at_first setup = grind (arith, none-some, found_copy, none_in, none_stood)
 
 -- ---- one event
 closed_kept : (w : State) (h : List Item) (e : Event) (fate : Fate) → ExplainedInvariant w h → AreClosed w.clients h → AreClosed (stepped w e fate).state.clients (h ++ (stepped w e fate).items)

@@ -1,9 +1,10 @@
 -- A step of a session whose completion is under way asks a store, and is not refused as idle.
-use Rattle.request_completion.proofs.Names.{◌≡◌, ℕ, Bool, true, false, List, [], ◌∷◌, Option, None, Some, inl, inr}
-use Rattle.request_completion.proofs.Names.{refl, sym, ◌∙◌, ap, subst, append-nil, Mark, Fate, Works, FailsUnchanged}
-use Rattle.request_completion.proofs.Names.{FailsApplied, ◌∈◌, Cause, Actor, Session, Item, Row, Pairs, Ask, Told}
+use Rattle.std.proofs.Common.{arith}
+use Rattle.request_completion.proofs.Names.{◌≡◌, ℕ, Bool, true, false, List, [], ◌∷◌, Option, None, Some}
+use Rattle.request_completion.proofs.Names.{refl, sym, ◌∙◌, ap, subst, append-nil, Fate}
+use Rattle.request_completion.proofs.Names.{◌∈◌, Cause, Actor, Session, Item, Row, Pairs, Ask, Told}
 use Rattle.request_completion.proofs.Names.{SessionState, step_refusal, handed_by, handed_commit, UnderWay, Completes}
-use Rattle.request_completion.proofs.Names.{Client, State, Met, met, entry_of, mark_item, step_item, mark_kept}
+use Rattle.request_completion.proofs.Names.{Client, State, Met, met, mark_kept}
 use Rattle.request_completion.proofs.Names.{items_met, store_of, told_by, Effect, Step, stepped, at_client, step_by}
 use Rattle.request_completion.proofs.Names.{with_client, is_reading, StepParts, complete_by, work_by, work_of, step_at}
 use Rattle.request_completion.proofs.Names.{step_due, step_refused, step_on, ClientAt, ReachedInvariant, in_back}
@@ -17,19 +18,6 @@ use Rattle.machine.specs.declared.event.Event.TheVariants as event
 use Rattle.request_completion.proofs.OwingItems.{only_is}
 
 -- ---- a step on a store tells no refusal
-mark_not : (who : Actor) (why : Cause) (actor : Actor) (txn : ℕ) (found : Option Mark) → item.Refused who why ≡ mark_item actor txn found → ⊥
-mark_not who why actor txn None is = cc
-mark_not who why actor txn (Some found) is = cc
-
-step_not : (who : Actor) (why : Cause) (actor : Actor) (asked : Ask) (answer : Told) → item.Refused who why ≡ step_item actor asked answer → ⊥
-step_not who why actor (ask.Get txn) answer is = cc
-step_not who why actor (ask.Mark txn) answer is = mark_not who why actor txn (entry_of answer) is
-step_not who why actor (ask.Look key txn) answer is = cc
-step_not who why actor (ask.Shadow key txn commit) answer is = cc
-step_not who why actor (ask.Remove txn) answer is = cc
-step_not who why actor (ask.Erase key txn) answer is = cc
-step_not who why actor (ask.Keys txn) answer is = cc
-
 one_not : (who : Actor) (why : Cause) (y : Item) → (item.Refused who why ≡ y → ⊥) → item.Refused who why ∈ (y ∷ []) → ⊥
 one_not who why y not m = not (only_is (item.Refused who why) y m)
 
@@ -42,12 +30,7 @@ kept_not who why actor (ask.Mark txn) told.Marked m = one_not who why (item.Mark
 kept_not who why actor _ _ m = m
 
 met_not : (who : Actor) (why : Cause) (actor : Actor) (asked : Ask) (answer : Told) (fate : Fate) → item.Refused who why ∈ items_met actor asked answer fate → ⊥
-met_not who why actor asked answer Works m = one_not who why (step_item actor asked answer) (λ is. step_not who why actor asked answer is) m
-met_not who why actor asked answer FailsApplied m = elim (in_append (item.Refused who why) (mark_kept actor asked answer) (item.Fault actor (store_of asked) ∷ []) m) [
-  | inl kept ↦ kept_not who why actor asked answer kept
-  | inr fault ↦ fault_not who why actor asked fault
-]
-met_not who why actor asked answer FailsUnchanged m = fault_not who why actor asked m
+met_not who why actor asked answer fate m = grind (arith, one_not, in_append, kept_not, fault_not)
 
 -- ---- the step of a completion
 complete_items : (c : Client) (asked : Ask) (asks : List Ask) (m : Met) (answer : Option Told) → (complete_by c asked asks m answer).items ≡ m.items
@@ -86,17 +69,9 @@ idle_steps_complete_nothing w h s fate c undo stands at m completing =
     completes_not (Session s) cause.Idle s fate c w.rows w.pairs busy.0 (subst (λ (items : List Item). item.Refused (Session s) cause.Idle ∈ items) (step_items w s fate c undo busy.0 at completing busy.1) m)
 
 -- ---- what it tells
-tells_met : (s : ℕ) (asked : Ask) (asks : List Ask) (answer : Told) (fate : Fate) → TellsFirst s (asked ∷ asks) (items_met (Session s) asked answer fate)
-unfolding ◌∈◌
-tells_met s asked asks answer Works = inl (answer, refl)
-tells_met s asked asks answer FailsApplied = inr (in_back (item.Fault (Session s) (store_of asked)) (mark_kept (Session s) asked answer) (item.Fault (Session s) (store_of asked) ∷ []) (inl refl))
-tells_met s asked asks answer FailsUnchanged = inr (inl refl)
-
 tells_at : (s : ℕ) (fate : Fate) (c : Client) (rows : List Row) (pairs : Pairs) (asks : List Ask) → TellsFirst s asks (step_at s fate c rows pairs (Completes asks)).items
-tells_at s fate c rows pairs [] = refl
-tells_at s fate c rows pairs (asked ∷ asks) =
-    let it : Met = met (Session s) asked fate rows pairs in
-    subst (λ (items : List Item). TellsFirst s (asked ∷ asks) items) (sym (complete_items c asked asks it it.told)) (tells_met s asked asks (told_by asked rows pairs) fate)
+unfolding ◌∈◌
+tells_at s fate c rows pairs asks = grind (arith, complete_items, in_back)
 
 pub completion_steps_tell : CompletionStepsTell
 completion_steps_tell w h s fate c undo stands at completing =

@@ -1,10 +1,11 @@
 -- A client whose completion is under way is moved by its own steps alone, or vanishes.
-use Rattle.request_completion.proofs.Names.{◌≡◌, ℕ, Bool, List, Option, None, Some, inl, inr, refl, sym, ◌∙◌, ap, subst}
+use Rattle.std.proofs.Common.{arith}
+use Rattle.request_completion.proofs.Names.{◌≡◌, ℕ, Bool, List, Option, None, Some, inl, inr, sym, ◌∙◌, ap, subst}
 use Rattle.request_completion.proofs.Names.{slice_get, option_or, SetupNumbers, Fate, Item, Row, Pairs, SessionState}
 use Rattle.request_completion.proofs.Names.{begin_refusal, work_refusal, key_refusal, Held, Request, Begin, Commit}
-use Rattle.request_completion.proofs.Names.{InstanceEntry, held_of, stamps_of_held, Client, State, is_reading}
-use Rattle.request_completion.proofs.Names.{ask_begin_by, ask_begin_on, ask_commit_by, ask_commit_on, accept_request}
-use Rattle.request_completion.proofs.Names.{accept_on, decide_request, decide_on, answer_request, answer_on, write_open}
+use Rattle.request_completion.proofs.Names.{InstanceEntry, held_of, Client, State, is_reading}
+use Rattle.request_completion.proofs.Names.{ask_begin_by, ask_begin_on, ask_commit_by, ask_commit_on}
+use Rattle.request_completion.proofs.Names.{accept_on, decide_on, answer_on, write_open}
 use Rattle.request_completion.proofs.Names.{write_on, reads_refusal, fetch_open, fetch_on, offer_by, offer_of, heal_at}
 use Rattle.request_completion.proofs.Names.{heal_on, abort_by, abort_on, InstanceAt, ClientAt, WaitsFor}
 use Rattle.request_completion.proofs.Names.{ReachedInvariant, one_client, held_by}
@@ -60,21 +61,11 @@ pub commit_keeps : (r n : ℕ) (c : Client) (post : Option InstanceEntry) (undo 
 commit_keeps r n c post undo completes = ap (λ (state : SessionState). (ask_commit_by r n c post (work_refusal state (is_reading c)) c.entry.start).parts.0) completes
 
 -- ---- and no node serves it
-none_by : (i : InstanceEntry) (s : ℕ) (found : Option Held) → held_of i s ≡ found → ((held : Held) → held_of i s ≡ Some held → ⊥) → held_of i s ≡ None
-none_by i s None is not = is
-none_by i s (Some held) is not = absurd (not held is)
-
-holds_none : (nodes : List (Option InstanceEntry)) (clients : List Client) (s r n : ℕ) (c : Client) (i : InstanceEntry) → Completing nodes clients s c → InstanceAt nodes n i → s ≡ r → held_of i r ≡ None
-holds_none nodes clients s r n c i k here same = subst (λ (q : ℕ). held_of i q ≡ None) same (none_by i s (held_of i s) refl (λ held has. k.unheld n i held here has))
-
 pub accept_keeps : (nodes : List (Option InstanceEntry)) (clients : List Client) (s r n reading : ℕ) (c : Client) (post : Option InstanceEntry) → Completing nodes clients s c → slice_get nodes n ≡ Some post → s ≡ r → (accept_on n r reading post c).parts.1 ≡ c
-accept_keeps nodes clients s r n reading c None k here same = refl
-accept_keeps nodes clients s r n reading c (Some i) k here same = ap (λ (held : Option Held). (accept_request n r reading i c held).parts.1) (holds_none nodes clients s r n c i k here same)
+accept_keeps nodes clients s r n reading c post k here same = grind arith
 
 pub decide_keeps : (nodes : List (Option InstanceEntry)) (clients : List Client) (s r n : ℕ) (c : Client) (post : Option InstanceEntry) → Completing nodes clients s c → slice_get nodes n ≡ Some post → s ≡ r → (decide_on n r post c).parts.1 ≡ c
-decide_keeps nodes clients s r n c None k here same = refl
-decide_keeps nodes clients s r n c (Some i) k here same = ap (λ (held : Option Held). (decide_request n r i c held).parts.1) (holds_none nodes clients s r n c i k here same)
+decide_keeps nodes clients s r n c post k here same = grind arith
 
 pub answer_keeps : (nodes : List (Option InstanceEntry)) (clients : List Client) (s r n : ℕ) (c : Client) (post : Option InstanceEntry) → Completing nodes clients s c → slice_get nodes n ≡ Some post → s ≡ r → (answer_on n r post c).parts.1 ≡ c
-answer_keeps nodes clients s r n c None k here same = refl
-answer_keeps nodes clients s r n c (Some i) k here same = ap (λ (held : Option Held). (answer_request n r i c (stamps_of_held held)).parts.1) (holds_none nodes clients s r n c i k here same)
+answer_keeps nodes clients s r n c post k here same = grind arith

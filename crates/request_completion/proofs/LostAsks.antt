@@ -1,13 +1,14 @@
 -- A node that is refused for want of an instance has none, so that no ask is open there.
-use Rattle.request_completion.proofs.Names.{◌≡◌, ℕ, Bool, true, if◌then◌else◌, List, [], ◌∷◌, Option, None, Some, inl}
-use Rattle.request_completion.proofs.Names.{inr, refl, sym, ◌∙◌, ap, take, slice_get, option_or, eq-eqb, none-some}
+use Rattle.std.proofs.Common.{arith}
+use Rattle.request_completion.proofs.Names.{◌≡◌, ℕ, Bool, if◌then◌else◌, List, [], ◌∷◌, Option, None, Some, inl}
+use Rattle.request_completion.proofs.Names.{inr, take, slice_get, option_or, eq-eqb, none-some}
 use Rattle.request_completion.proofs.Names.{SetupNumbers, Actor, Clock, Node, Session, Janitor, Item, Request, Begin}
 use Rattle.request_completion.proofs.Names.{Commit, State, stepped, Due, DueNow, cause_of_loss, dues, place_of}
 use Rattle.request_completion.proofs.Names.{LostAsksAreOver}
 use Rattle.history_book.specs.declared.cause.Cause.TheVariants as cause
 use Rattle.history_book.specs.declared.item.Item.TheVariants as item
 use Rattle.cause_rules.specs.Explained.{ShownCause}
-use Rattle.cause_rules.specs.Posts.{Taken, last_take, since_take, HasNone}
+use Rattle.cause_rules.specs.Posts.{Taken}
 
 -- ---- no cause is shown by everything: a node that has taken the record has an instance
 abbrev took : ℕ → List Item
@@ -25,22 +26,8 @@ taken_by own = option_or (taken_if own) None
 abbrev left_by : ℕ → Bool → List Item
 left_by n own = if own then [] else took n
 
-cons_not : (x : Item) (xs : List Item) → [] ≡ x ∷ xs → ⊥
-cons_not x xs is = cc
-
-none_not : (n : ℕ) → HasNone (took n) n → ⊥
-none_not n (inl none) =
-    let last : last_take (took n) n ≡ taken_by true = ap taken_by (eq-eqb n n refl) in
-    none-some first_taken (sym none ∙ last)
-none_not n (inr fault) =
-    let left : since_take (took n) n ≡ left_by n true = ap (left_by n) (eq-eqb n n refl) in
-    cons_not (item.Fault (Node n) fault.0) fault.1 (sym left ∙ fault.2)
-
 shown_not : (setup : SetupNumbers) (actor : Actor) (n : ℕ) → ShownCause setup (took n) actor (cause.NoOracle n) → ⊥
-shown_not setup (Session s) n shown = none_not n shown
-shown_not setup (Node m) n shown = none_not n shown.1
-shown_not setup Janitor n shown = none_not n shown
-shown_not setup Clock n shown = shown
+shown_not setup actor n shown = grind (arith, eq-eqb, none-some)
 
 loss_not : (n node term : ℕ) (request : Request) → cause.NoOracle n ≡ cause_of_loss node term request → ⊥
 loss_not n node term (Begin session) is = cc

@@ -1,17 +1,14 @@
 -- How many asks are open after items among which none asks.
-use Rattle.request_completion.proofs.Names.{◌≡◌, ℕ, suc, Bool, true, false, if◌then◌else◌, List, [], ◌∷◌, inl, inr}
+use Rattle.std.proofs.Common.{arith}
+use Rattle.request_completion.proofs.Names.{◌≡◌, ℕ, suc, Bool, true, if◌then◌else◌, List, [], ◌∷◌, inl, inr}
 use Rattle.request_completion.proofs.Names.{refl, sym, ◌∙◌, ap, fold, All-head, All-tail, ◌∈◌, Item, closes, open_then}
 use Rattle.request_completion.proofs.Names.{open_asks_of}
 use Rattle.std.proofs.lemmas.List.Sums.{fold-append}
 use Rattle.request_completion.specs.Overs.{NoAsk, NoneAsks, OverStaysOver, ClosedAsksAreOver}
 
 -- ---- one item
-either_way : (b : Bool) (count : ℕ) → (if b then count else count) ≡ count
-either_way true count = refl
-either_way false count = refl
-
 none_then : (n s : ℕ) (x : Item) → NoAsk n s x → open_then n s 0 x ≡ 0
-none_then n s x none = ap (λ (b : Bool). if b then suc 0 else if closes n s x then 0 else 0) none ∙ either_way (closes n s x) 0
+none_then n s x none = grind arith
 
 closed_then : (n s count : ℕ) (x : Item) → NoAsk n s x → closes n s x ≡ true → open_then n s count x ≡ 0
 closed_then n s count x none over =

@@ -1,7 +1,8 @@
 -- Which items leave something to be done: none that is silent, and none that tells of a loss.
+use Rattle.std.proofs.Common.{arith}
 use Rattle.request_completion.proofs.Names.{◌≡◌, ℕ, Bool, true, false, if◌then◌else◌, List, [], ◌∷◌, Option, None, Some}
-use Rattle.request_completion.proofs.Names.{inl, inr, refl, sym, ◌∙◌, subst, All-head, All-tail, Table, ◌∈◌, Cause}
-use Rattle.request_completion.proofs.Names.{Session, PutFound, Item, Held, Request, Begin, Commit, Settled, Client}
+use Rattle.request_completion.proofs.Names.{inl, inr, refl, sym, ◌∙◌, subst, All-head, All-tail, ◌∈◌, Cause}
+use Rattle.request_completion.proofs.Names.{Session, Item, Held, Request, Begin, Commit, Settled, Client}
 use Rattle.request_completion.proofs.Names.{loss_heard, loss_items, crashed_items, all_crashed_items, draw_item}
 use Rattle.request_completion.proofs.Names.{ends_request, not_true, in_append, Silent, AllSilent, none_silent}
 use Rattle.request_completion.proofs.Names.{answered_item, own_told, leaves_cells, Owes}
@@ -94,14 +95,6 @@ answered_start x how.Invalid session start commit s t c is told = let clash : it
 answered_start x how.Faulted session start commit s t c is told = let clash : item.Refused (Session session) (cause.Open start) ≡ item.Committed s t c = sym is ∙ told in absurd (cc)
 
 -- what the session finds by itself
-last_owes : (s : ℕ) (x first : Item) (by : Settled) (session start commit : ℕ) → Silent first → x ∈ (first ∷ answered_item by session start commit ∷ []) → Owes s x → session ≡ s
-unfolding ◌∈◌
-last_owes s x first by session start commit silent m owes = elim m [
-  | inl same ↦ absurd (silent_not s first silent (subst (λ (z : Item). Owes s z) same owes))
-  | inr last ↦ answered_owes s by session start commit (subst (λ (z : Item). Owes s z) (only_is x (answered_item by session start commit) last) owes)
-]
-
 pub own_owes : (s : ℕ) (x : Item) (by : Settled) (session start commit : ℕ) → x ∈ own_told by session start commit → Owes s x → session ≡ s
-own_owes s x how.Placed session start commit m owes = answered_owes s how.Placed session start commit (subst (λ (z : Item). Owes s z) (only_is x (answered_item how.Placed session start commit) m) owes)
-own_owes s x how.Invalid session start commit m owes = last_owes s x (item.Step (Session session) (PutFound start)) how.Invalid session start commit refl m owes
-own_owes s x how.Faulted session start commit m owes = last_owes s x (item.Fault (Session session) Table) how.Faulted session start commit refl m owes
+unfolding ◌∈◌
+own_owes s x by session start commit m owes = grind (arith, answered_owes, only_is, silent_not)

@@ -1,7 +1,8 @@
 -- What each outcome makes of a session, and what it tells it.
+use Rattle.std.proofs.Common.{arith}
 use Rattle.request_completion.proofs.Names.{◌≡◌, ℕ, Bool, true, false, List, [], ◌∷◌, ◌++◌, Some, ◌⊎◌, inl, inr, refl}
 use Rattle.request_completion.proofs.Names.{sym, ◌∙◌, ap, subst, slice_set, ◌∈◌, Session, DeadEnd, Item, in_last, Ask}
-use Rattle.request_completion.proofs.Names.{SessionState, SessionEntry, aborted_by, Settling, SettleTurn, Goes, Decides}
+use Rattle.request_completion.proofs.Names.{SessionState, Settling, SettleTurn, Goes, Decides}
 use Rattle.request_completion.proofs.Names.{Held, Request, Begin, Commit, Settled, InstanceEntry, held_of, Client}
 use Rattle.request_completion.proofs.Names.{State, client_aborted, unless_gone, unless_gone_by, client_settled}
 use Rattle.request_completion.proofs.Names.{settle_items, after_asks, InstanceAt, ClientAt, IsolationInvariant}
@@ -58,12 +59,8 @@ committing_of w h n s asker start keys i held c tells at has client_at is alive 
     record { state = inl waits.0; start_is = waits.1; asked = asked_of w h n s i held (Commit asker start keys) tells at has is }
 
 -- ---- how a commit ends
-aborted_undone_by : (e : SessionEntry) (keys : List ℕ) → IsUndone e (aborted_by e keys)
-aborted_undone_by e [] = inr refl
-aborted_undone_by e (key ∷ keys) = inl (refl, refl)
-
 pub aborted_undone : (c : Client) → IsUndone c.entry (client_aborted c).entry
-aborted_undone c = aborted_undone_by c.entry c.entry.keys
+aborted_undone c = grind arith
 
 open_owes_none : (s start : ℕ) → Owes s (item.Refused (Session s) (cause.Open start)) → ⊥
 open_owes_none s start owes = let clash : false ≡ true = owes.1 in cc

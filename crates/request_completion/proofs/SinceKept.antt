@@ -1,11 +1,11 @@
 -- Every event keeps what the history shows since a session's last ask.
-use Rattle.request_completion.proofs.Names.{◌≡◌, ℕ, true, false, List, [], ◌∷◌, ◌++◌, Some, ◌⊎◌, inl, inr, refl, sym}
-use Rattle.request_completion.proofs.Names.{◌∙◌, ap, subst, Fate, ◌∈◌, Session, Item, in_last, SessionState}
+use Rattle.std.proofs.Common.{arith}
+use Rattle.request_completion.proofs.Names.{◌≡◌, ℕ, true, List, [], ◌∷◌, ◌++◌, Some, ◌⊎◌, inl, inr, refl, sym}
+use Rattle.request_completion.proofs.Names.{◌∙◌, subst, Fate, ◌∈◌, Session, Item, in_last, SessionState}
 use Rattle.request_completion.proofs.Names.{SessionEntry, Held, Request, Begin, Commit, InstanceEntry, held_of, Event}
 use Rattle.request_completion.proofs.Names.{Client, State, stepped, since_ask, InstanceAt, ClientAt, WaitsFor, held_by}
-use Rattle.request_completion.proofs.Names.{ExplainedInvariant, IsCommitting, IsUndone, SessionTransition, Rests}
-use Rattle.request_completion.proofs.Names.{AsksBegin, AsksCommit, Begins, LosesBegin, Writes, Frees, Undoes, Hands}
-use Rattle.request_completion.proofs.Names.{Commits, Refuses, LeavesOpen, Vanishes, IsGone, WasToldToWait, AreToldWaits}
+use Rattle.request_completion.proofs.Names.{ExplainedInvariant, IsCommitting, IsUndone, SessionTransition}
+use Rattle.request_completion.proofs.Names.{WasToldToWait, AreToldWaits}
 use Rattle.request_completion.proofs.Names.{AreGoneSince, WasToldOpen, AreToldOpen}
 use Rattle.history_book.specs.declared.cause.Cause.TheVariants as cause
 use Rattle.history_book.specs.declared.item.Item.TheVariants as item
@@ -57,24 +57,8 @@ pub undone_not : (old new : SessionEntry) (state : SessionState) → IsUndone ol
 undone_not old new state (inl completing) one two is = one (sym completing.0 ∙ is)
 undone_not old new state (inr free) one two is = two (sym free ∙ is)
 
-state_is : (c d : Client) → d ≡ c → d.entry.state ≡ c.entry.state
-state_is c d same = ap (λ (x : Client). x.entry.state) same
-
 gone_by : (h : List Item) (s : ℕ) (c d : Client) (items : List Item) → SessionTransition h s c items d → d.entry.state ≡ phase.Gone → (c.entry.state ≡ phase.Gone) ⊎ (items ≡ item.Vanish s ∷ [])
-gone_by h s c d items (Rests same none) gone = inl (ap (λ (e : SessionEntry). e.state) (sym same) ∙ gone)
-gone_by h s c d items (AsksBegin node free asking is) gone = let clash : phase.Asking ≡ phase.Gone = sym asking ∙ gone in absurd (cc)
-gone_by h s c d items (AsksCommit node start opened committing start_is then is) gone = let clash : phase.Committing ≡ phase.Gone = sym committing ∙ gone in absurd (cc)
-gone_by h s c d items (Begins asking opened keys asked none) gone = let clash : phase.Open ≡ phase.Gone = sym opened ∙ gone in absurd (cc)
-gone_by h s c d items (LosesBegin asking free asked none) gone = let clash : phase.Free ≡ phase.Gone = sym free ∙ gone in absurd (cc)
-gone_by h s c d items (Writes start key value opened same start_is is) gone = let clash : phase.Open ≡ phase.Gone = sym opened ∙ (ap (λ (e : SessionEntry). e.state) (sym same) ∙ gone) in absurd (cc)
-gone_by h s c d items (Frees may free none) gone = let clash : phase.Free ≡ phase.Gone = sym free ∙ gone in absurd (cc)
-gone_by h s c d items (Undoes was undone none) gone = absurd (undone_not c.entry d.entry phase.Gone undone (λ same. cc) (λ same. cc) gone)
-gone_by h s c d items (Hands committing placing start none) gone = let clash : phase.Placing ≡ phase.Gone = sym placing ∙ gone in absurd (cc)
-gone_by h s c d items (Commits start commit may ends same) gone = let clash : phase.Completing false ≡ phase.Gone = sym (state_is _ d same) ∙ gone in absurd (cc)
-gone_by h s c d items (Refuses start why waits leaves ends same) gone = absurd (undone_not c.entry d.entry phase.Gone (subst (λ (x : Client). IsUndone c.entry x.entry) (sym same) (aborted_undone c)) (λ same. cc) (λ same. cc) gone)
-gone_by h s c d items (LeavesOpen start waits told none same) gone = let clash : phase.OpenOutcome ≡ phase.Gone = sym (state_is _ d same) ∙ gone in absurd (cc)
-gone_by h s c d items (Vanishes gone_now is) gone = inr is
-gone_by h s c d items (IsGone was same) gone = inl was
+gone_by h s c d items h1 gone = grind (arith, undone_not, aborted_undone)
 
 gone_asks_none : (w : State) (h : List Item) (e : Event) (fate : Fate) (s : ℕ) (c : Client) → ExplainedInvariant w h → ClientAt w.clients s c → c.entry.state ≡ phase.Gone → NoneAsked s (stepped w e fate).items
 gone_asks_none w h e fate s c tells at gone = none_asks w h e fate s c tells.stands at (λ is. let clash : phase.Gone ≡ phase.Free = sym gone ∙ is in cc) (λ is. let clash : phase.Gone ≡ phase.Open = sym gone ∙ is in cc)
@@ -91,20 +75,7 @@ gone_kept w h e fate tells are = record {
 
 -- ---- whose outcome is open
 open_by : (h : List Item) (s : ℕ) (c d : Client) (items : List Item) → SessionTransition h s c items d → d.entry.state ≡ phase.OpenOutcome → ((c.entry.state ≡ phase.OpenOutcome) × (d.entry.start ≡ c.entry.start)) ⊎ ((start : ℕ) × IsCommitting h s start c × (item.Refused (Session s) (cause.Open start) ∈ items) × (d.entry.start ≡ c.entry.start))
-open_by h s c d items (Rests same none) is_open = inl (ap (λ (e : SessionEntry). e.state) (sym same) ∙ is_open, ap (λ (e : SessionEntry). e.start) same)
-open_by h s c d items (AsksBegin node free asking is) is_open = let clash : phase.Asking ≡ phase.OpenOutcome = sym asking ∙ is_open in absurd (cc)
-open_by h s c d items (AsksCommit node start opened committing start_is then is) is_open = let clash : phase.Committing ≡ phase.OpenOutcome = sym committing ∙ is_open in absurd (cc)
-open_by h s c d items (Begins asking opened keys asked none) is_open = let clash : phase.Open ≡ phase.OpenOutcome = sym opened ∙ is_open in absurd (cc)
-open_by h s c d items (LosesBegin asking free asked none) is_open = let clash : phase.Free ≡ phase.OpenOutcome = sym free ∙ is_open in absurd (cc)
-open_by h s c d items (Writes start key value opened same start_is is) is_open = let clash : phase.Open ≡ phase.OpenOutcome = sym opened ∙ (ap (λ (e : SessionEntry). e.state) (sym same) ∙ is_open) in absurd (cc)
-open_by h s c d items (Frees may free none) is_open = let clash : phase.Free ≡ phase.OpenOutcome = sym free ∙ is_open in absurd (cc)
-open_by h s c d items (Undoes was undone none) is_open = absurd (undone_not c.entry d.entry phase.OpenOutcome undone (λ same. cc) (λ same. cc) is_open)
-open_by h s c d items (Hands committing placing start none) is_open = let clash : phase.Placing ≡ phase.OpenOutcome = sym placing ∙ is_open in absurd (cc)
-open_by h s c d items (Commits start commit may ends same) is_open = let clash : phase.Completing false ≡ phase.OpenOutcome = sym (state_is _ d same) ∙ is_open in absurd (cc)
-open_by h s c d items (Refuses start why waits leaves ends same) is_open = absurd (undone_not c.entry d.entry phase.OpenOutcome (subst (λ (x : Client). IsUndone c.entry x.entry) (sym same) (aborted_undone c)) (λ same. cc) (λ same. cc) is_open)
-open_by h s c d items (LeavesOpen start waits told none same) is_open = inr (start, waits, told, ap (λ (x : Client). x.entry.start) same)
-open_by h s c d items (Vanishes gone is) is_open = let clash : phase.Gone ≡ phase.OpenOutcome = sym gone ∙ is_open in absurd (cc)
-open_by h s c d items (IsGone was same) is_open = let clash : phase.Gone ≡ phase.OpenOutcome = sym was ∙ (sym (state_is c d same) ∙ is_open) in absurd (cc)
+open_by h s c d items h1 is_open = grind (arith, undone_not, aborted_undone)
 
 open_asks_none : (w : State) (h : List Item) (e : Event) (fate : Fate) (s : ℕ) (c : Client) → ExplainedInvariant w h → ClientAt w.clients s c → c.entry.state ≡ phase.OpenOutcome → NoneAsked s (stepped w e fate).items
 open_asks_none w h e fate s c tells at is_open = none_asks w h e fate s c tells.stands at (λ is. let clash : phase.OpenOutcome ≡ phase.Free = sym is_open ∙ is in cc) (λ is. let clash : phase.OpenOutcome ≡ phase.Open = sym is_open ∙ is in cc)
