@@ -60,7 +60,7 @@ fn ask() -> ActorStep {
 
 impl<L: Ledger> Flood<L> {
     // The stage has its first ticket in hand before the second is sent.
-    fn flood<R: Wait>(&self, rt: &R, mine: &mut ActorShare<L>) -> ActorStep
+    fn fill<R: Wait>(&self, rt: &R, mine: &mut ActorShare<L>) -> ActorStep
         ensures { GoesOn mine.old mine.new }
     {
         let step = self.first_steps.fetch_add(1, Ordering::SeqCst);
@@ -99,7 +99,7 @@ impl<L: Ledger> Flood<L> {
 impl<L: Ledger> ActorSteps<L> for Flood<L> {
     fn actor_step<R: Wait>(&self, rt: &R, mine: &mut ActorShare<L>) -> ActorStep {
         if mine.actor() == session() {
-            return self.flood(rt, mine);
+            return self.fill(rt, mine);
         }
         self.ask_once(rt, mine)
     }
@@ -173,7 +173,7 @@ fn flooded<L: Ledger + Send + Sync, R: Threads + Wait + Sync>(
     Ok((done, board.served.load(Ordering::SeqCst)))
 }
 
-fn flood<R: Threads + Wait + Sync>(
+fn played<R: Threads + Wait + Sync>(
     rt: &R,
     alloc: Global,
 ) -> Result<(Option<(u64, u64)>, u64), NoMemory> {
@@ -183,6 +183,6 @@ fn flood<R: Threads + Wait + Sync>(
 // A ticket that is not offered again, or for which no room is asked, would let its session wait for ever.
 #[test]
 fn a_ticket_without_room_is_sent_later(rt: HostRuntime) -> Result<(), Fail> {
-    assert_eq!(rt; flood(&rt, rt.alloc())?, (Some((1, 1)), FLOOD + 1));
+    assert_eq!(rt; played(&rt, rt.alloc())?, (Some((1, 1)), FLOOD + 1));
     Ok(())
 }
